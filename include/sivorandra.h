@@ -5,21 +5,21 @@
 
    What a call costs:
    - Memory: none from the heap. Of the stack less than SIVORANDRA_STACK_BYTES (measured: sentence 16,200 bytes, replay 15,800,
-     take 15,600, begin 14,600, plan 13,500, conflict 13,400, start 12,700, advance 12,300, withdraw and withdraw_all 11,100, slack 10,800, judge 9,800,
+     check_row 15,600, check_begin 14,600, plan 13,500, conflict 13,400, start 12,700, advance 12,300, withdraw and withdraw_all 11,100, slack 10,800, judge 9,800,
      response_times 6,600, judge_ticks 5,800, row 5,400, sets 5,300, facts 700).
    - Threads: the library has no state and no data that is written to, so any number of threads may call at once, each with slices of its own
      to be written to; slices that are only read may be shared. Of the C library it calls memcpy and memset alone.
-   - Time: row, sets, advance, the withdrawals and take take some microseconds at most, bounded by the 32 tasks and 64 cores. judge simulates event by
+   - Time: row, sets, advance, the withdrawals and check_row take some microseconds at most, bounded by the 32 tasks and 64 cores. judge simulates event by
      event (a release, an end or a deadline), or tick by tick where the periods are short: 10 to 100 ns each on x86-64, by the number of tasks that
      change. There are at most as many events as ticks up to the horizon or the first miss. A horizon of 10,000,000 takes a second at most; the
      largest, 1,000,000,000, milliseconds where the periods are long, and two minutes where all 32 tasks change in every tick. No call can be
      stopped from outside: where that is too long, judge in a process of its own. judge_ticks simulates every tick; start takes as long as judge,
      sentence about three times as long; plan judges up to b, and simulates every tick up to b; replay takes a start, and an advance or a withdrawal
      for each entry; facts reads its bytes once; conflict judges the table and sub-tables of it, 529 times at most;
-     slack judges the table, and at most 20 times for each task the table with it longer; begin judges nothing.
+     slack judges the table, and at most 20 times for each task the table with it longer; check_begin judges nothing.
 
    A run in words, and a plan in words, belong to the version that wrote them: the words may change with the version. Keep SIVORANDRA_VERSION beside
-   what is stored, and start or begin again where it differs; 14 detects words that are no run, not a run of another version. */
+   what is stored, and start or check_begin again where it differs; 14 detects words that are no run, not a run of another version. */
 #ifndef SIVORANDRA_H
 #define SIVORANDRA_H
 
@@ -43,7 +43,7 @@ extern "C" {
 
 /* What every call but sivorandra_version returns: the call is answered, or a lent slice is too short and everything is as found, also
    where the words of a replay's `entries` are no entries. Short `rows` of a plan are 11 instead, and too few words for a run lent to row,
-   sets, advance or a withdrawal, or for a plan lent to take, are no run: 14. */
+   sets, advance or a withdrawal, or for a plan lent to check_row, are no run: 14. */
 #define SIVORANDRA_ANSWERED 0u
 #define SIVORANDRA_SHORT 1u
 
@@ -60,7 +60,7 @@ extern "C" {
 #define SIVORANDRA_NO_SENTENCE 5u /* from sivorandra_facts: 0 and 0 */
 #define SIVORANDRA_ACCEPTED 6u    /* from sivorandra_check_row: the row is taken as the last, and the whole plan is accepted: 0 and 0 */
 
-/* The number of a refusal: the first that applies, where 19 comes between 3 and 4, and 20 between 15 and 16; take's order is 14, 9,
+/* The number of a refusal: the first that applies, where 19 comes between 3 and 4, and 20 between 15 and 16; check_row's order is 14, 9,
    10, 11, 25, 24 and, after the last row, 25 and 26. The position is 0 but with 7, 8 and 15; 24 to 26 come with a tick instead. Later versions may
    have more numbers. */
 enum sivorandra_number {
@@ -73,11 +73,11 @@ enum sivorandra_number {
     SIVORANDRA_BAD_WIDTH = 7,     /* a width of the position is 0 or above the number of unfenced cores */
     SIVORANDRA_BAD_TIME = 8,      /* O, C, T or D of the position is outside its limits */
     SIVORANDRA_LONG_HORIZON = 9,  /* the horizon is above SIVORANDRA_MOST_HORIZON */
-    SIVORANDRA_BAD_RANGE = 10,    /* plan: a is above b, or b is above the horizon; take: the row is past the horizon */
-    SIVORANDRA_SHORT_ROWS = 11,   /* plan: `rows` has fewer than (b - a) * cores bytes; take: the row's length is not the core count */
+    SIVORANDRA_BAD_RANGE = 10,    /* plan: a is above b, or b is above the horizon; check_row: the row is past the horizon */
+    SIVORANDRA_SHORT_ROWS = 11,   /* plan: `rows` has fewer than (b - a) * cores bytes; check_row: the row's length is not the core count */
     SIVORANDRA_PAST_MISS = 12,    /* plan: b is above the tick of the first miss */
     SIVORANDRA_TABLE_MISSES = 13, /* start, replay, response_times: the verdict is a miss */
-    SIVORANDRA_NOT_A_RUN = 14,    /* row, sets, advance, withdraw, withdraw_all: the words are no run; take: they are no plan's */
+    SIVORANDRA_NOT_A_RUN = 14,    /* row, sets, advance, withdraw, withdraw_all: the words are no run; check_row: they are no plan's */
     SIVORANDRA_LATE = 15,         /* row, sets, advance: the position, the lowest that is late, has not ended its job at its deadline */
     SIVORANDRA_BAD_REPORT = 16,   /* advance: for a position past the count, or a task that is not working or has no cores, its own or lent, in this tick */
     SIVORANDRA_NO_MISS = 17,      /* sentence, conflict: the table has no miss */
@@ -87,10 +87,10 @@ enum sivorandra_number {
     SIVORANDRA_NOT_FIRM = 21,     /* withdraw, withdraw_all: the rule is greedy and a width of some task is above one of the next: without a task others could be late */
     SIVORANDRA_NO_POSITION = 22,  /* withdraw: the position is 0 or past the count; withdraw_all: one is past the count */
     SIVORANDRA_SLACK_NOT_GIVEN = 23, /* slack: not accepted under limited, nor under greedy with no width of a task above one of the next */
-    SIVORANDRA_BAD_ROW = 24,      /* take: a byte of the row that is neither 0 nor a position, a fenced core without 255, a task with another width than
+    SIVORANDRA_BAD_ROW = 24,      /* check_row: a byte of the row that is neither 0 nor a position, a fenced core without 255, a task with another width than
                                      its job's, or one with no work owed: not released, done, or past its deadline; with the row's tick */
-    SIVORANDRA_DEADLINE_MISSED = 25, /* take: some job is not done at its deadline; with that tick */
-    SIVORANDRA_PHASES_DIFFER = 26 /* take, after the last row: some task's phase is not the one noted at the last S, parity aside; with the horizon */
+    SIVORANDRA_DEADLINE_MISSED = 25, /* check_row: some job is not done at its deadline; with that tick */
+    SIVORANDRA_PHASES_DIFFER = 26 /* check_row, after the last row: some task's phase is not the one noted at the last S, parity aside; with the horizon */
 };
 
 /* The limits of a table. D is at least 1 and at most T. */
@@ -281,7 +281,7 @@ uint32_t sivorandra_slack(const uint32_t *words, size_t words_len,
 /* Begins a plan that another planner makes for the table in `words`, whatever the table's verdict: done, or refused by the table's numbers, 1 to 9 and
    19. Its rows are then lent to sivorandra_check_row, from tick 0 on, as many as the horizon, S + P.
    Begun or refused, it writes all SIVORANDRA_PLAN_WORDS words: places past the count are zeros and Resting(0), and nothing is noted, Resting(0), but
-   where S is 0 the phases of the tasks; a refused beginning leaves a plan of all zeros with every phase and note Resting(0), which take
+   where S is 0 the phases of the tasks; a refused beginning leaves a plan of all zeros with every phase and note Resting(0), which check_row
    refuses with 14. */
 uint32_t sivorandra_check_begin(const uint32_t *words, size_t words_len,
                           uint32_t *plan, size_t plan_len,

@@ -40,7 +40,7 @@ fn main() -> io::Result<()> {
                 "ok".to_string()
             }
             "own" => listed(&own(&words)),
-            "row" => match state.take(&words.iter().map(|&byte| byte as u8).collect::<Vec<_>>()) {
+            "row" => match state.check_row(&words.iter().map(|&byte| byte as u8).collect::<Vec<_>>()) {
                 Ok(RowAnswer::Taken) => "taken".to_string(),
                 Ok(RowAnswer::Accepted) => "accepted".to_string(),
                 Err(refusal) => refused(refusal),

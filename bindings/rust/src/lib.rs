@@ -255,10 +255,10 @@ pub struct Run {
 /// let table = [1, 3, LIMITED, 0, 0, 2, 0, 2, 2, 5, 5, 2, 3, 0, 2, 3, 5, 5, 2, 0, 0, 1, 4, 5, 5, 1];
 /// let mut plan = SuppliedPlan::begin(&table)?;
 /// for row in [[1, 1, 3], [1, 1, 3], [2, 2, 3], [2, 2, 3]] {
-///     assert_eq!(plan.take(&row)?, RowAnswer::Taken);
+///     assert_eq!(plan.check_row(&row)?, RowAnswer::Taken);
 /// }
-/// assert_eq!(plan.take(&[0, 0, 0]), Err(Refusal::DeadlineMissed { tick: 5 }));
-/// assert_eq!(plan.take(&[2, 2, 0])?, RowAnswer::Accepted); // a refusal leaves the plan as it is
+/// assert_eq!(plan.check_row(&[0, 0, 0]), Err(Refusal::DeadlineMissed { tick: 5 }));
+/// assert_eq!(plan.check_row(&[2, 2, 0])?, RowAnswer::Accepted); // a refusal leaves the plan as it is
 /// # Ok::<(), Refusal>(())
 /// ```
 #[derive(Clone, Debug, PartialEq, Eq)]
@@ -272,7 +272,7 @@ pub struct SuppliedPlan {
 /// use sivorandra::{RowAnswer, SuppliedPlan};
 ///
 /// let mut plan = SuppliedPlan::begin(&[1, 1, 1, 0, 0, 0, 0, 1, 1, 2, 2, 1])?;
-/// assert_eq!([plan.take(&[0])?, plan.take(&[1])?], [RowAnswer::Taken, RowAnswer::Accepted]);
+/// assert_eq!([plan.check_row(&[0])?, plan.check_row(&[1])?], [RowAnswer::Taken, RowAnswer::Accepted]);
 /// # Ok::<(), sivorandra::Refusal>(())
 /// ```
 #[derive(Clone, Copy, Debug, PartialEq, Eq, Hash)]
@@ -762,7 +762,7 @@ impl SuppliedPlan {
     /// use sivorandra::{Refusal, SuppliedPlan, PLAN_WORDS};
     ///
     /// let mut plan = SuppliedPlan::from_words([0; PLAN_WORDS]);
-    /// assert_eq!(plan.take(&[0]), Err(Refusal::NotARun));
+    /// assert_eq!(plan.check_row(&[0]), Err(Refusal::NotARun));
     /// ```
     pub fn from_words(words: [u32; PLAN_WORDS]) -> SuppliedPlan {
         SuppliedPlan { words }
@@ -796,7 +796,7 @@ impl SuppliedPlan {
     ///
     /// ```
     /// let mut plan = sivorandra::SuppliedPlan::begin(&[1, 3, 1, 0, 0, 0, 0, 2, 2, 5, 5, 2])?;
-    /// plan.take(&[1, 0, 1])?;
+    /// plan.check_row(&[1, 0, 1])?;
     /// assert_eq!(plan.tick(), 1);
     /// # Ok::<(), sivorandra::Refusal>(())
     /// ```
@@ -811,12 +811,12 @@ impl SuppliedPlan {
     /// use sivorandra::{Refusal, SuppliedPlan};
     ///
     /// let mut plan = SuppliedPlan::begin(&[1, 3, 1, 0, 0, 0, 0, 2, 2, 5, 5, 2])?;
-    /// assert_eq!(plan.take(&[1, 1]), Err(Refusal::ShortRows));
-    /// assert_eq!(plan.take(&[1, 0, 0]), Err(Refusal::BadRow { tick: 0 })); // the job has two cores
-    /// plan.take(&[0, 1, 1])?;
+    /// assert_eq!(plan.check_row(&[1, 1]), Err(Refusal::ShortRows));
+    /// assert_eq!(plan.check_row(&[1, 0, 0]), Err(Refusal::BadRow { tick: 0 })); // the job has two cores
+    /// plan.check_row(&[0, 1, 1])?;
     /// # Ok::<(), Refusal>(())
     /// ```
-    pub fn take(&mut self, row: &[u8]) -> Result<RowAnswer, Refusal> {
+    pub fn check_row(&mut self, row: &[u8]) -> Result<RowAnswer, Refusal> {
         let [case, number, tick] = ask(|answer, len| unsafe { sivorandra_check_row(self.words.as_mut_ptr(), self.words.len(), row.as_ptr(), row.len(), answer, len) });
         match case {
             0 => Ok(RowAnswer::Taken),

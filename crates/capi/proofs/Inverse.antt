@@ -20,7 +20,7 @@ use Rattle.run.specs.declared.Run.{Run}
 use Rattle.model.specs.Sizes.{mostWord}
 use Rattle.run.specs.Numbers.{RunOut}
 use Rattle.table.specs.Words.{fenceOf}
-use Rattle.capi.specs.Encoding.{headWords, eachWords, parityAt, kindAt, firstAt, secondAt, thirdAt, places, wordsTo, runWords, phaseWords}
+use Rattle.capi.specs.Encoding.{headWords, eachWords, parityAt, kindAt, firstNumberAt, secondNumberAt, thirdNumberAt, places, wordsTo, runWords, phaseWords}
 use Rattle.capi.specs.Encoding.{ofPhase, parityWord, placeWith, placeWords, placesWords, countWord, lowWord, highWord, fenceIn, encodeTo, encode, overwritten}
 use Rattle.capi.specs.Encoding.{phaseOf, isPhase, evenOf, isParity, placeIn}
 use Rattle.capi.specs.Encoding.{isPlace, placesIn, arePlaces, countIn, holdsRun, padded, runIn, run, none, decode, cleared}
@@ -166,7 +166,7 @@ parity-encode (suc (suc n)) e = let l = leb-true (suc (suc n)) 1 e in absurd (om
 -- the words of a place in front, one by one
 front :
     (ws : List ℕ) → eachWords ≤ length ws
-    → placeWith (placeIn ws) (getD ws parityAt 0) (phaseWords (getD ws kindAt 0) (getD ws firstAt 0) (getD ws secondAt 0) (getD ws thirdAt 0)) ++ drop eachWords ws
+    → placeWith (placeIn ws) (getD ws parityAt 0) (phaseWords (getD ws kindAt 0) (getD ws firstNumberAt 0) (getD ws secondNumberAt 0) (getD ws thirdNumberAt 0)) ++ drop eachWords ws
     ≡ ws
 front ws h =
     sym
@@ -186,9 +186,9 @@ place-encode : (ws : List ℕ) → eachWords ≤ length ws → isPlace ws ≡ tr
 place-encode ws h e =
     let n = getD ws parityAt 0 in
     let k = getD ws kindAt 0 in
-    let a = getD ws firstAt 0 in
-    let b = getD ws secondAt 0 in
-    let c = getD ws thirdAt 0 in
+    let a = getD ws firstNumberAt 0 in
+    let b = getD ws secondNumberAt 0 in
+    let c = getD ws thirdNumberAt 0 in
     (λ i. placeWith (placeIn ws) (parity-encode n (and-left (isParity n) (isPhase k b c) e) i) (phase-encode k a b c (and-right (isParity n) (isPhase k b c) e) i)
     ++ drop eachWords ws)
     ∙ front ws h

@@ -11,7 +11,7 @@ mod Noting
 mod Supplying
 pub mod Kept
 pub mod Listed
-pub mod Past
+pub mod UnusedPlaces
 pub mod RunRefused
 pub mod SuppliedKept
 pub mod Examples

@@ -10,7 +10,7 @@ use lib.Dec.{leb}
 use borrow.Author.Tests.{le-leb, lt-leb, leb-true}
 use Rattle.model.proofs.Bools.{and-left, and-right}
 use Rattle.phase.specs.declared.Task.{Task}
-use Rattle.capi.specs.Encoding.{headWords, eachWords, parityAt, kindAt, secondAt, thirdAt, places, runWords, placeWords, placesWords, isTaskState, placeIn}
+use Rattle.capi.specs.Encoding.{headWords, eachWords, parityAt, kindAt, secondNumberAt, thirdNumberAt, places, runWords, placeWords, placesWords, isTaskState, placeIn}
 use Rattle.capi.specs.Encoding.{isPlace, placesIn, arePlaces, countIn, holdsRun, runIn, run, none, decode}
 
 -- written
@@ -59,7 +59,7 @@ test-stop m n at ws e p =
 -- what is read at a place
 pub place-at :
     (ws : List ℕ) (at : ℕ) → isPlace (drop at ws)
-    ≡ isTaskState (getD ws (at + parityAt) 0) (getD ws (at + kindAt) 0) (getD ws (at + secondAt) 0) (getD ws (at + thirdAt) 0)
+    ≡ isTaskState (getD ws (at + parityAt) 0) (getD ws (at + kindAt) 0) (getD ws (at + secondNumberAt) 0) (getD ws (at + thirdNumberAt) 0)
 place-at ws at = simp getD-drop
 
 -- a buffer too short, or with too high a count, holds none; else the places below the count decide

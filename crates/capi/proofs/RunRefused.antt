@@ -21,7 +21,7 @@ use Rattle.run.specs.Sets.{setsOf}
 use Rattle.run.specs.Advance.{advanceAnswer, advanceOf}
 use Rattle.run.specs.Withdraw.{withdrawAnswer, withdrawOf, withdrawAllOf}
 use Rattle.run.proofs.Limits.{run-decides}
-use Rattle.capi.specs.Encoding.{headWords, eachWords, parityAt, kindAt, secondAt, thirdAt, places, wordsTo, runWords, isPhase, isTaskState, isPlace}
+use Rattle.capi.specs.Encoding.{headWords, eachWords, parityAt, kindAt, secondNumberAt, thirdNumberAt, places, wordsTo, runWords, isPhase, isTaskState, isPlace}
 use Rattle.capi.specs.Encoding.{arePlaces, countIn, holdsRun, runIn, BufferRun, run, none, decode}
 use Rattle.capi.specs.Runs.{rowFrom, setsFrom, advanceFrom, withdrawFrom, withdrawAllFrom}
 use Rattle.capi.specs.RunRefused.{NoPhase, NoTaskState, NoRun, short, many, no-place, BufferRunOut}
@@ -104,7 +104,7 @@ module _ (ws : List ℕ) where
   -- the words of place p, in the buffer
   in-buffer :
       (p : ℕ) → isPlace (drop (eachWords * p) (drop headWords ws))
-      ≡ isTaskState (getD ws (wordsTo p + parityAt) 0) (getD ws (wordsTo p + kindAt) 0) (getD ws (wordsTo p + secondAt) 0) (getD ws (wordsTo p + thirdAt) 0)
+      ≡ isTaskState (getD ws (wordsTo p + parityAt) 0) (getD ws (wordsTo p + kindAt) 0) (getD ws (wordsTo p + secondNumberAt) 0) (getD ws (wordsTo p + thirdNumberAt) 0)
   in-buffer p = ap isPlace (drop-drop (eachWords * p) headWords ws) ∙ place-at ws (wordsTo p)
 
   no-run : holdsRun ws ≡ false → NoRun ws

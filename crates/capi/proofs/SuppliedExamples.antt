@@ -16,11 +16,11 @@ use Rattle.plan_check.specs.Begin.{beginOf}
 use Rattle.plan_check.specs.Numbers.{differs, missed, stateOut}
 use Rattle.plan_check.specs.Plan.{cellCount}
 use Rattle.plan_check.specs.Row.{faulty, anyUnknownByte, workedRow}
-use Rattle.plan_check.specs.Take.{answerAt, finalAnswer, takeAnswer, takeOf}
+use Rattle.plan_check.specs.CheckRow.{answerAt, finalAnswer, checkRowAnswer, checkRowOf}
 use Rattle.capi.specs.Calls.{CallResult, callResult}
 use Rattle.capi.specs.Encoding.{placeWords}
 use Rattle.capi.specs.Supplied.{notesWords, planOver, notesIn, holdsPlan, planIn}
-use Rattle.capi.specs.Taking.{beginCall, takeCall}
+use Rattle.capi.specs.CheckRow.{beginCall, checkRowCall}
 use Rattle.capi.proofs.Calling.{calling}
 
 -- A LINE: its name, the call, the slices lent for the plan and the answer, and what is left
@@ -38,7 +38,7 @@ pub record Line : Type 0 where
 
 abbrev pub leftBy : Call → List ℕ → List ℕ → CallResult
 leftBy (begins ws) buffer answer = beginCall ws buffer answer
-leftBy (takes row) buffer answer = takeCall buffer row answer
+leftBy (takes row) buffer answer = checkRowCall buffer row answer
 
 -- the value by the definitions of a line's call and slices
 abbrev pub computes : Line → Line
@@ -141,7 +141,7 @@ lines =
 
 -- every line is its value by the definitions, line by line
 computed : LineByLine computes lines lines
-unfolding times beginCall takeCall planOver notesWords notesIn holdsPlan planIn beginOf takeOf takeAnswer answerAt finalAnswer differs missed stateOut faulty anyUnknownByte
+unfolding times beginCall checkRowCall planOver notesWords notesIn holdsPlan planIn beginOf checkRowOf checkRowAnswer answerAt finalAnswer differs missed stateOut faulty anyUnknownByte
     workedRow cellCount startedRun answerOf byWalk byTasks byHorizon firstOut endingOf lastStep headerNumber tableOf chain count visited calling
 computed =
     (refl, (refl, (refl, (refl, (refl, (refl, (refl, (refl, (refl, (refl, (refl, (refl, (refl, (refl, (refl, (refl, (refl, (refl, (refl, (refl, (refl, (refl, tt))))))))))))))))))))))

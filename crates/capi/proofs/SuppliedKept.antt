@@ -29,16 +29,16 @@ use Rattle.plan_check.specs.Numbers.{afterRow}
 use Rattle.plan_check.specs.Row.{workedRow, workedAt}
 use Rattle.plan_check.specs.RowAnswer.{stateByAnswer}
 use Rattle.plan_check.specs.State.{blank, noteOf, noting, startIn}
-use Rattle.plan_check.specs.Take.{takeAnswer, takeOf}
+use Rattle.plan_check.specs.CheckRow.{checkRowAnswer, checkRowOf}
 use Rattle.plan_check.proofs.Starting.{begin-passed, begin-refused, begin-of}
 use Rattle.capi.specs.Encoding.{headWords, eachWords, places, wordsTo, runWords, encodeTo, encode, overwritten, countIn, holdsRun, runIn, run, decode, cleared}
-use Rattle.capi.specs.Past.{SameUsed}
+use Rattle.capi.specs.UnusedPlaces.{SameUsed}
 use Rattle.capi.specs.Supplied.{tickAt, notesAt, noteSize, noteAt, planWords, notesWords, encodePlan, putAt, movedIn, planOver, notesIn, areNotes, holdsPlan, planIn, BufferPlan, plan, none, decodePlan, clearedPlan}
-use Rattle.capi.specs.Taking.{begunIn, byTaken, takeFrom}
+use Rattle.capi.specs.CheckRow.{begunIn, byTaken, checkRowFrom}
 use Rattle.capi.proofs.Places.{by-held, held-few, held-long}
 use Rattle.capi.proofs.Inverse.{length-to, decode-encode, few-accepted, encode-decode, held-run}
 use Rattle.capi.proofs.Kept.{StoredRun, clear-fits, fits-started, held-fits, fits-written}
-use Rattle.capi.proofs.Past.{same-held}
+use Rattle.capi.proofs.UnusedPlaces.{same-held}
 use Rattle.capi.proofs.Noting.{length-put, take-put, drop-put, from-put, put-next, put-same, word-read, length-notes, length-noted, take-noted, notes-back, notes-over, notes-encode}
 use Rattle.capi.proofs.Supplying.{plan-by-run, by-held-plan, plan-long, plan-run}
 
@@ -247,11 +247,11 @@ module _ (ws : List ℕ) (w : SuppliedPlan) (row : List ℕ) (e : decodePlan ws 
 -- the answer to a row on the buffer is that of the plan that it holds, and the buffer afterwards holds the plan that the row returns
 pub take-held :
     (ws : List ℕ) (w : SuppliedPlan) (row : List ℕ) → decodePlan ws ≡ plan w
-    → (takeFrom (decodePlan ws) row ws .answer ≡ takeOf w row .answer) × (decodePlan (takeFrom (decodePlan ws) row ws .buffer) ≡ plan (takeOf w row .plan))
-unfolding takeOf
+    → (checkRowFrom (decodePlan ws) row ws .answer ≡ checkRowOf w row .answer) × (decodePlan (checkRowFrom (decodePlan ws) row ws .buffer) ≡ plan (checkRowOf w row .plan))
+unfolding checkRowOf
 take-held ws w row e = (
-  ap (λ (h : BufferPlan). takeFrom h row ws .answer) e,
-  ap (λ (h : BufferPlan). decodePlan (takeFrom h row ws .buffer)) e ∙ go (takeAnswer w row),
+  ap (λ (h : BufferPlan). checkRowFrom h row ws .answer) e,
+  ap (λ (h : BufferPlan). decodePlan (checkRowFrom h row ws .buffer)) e ∙ go (checkRowAnswer w row),
 )
   where
     next : Answer → SuppliedPlan

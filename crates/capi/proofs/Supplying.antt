@@ -17,13 +17,13 @@ use Rattle.plan_check.specs.declared.SuppliedPlan.{SuppliedPlan}
 use Rattle.plan_check.specs.Extent.{firstNumber}
 use Rattle.plan_check.specs.Begin.{beginOf}
 use Rattle.plan_check.specs.State.{startIn}
-use Rattle.plan_check.specs.Take.{takeOf}
+use Rattle.plan_check.specs.CheckRow.{checkRowOf}
 use Rattle.plan_check.proofs.Cases.{take-refused}
 use Rattle.capi.specs.AnswerWords.{ofGiven, answerWritten}
 use Rattle.capi.specs.Calls.{callResult, byRoom, answerFits}
 use Rattle.capi.specs.Encoding.{places, runWords, overwritten, countIn, holdsRun, runIn}
 use Rattle.capi.specs.Supplied.{tickAt, notesAt, planWords, notesWords, putAt, movedIn, planOver, notesIn, holdsPlan, planIn, BufferPlan, plan, none, decodePlan}
-use Rattle.capi.specs.Taking.{beginCall, ofTaken, RowTaken, keptPlan, takeFrom, takeCall}
+use Rattle.capi.specs.CheckRow.{beginCall, ofTaken, RowChecked, keptPlan, checkRowFrom, checkRowCall}
 use Rattle.capi.proofs.Calls.{both}
 use Rattle.capi.proofs.Places.{held-few}
 use Rattle.capi.proofs.Keeping.{narrow, short, has-room}
@@ -67,18 +67,18 @@ module _ (ws buffer answer : List ℕ) where
 -- TAKE
 
 module _ (buffer row answer : List ℕ) where
-  pub take-narrow : length answer < 3 → takeCall buffer row answer ≡ callResult 1 (buffer ∷ (answer ∷ []))
-  unfolding takeCall
+  pub take-narrow : length answer < 3 → checkRowCall buffer row answer ≡ callResult 1 (buffer ∷ (answer ∷ []))
+  unfolding checkRowCall
   take-narrow h = simp (lt-leb 3 (length answer) h)
 
   pub take-room :
-      (a : Answer) {k m : List ℕ} → 3 ≤ length answer → _≡_ {A = RowTaken} (record { answer = a; buffer = k }) (takeFrom (decodePlan buffer) row buffer)
-      → m ≡ answerWritten (ofTaken a) answer → callResult 0 (k ∷ (m ∷ [])) ≡ takeCall buffer row answer
-  unfolding takeCall
+      (a : Answer) {k m : List ℕ} → 3 ≤ length answer → _≡_ {A = RowChecked} (record { answer = a; buffer = k }) (checkRowFrom (decodePlan buffer) row buffer)
+      → m ≡ answerWritten (ofTaken a) answer → callResult 0 (k ∷ (m ∷ [])) ≡ checkRowCall buffer row answer
+  unfolding checkRowCall
   take-room a h d q =
       both
-      (ap (λ (v : RowTaken). v .buffer) d)
-      (q ∙ ap (λ (v : RowTaken). answerWritten (ofTaken (v .answer)) answer) d)
+      (ap (λ (v : RowChecked). v .buffer) d)
+      (q ∙ ap (λ (v : RowChecked). answerWritten (ofTaken (v .answer)) answer) d)
       ∙ sym (simp (le-leb 3 (length answer) h))
 
 -- WHAT A BUFFER HOLDS
@@ -119,40 +119,40 @@ module _ (ws : List ℕ) where
     -- 14 and 9, whatever the row is
     pub take-extent :
         (w : SuppliedPlan) {n : ℕ} → holdsPlan ws ≡ true → w ≡ planIn ws → n ≡ firstNumber (w .run) → ¬ (n ≡ 0)
-        → _≡_ {A = RowTaken} (record { answer = Refused n 0; buffer = ws }) (takeFrom (decodePlan ws) row ws)
+        → _≡_ {A = RowChecked} (record { answer = Refused n 0; buffer = ws }) (checkRowFrom (decodePlan ws) row ws)
     take-extent w h e p q =
         ap (λ (k : ℕ). keptPlan (Refused k 0) w ws) p
         ∙ (ap (λ (t : Entered). keptPlan (t .answer) (t .plan) ws) (sym (take-refused w row (λ z. q (p ∙ z))))
-        ∙ ap (λ (v : BufferPlan). takeFrom v row ws) (ap plan e ∙ sym (by-held-plan h)))
+        ∙ ap (λ (v : BufferPlan). checkRowFrom v row ws) (ap plan e ∙ sym (by-held-plan h)))
 
     -- what is kept of a row taken by the plan that the buffer holds
     pub take-kept :
-        (t : Entered) (w : SuppliedPlan) {v : RowTaken} → holdsPlan ws ≡ true → w ≡ planIn ws → t ≡ takeOf w row → v ≡ keptPlan (t .answer) (t .plan) ws
-        → v ≡ takeFrom (decodePlan ws) row ws
+        (t : Entered) (w : SuppliedPlan) {v : RowChecked} → holdsPlan ws ≡ true → w ≡ planIn ws → t ≡ checkRowOf w row → v ≡ keptPlan (t .answer) (t .plan) ws
+        → v ≡ checkRowFrom (decodePlan ws) row ws
     take-kept t w h e p k =
         k
         ∙ (ap (λ (v : Entered). keptPlan (v .answer) (v .plan) ws) p
-        ∙ ap (λ (v : BufferPlan). takeFrom v row ws) (ap plan e ∙ sym (by-held-plan h)))
+        ∙ ap (λ (v : BufferPlan). checkRowFrom v row ws) (ap plan e ∙ sym (by-held-plan h)))
 
-    pub take-none : holdsPlan ws ≡ false → _≡_ {A = RowTaken} (record { answer = Refused 14 0; buffer = ws }) (takeFrom (decodePlan ws) row ws)
-    take-none h = ap (λ (v : BufferPlan). takeFrom v row ws) (sym (by-held-plan h))
+    pub take-none : holdsPlan ws ≡ false → _≡_ {A = RowChecked} (record { answer = Refused 14 0; buffer = ws }) (checkRowFrom (decodePlan ws) row ws)
+    take-none h = ap (λ (v : BufferPlan). checkRowFrom v row ws) (sym (by-held-plan h))
 
 -- what is kept of a row, by its answer
 module _ (ws : List ℕ) (t : Entered) where
   pub kept-row-taken :
       {s : ℕ} {new : List ℕ} → t .answer ≡ Taken → s ≡ startIn (t .plan .run) → new ≡ planOver (eqb (t .plan .tick) s) (t .plan .run .count) (t .plan) ws
-      → _≡_ {A = RowTaken} (record { answer = Taken; buffer = new }) (keptPlan (t .answer) (t .plan) ws)
+      → _≡_ {A = RowChecked} (record { answer = Taken; buffer = new }) (keptPlan (t .answer) (t .plan) ws)
   kept-row-taken a e n =
       ap (λ (l : List ℕ). record { answer = Taken; buffer = l }) (n ∙ ap (λ (s : ℕ). planOver (eqb (t .plan .tick) s) (t .plan .run .count) (t .plan) ws) e)
       ∙ ap (λ (v : Answer). keptPlan v (t .plan) ws) (sym a)
 
   pub kept-row-accepted :
       {s : ℕ} {new : List ℕ} → t .answer ≡ Accepted → s ≡ startIn (t .plan .run) → new ≡ planOver (eqb (t .plan .tick) s) (t .plan .run .count) (t .plan) ws
-      → _≡_ {A = RowTaken} (record { answer = Accepted; buffer = new }) (keptPlan (t .answer) (t .plan) ws)
+      → _≡_ {A = RowChecked} (record { answer = Accepted; buffer = new }) (keptPlan (t .answer) (t .plan) ws)
   kept-row-accepted a e n =
       ap (λ (l : List ℕ). record { answer = Accepted; buffer = l }) (n ∙ ap (λ (s : ℕ). planOver (eqb (t .plan .tick) s) (t .plan .run .count) (t .plan) ws) e)
       ∙ ap (λ (v : Answer). keptPlan v (t .plan) ws) (sym a)
 
   pub kept-row-refused :
-      {n p : ℕ} → t .answer ≡ Refused n p → _≡_ {A = RowTaken} (record { answer = Refused n p; buffer = ws }) (keptPlan (t .answer) (t .plan) ws)
+      {n p : ℕ} → t .answer ≡ Refused n p → _≡_ {A = RowChecked} (record { answer = Refused n p; buffer = ws }) (keptPlan (t .answer) (t .plan) ws)
   kept-row-refused a = ap (λ (v : Answer). keptPlan v (t .plan) ws) (sym a)

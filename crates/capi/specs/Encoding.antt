@@ -33,16 +33,16 @@ abbrev pub kindAt : ℕ
 kindAt = parityAt + 1
 
 -- .. its first number ..
-abbrev pub firstAt : ℕ
-firstAt = kindAt + 1
+abbrev pub firstNumberAt : ℕ
+firstNumberAt = kindAt + 1
 
 -- .. its second ..
-abbrev pub secondAt : ℕ
-secondAt = kindAt + 2
+abbrev pub secondNumberAt : ℕ
+secondNumberAt = kindAt + 2
 
 -- .. and its third
-abbrev pub thirdAt : ℕ
-thirdAt = kindAt + 3
+abbrev pub thirdNumberAt : ℕ
+thirdNumberAt = kindAt + 3
 
 -- the places of a run
 abbrev pub places : ℕ
@@ -144,12 +144,12 @@ placeIn ws = record {
   period = getD ws 4 0;
   second = getD ws 5 0;
   even = evenOf (getD ws parityAt 0);
-  phase = phaseOf (getD ws kindAt 0) (getD ws firstAt 0) (getD ws secondAt 0) (getD ws thirdAt 0);
+  phase = phaseOf (getD ws kindAt 0) (getD ws firstNumberAt 0) (getD ws secondNumberAt 0) (getD ws thirdNumberAt 0);
 }
 
 -- they are a place: they have a parity and a phase
 abbrev pub isPlace : List ℕ → Bool
-isPlace ws = isTaskState (getD ws parityAt 0) (getD ws kindAt 0) (getD ws secondAt 0) (getD ws thirdAt 0)
+isPlace ws = isTaskState (getD ws parityAt 0) (getD ws kindAt 0) (getD ws secondNumberAt 0) (getD ws thirdNumberAt 0)
 
 -- the first n places
 unfoldable pub placesIn : ℕ → List ℕ → List Task

@@ -5,10 +5,10 @@ pub mod Replays
 pub mod Encoding
 pub mod Runs
 pub mod Lists
-pub mod Past
+pub mod UnusedPlaces
 pub mod RunRefused
 pub mod Sentences
 pub mod Figures
 pub mod Supplied
-pub mod Taking
+pub mod CheckRow
 pub mod Version

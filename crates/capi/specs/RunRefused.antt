@@ -6,7 +6,7 @@ use mathlib.Core.Logic.{_⊎_}
 use Prim.Native.Nat.{ℕ, _+_, _<_}
 use lib.ListN.{length, getD}
 use Rattle.run.specs.Numbers.{RunOut}
-use Rattle.capi.specs.Encoding.{parityAt, kindAt, secondAt, thirdAt, places, wordsTo, runWords, countIn, runIn}
+use Rattle.capi.specs.Encoding.{parityAt, kindAt, secondNumberAt, thirdNumberAt, places, wordsTo, runWords, countIn, runIn}
 
 -- no phase has this kind, this second number and this third: the kind is above 3, or it is 0 or 3 (Coming, Resting) and the second number is not 0, or it is
 -- not 1 (Working) and the third is not 0
@@ -20,7 +20,7 @@ NoTaskState n k b c = (1 < n) ⊎ NoPhase k b c
 -- the words of place p are no place
 abbrev pub NoPlace : List ℕ → ℕ → Type 0
 NoPlace ws p =
-    NoTaskState (getD ws (wordsTo p + parityAt) 0) (getD ws (wordsTo p + kindAt) 0) (getD ws (wordsTo p + secondAt) 0) (getD ws (wordsTo p + thirdAt) 0)
+    NoTaskState (getD ws (wordsTo p + parityAt) 0) (getD ws (wordsTo p + kindAt) 0) (getD ws (wordsTo p + secondNumberAt) 0) (getD ws (wordsTo p + thirdNumberAt) 0)
 
 -- a buffer holds no run: it is too short for one, its count is above 32, or the words of a place below the count are none
 pub data NoRun (ws : List ℕ) : Type 0 where

@@ -9,7 +9,7 @@ ghost use Rattle.capi.specs.Replays.{replayCall};
 ghost use Rattle.capi.specs.Runs.{startCall, rowCall, setsCall, advanceCall, withdrawCall, withdrawAllCall};
 ghost use Rattle.capi.specs.Sentences.{sentenceCall, factsCall};
 ghost use Rattle.capi.specs.Figures.{responseTimesCall, slackCall};
-ghost use Rattle.capi.specs.Taking.{beginCall, takeCall};
+ghost use Rattle.capi.specs.CheckRow.{beginCall, checkRowCall};
 ghost use Rattle.capi.specs.Version.{version};
 use model::MOST_TASKS;
 use model::ROW;
@@ -349,7 +349,7 @@ pub extern "C" fn sivorandra_check_begin(words: &[u32], plan: &mut [u32], answer
 // 3 Refused number tick and `plan` as found; 14 where `plan` holds no plan.
 #[no_mangle]
 pub extern "C" fn sivorandra_check_row(plan: &mut [u32], row: &[u8], answer: &mut [u32]) -> u32
-    ensures { λ r. ⌜ record { value = r; lent = now (plan .exit) ∷ (now (answer .exit) ∷ []) } ≡ takeCall (now (plan .entry)) (now (row .entry)) (now (answer .entry)) ⌝ }
+    ensures { λ r. ⌜ record { value = r; lent = now (plan .exit) ∷ (now (answer .exit) ∷ []) } ≡ checkRowCall (now (plan .entry)) (now (row .entry)) (now (answer .entry)) ⌝ }
 {
     if answer.len() < 3 {
         return 1;

@@ -6,7 +6,7 @@ ghost use lib.ListN.{length, take, drop};
 ghost use Rattle.plan_check.specs.State.{startIn};
 ghost use Rattle.capi.specs.Encoding.{places, countIn};
 ghost use Rattle.capi.specs.Supplied.{notesAt, noteSize, planWords, fourWords, notesWords, putAt, planOver, noteIn, notesIn, holdsPlan, planIn, decodePlan};
-ghost use Rattle.capi.specs.Taking.{ofTaken, keptPlan, takeFrom};
+ghost use Rattle.capi.specs.CheckRow.{ofTaken, keptPlan, checkRowFrom};
 use crate::answer_words::AnswerWords;
 use crate::run_buffer;
 use crate::run_buffer::PhaseWords;
@@ -171,7 +171,7 @@ fn keep(entered: Entered, start: u32, words: &mut [u32]) -> Answer
 
 // The row taken by the plan that the buffer holds; 14 where it holds none.
 pub(crate) fn take(words: &mut [u32], row: &[u8]) -> Answer
-    ensures { λ r. ⌜ record { answer = r; buffer = now (words .exit) } ≡ takeFrom (decodePlan (now (words .entry))) (now (row .entry)) (now (words .entry)) ⌝ }
+    ensures { λ r. ⌜ record { answer = r; buffer = now (words .exit) } ≡ checkRowFrom (decodePlan (now (words .entry))) (now (row .entry)) (now (words .entry)) ⌝ }
 {
     if holds(words) {
         let plan = plan_in(words);

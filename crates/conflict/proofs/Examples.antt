@@ -30,18 +30,18 @@ two-passes = (refl, refl, refl, refl)
 
 pub record Line : Type 0 where
   pub words : List ℕ
-  pub says : ConflictAnswer
+  pub result : ConflictAnswer
 
 -- the value by the definitions of a line's words
 abbrev pub worked : Line → Line
-worked l = record { words = l .words; says = conflictOf (l .words) }
+worked l = record { words = l .words; result = conflictOf (l .words) }
 
 -- the positions of this set are kept; the words are turned down by a number, with its position
 abbrev keeps : List ℕ → ℕ → Line
-keeps ws x = record { words = ws; says = givenConflict x }
+keeps ws x = record { words = ws; result = givenConflict x }
 
 abbrev refuses : List ℕ → ℕ → ℕ → Line
-refuses ws n p = record { words = ws; says = noConflict n p }
+refuses ws n p = record { words = ws; result = noConflict n p }
 
 -- a header with an empty fence, and a record's seven words, with widths v and w and with both widths v
 abbrev header : ℕ → ℕ → ℕ → List ℕ

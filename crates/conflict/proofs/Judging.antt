@@ -69,7 +69,7 @@ pub conflict-judged :
     (ws : List ℕ) → NoneApplies ws → (p t : ℕ) → Missed (tableOf ws) p t
     → (verdictMiss (verdictOf (relinked ws (conflictSet (tableOf ws)))) ≡ true)
     × ((q : ℕ) → bit (conflictSet (tableOf ws)) q ≡ true → verdictMiss (verdictOf (relinked ws (withoutPlace (conflictSet (tableOf ws)) q))) ≡ false)
-conflict-judged ws none p t m = (by (conflictSet s) ∙ still, λ q e. by (withoutPlace (conflictSet s) q) ∙ spared q e)
+conflict-judged ws none p t m = (by (conflictSet s) ∙ still, λ q e. by (withoutPlace (conflictSet s) q) ∙ without-one q e)
   where
     s : Table
     s = tableOf ws
@@ -82,8 +82,8 @@ conflict-judged ws none p t m = (by (conflictSet s) ∙ still, λ q e. by (witho
         let x = conflict-minimal s (passed-valid ws none) p t m .misses in
         missed-conflicts s (passed-valid ws none) (conflictSet s) (x .0) (x .1) (x .2)
 
-    spared : (q : ℕ) → bit (conflictSet s) q ≡ true → conflicts s (withoutPlace (conflictSet s) q) ≡ false
-    spared q e =
+    without-one : (q : ℕ) → bit (conflictSet s) q ≡ true → conflicts s (withoutPlace (conflictSet s) q) ≡ false
+    without-one q e =
         not-true-false (conflicts s (withoutPlace (conflictSet s) q))
         (λ c. let x = conflicts-some s (passed-valid ws none) (withoutPlace (conflictSet s) q) c in
         conflict-minimal s (passed-valid ws none) p t m .needed q e (x .0) (x .1) (x .2))

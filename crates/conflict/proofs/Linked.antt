@@ -14,7 +14,7 @@ use Rattle.table.proofs.Decide.{decides-eq, stable}
 use Rattle.table.proofs.HeaderPasses.{words-few, words-long}
 use Rattle.table.proofs.Tasks.{chain-at, chain-length}
 use Rattle.table.proofs.Walk.{ends-there, five-decides, last-ends, last-reached, six-decides}
-use Rattle.table.specs.Answer.{againAt, lastStep, pastAt}
+use Rattle.table.specs.Answer.{repeatedAt, lastStep, outOfRangeAt}
 use Rattle.table.specs.Numbers.{EndAt, NoneApplies, Reaches, WordsOut}
 use Rattle.table.specs.Words.{chain, count, headerWords, visited, recordWords, records, word}
 use Rattle.conflict.specs.SubTable.{chosen}
@@ -111,11 +111,11 @@ pub next-inside : (ws : List ℕ) (n : ℕ) → 1 ≤ n → n ≤ records ws →
 next-inside ws n a b = omega arith
 
 module _ (ws : List ℕ) (none : NoneApplies ws) where
-  no-past : pastAt ws (lastStep ws) ≡ false
-  no-past = not-true-false (pastAt ws (lastStep ws)) (λ e. none 5 0 (five-decides ws .0 e))
+  no-past : outOfRangeAt ws (lastStep ws) ≡ false
+  no-past = not-true-false (outOfRangeAt ws (lastStep ws)) (λ e. none 5 0 (five-decides ws .0 e))
 
-  no-again : againAt ws (lastStep ws) ≡ false
-  no-again = not-true-false (againAt ws (lastStep ws)) (λ e. none 6 0 (six-decides ws .0 e))
+  no-again : repeatedAt ws (lastStep ws) ≡ false
+  no-again = not-true-false (repeatedAt ws (lastStep ws)) (λ e. none 6 0 (six-decides ws .0 e))
 
   -- the walk meets a new record at every place of the chain, and then the zero
   pub chain-ends : EndAt ws (count ws)

@@ -19,9 +19,9 @@ use Rattle.table.proofs.Passed.{passed-horizon, passed-inside, passed-valid}
 use Rattle.table.proofs.Tasks.{chain-at, chain-length, table-at, table-length}
 use Rattle.table.proofs.Tests.{again-decides, past-decides, stops-decides}
 use Rattle.table.proofs.Walk.{ends-there, five-decides, six-decides, stops-there}
-use Rattle.table.specs.Answer.{againAt, lastStep, pastAt}
+use Rattle.table.specs.Answer.{repeatedAt, lastStep, outOfRangeAt}
 use Rattle.table.specs.Limits.{CoresOut, FenceOut, RuleOut, TimesOut, WidthOut}
-use Rattle.table.specs.Numbers.{AgainAt, Applies, EndAt, NoneApplies, PastAt, Reaches}
+use Rattle.table.specs.Numbers.{RepeatedAt, Applies, EndAt, NoneApplies, OutOfRangeAt, Reaches}
 use Rattle.table.specs.Numbers.{eight, five, four, nine, nineteen, one, seven, six, three, two}
 use Rattle.table.specs.Words.{chain, coreCount, count, fence, fenceOf, field, head, headerWords, visited, next, recordWords, records}
 use Rattle.table.specs.Words.{tableOf, taskAt, taskOfRecord, word}
@@ -155,14 +155,14 @@ module _ (ws : List ℕ) (none : NoneApplies ws) (x : ℕ) where
 
   never-past : ¬ Applies us 5 0
   never-past a =
-      let h : PastAt us (length ns) =
-      past-decides us (length ns) .0 (subst (λ (k : ℕ). pastAt us k ≡ true) last-kept (five-decides us .1 a)) in
+      let h : OutOfRangeAt us (length ns) =
+      past-decides us (length ns) .0 (subst (λ (k : ℕ). outOfRangeAt us k ≡ true) last-kept (five-decides us .1 a)) in
       omega (arith, ends-kept)
 
   never-again : ¬ Applies us 6 0
   never-again a =
-      let h : AgainAt us (length ns) =
-      again-decides us (length ns) .0 (subst (λ (k : ℕ). againAt us k ≡ true) last-kept (six-decides us .1 a)) in
+      let h : RepeatedAt us (length ns) =
+      again-decides us (length ns) .0 (subst (λ (k : ℕ). repeatedAt us k ≡ true) last-kept (six-decides us .1 a)) in
       reaches-kept (h .0) (h .1) .0 (h .2 ∙ ends-kept)
 
   -- each task is one of the table's, and so within its limits

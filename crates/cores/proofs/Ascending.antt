@@ -9,7 +9,7 @@ use native.Mathlib.Omega.{arith}
 use lib.ListN.{length, getD, take, drop}
 use lib.Dec.{eqb, ltb}
 use borrow.Author.Tests.{eqb-true, eq-eqb, ne-eqb, ltb-true, ltb-false}
-use Rattle.model.specs.Search.{filtered, consIf, memb, upFrom}
+use Rattle.model.specs.Search.{filtered, consIf, member, upFrom}
 use Rattle.model.proofs.Lists.{up-length, up-at, map-at}
 
 -- an ascending list whose entries are at least lo and below hi
@@ -47,14 +47,14 @@ getD-up f d i n c h =
 -- membership
 
 abbrev pub In : ℕ → List ℕ → Type 0
-In c l = memb c l ≡ true
+In c l = member c l ≡ true
 
 pub not-in-none : (c : ℕ) → In c [] → ⊥
-unfolding memb
+unfolding member
 not-in-none c h = false≢true h
 
-pub memb-below : (c lo hi : ℕ) (l : List ℕ) → c < lo → Range lo hi l → memb c l ≡ false
-unfolding memb
+pub memb-below : (c lo hi : ℕ) (l : List ℕ) → c < lo → Range lo hi l → member c l ≡ false
+unfolding member
 memb-below c lo hi [] h r = refl
 memb-below c lo hi (x ∷ l) h r = rw (ne-eqb c x (λ e. omega arith)) (memb-below c (suc x) hi l (omega arith) (r .2))
 
@@ -63,20 +63,20 @@ either true b h = inl refl
 either false b h = inr h
 
 pub in-drop : (c w : ℕ) (l : List ℕ) → In c (drop w l) → In c l
-unfolding memb
+unfolding member
 in-drop c zero l h = h
 in-drop c (suc w) [] h = h
 in-drop c (suc w) (x ∷ l) h = rw (in-drop c w l h) (or-true (eqb c x))
 
 pub in-take : (c w : ℕ) (l : List ℕ) → In c (take w l) → In c l
-unfolding memb
+unfolding member
 in-take c zero l h = absurd (false≢true h)
 in-take c (suc w) [] h = h
-in-take c (suc w) (x ∷ l) h = ⊎-elim (λ e. rw e) (λ e. rw (in-take c w l e) (or-true (eqb c x))) (either (eqb c x) (memb c (take w l)) h)
+in-take c (suc w) (x ∷ l) h = ⊎-elim (λ e. rw e) (λ e. rw (in-take c w l e) (or-true (eqb c x))) (either (eqb c x) (member c (take w l)) h)
 
 -- no number is both in the front and in the back
 pub split-apart : (c w lo hi : ℕ) (l : List ℕ) → Range lo hi l → In c (take w l) → In c (drop w l) → ⊥
-unfolding memb
+unfolding member
 split-apart c zero lo hi l r h k = false≢true h
 split-apart c (suc w) lo hi [] r h k = false≢true h
 split-apart c (suc w) lo hi (x ∷ l) r h k =
@@ -84,23 +84,23 @@ split-apart c (suc w) lo hi (x ∷ l) r h k =
     (λ e. let q : c ≡ x = eqb-true c x e in
     false≢true (sym (memb-below c (suc x) hi (drop w l) (omega arith) (range-drop w (suc x) hi l (r .2))) ∙ k))
     (λ e. split-apart c w (suc x) hi l (r .2) e k)
-    (either (eqb c x) (memb c (take w l)) h)
+    (either (eqb c x) (member c (take w l)) h)
 
 -- every number of the range is there, and no other
-pub memb-up : (c i n : ℕ) → i ≤ c → c < i + n → memb c (upFrom i n) ≡ true
-unfolding memb upFrom
+pub memb-up : (c i n : ℕ) → i ≤ c → c < i + n → member c (upFrom i n) ≡ true
+unfolding member upFrom
 memb-up c i zero h k = absurd (omega arith)
 memb-up c i (suc n) h k = ⊎-elim (λ (e : i ≡ c). rw (eq-eqb c i (sym e))) (λ (l : i < c). rw (memb-up c (suc i) n l (omega arith)) (or-true (eqb c i))) (eq-or-lt-of-le h)
 
-pub memb-past : (c lo hi : ℕ) (l : List ℕ) → Range lo hi l → hi ≤ c → memb c l ≡ false
-unfolding memb
+pub memb-past : (c lo hi : ℕ) (l : List ℕ) → Range lo hi l → hi ≤ c → member c l ≡ false
+unfolding member
 memb-past c lo hi [] r h = refl
 memb-past c lo hi (x ∷ l) r h = rw (ne-eqb c x (λ e. omega arith)) (memb-past c (suc x) hi l (r .2) h)
 
-pub memb-first : (c n : ℕ) → memb c (upFrom 0 n) ≡ ltb c n
+pub memb-first : (c n : ℕ) → member c (upFrom 0 n) ≡ ltb c n
 memb-first c n = go (ltb c n) refl
   where
-    go : (t : Bool) → ltb c n ≡ t → memb c (upFrom 0 n) ≡ t
+    go : (t : Bool) → ltb c n ≡ t → member c (upFrom 0 n) ≡ t
     go true e = memb-up c 0 n (omega arith) (omega (arith, ltb-true c n e))
     go false e = memb-past c 0 n (upFrom 0 n) (range-up 0 n n (omega arith)) (ltb-false c n e)
 
@@ -113,8 +113,8 @@ in-below c lo hi l r h = go (ltb c hi) refl
 
 -- ---- the numbers of a list that pass a test
 
-pub memb-kept : (f : ℕ → Bool) (c : ℕ) (l : List ℕ) → memb c (filtered f l) ≡ memb c l && f c
-unfolding memb filtered
+pub memb-kept : (f : ℕ → Bool) (c : ℕ) (l : List ℕ) → member c (filtered f l) ≡ member c l && f c
+unfolding member filtered
 memb-kept f c [] = refl
 memb-kept f c (x ∷ l) = go (f x) refl (eqb c x) refl (memb-kept f c l)
   where
@@ -122,10 +122,10 @@ memb-kept f c (x ∷ l) = go (f x) refl (eqb c x) refl (memb-kept f c l)
     neither true e = refl
     neither false e = sym e
 
-    go : (t : Bool) → f x ≡ t → (u : Bool) → eqb c x ≡ u → memb c (filtered f l) ≡ memb c l && f c → memb c (consIf t x (filtered f l)) ≡ (u || memb c l) && f c
+    go : (t : Bool) → f x ≡ t → (u : Bool) → eqb c x ≡ u → member c (filtered f l) ≡ member c l && f c → member c (consIf t x (filtered f l)) ≡ (u || member c l) && f c
     go true p true q ih = rw q (sym (ap f (eqb-true c x q) ∙ p))
     go true p false q ih = rw q ih
-    go false p true q ih = ih ∙ neither (memb c l) (ap f (eqb-true c x q) ∙ p)
+    go false p true q ih = ih ∙ neither (member c l) (ap f (eqb-true c x q) ∙ p)
     go false p false q ih = ih
 
 pub kept-kept : (f g : ℕ → Bool) (l : List ℕ) → filtered f (filtered g l) ≡ filtered (λ c. g c && f c) l

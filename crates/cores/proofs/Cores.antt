@@ -12,7 +12,7 @@ use lib.Count.{ones, ones-step, trailingZeros}
 use lib.Dec.{eqb, ltb}
 use lib.Pow.{pow-mono, pow-pos, ones-lt}
 use borrow.Author.Tests.{ltb-false, ltb-true}
-use Rattle.model.specs.Search.{bit, filtered, consIf, memb, upFrom}
+use Rattle.model.specs.Search.{bit, filtered, consIf, member, upFrom}
 use Rattle.model.specs.Sets.{setOf}
 use Rattle.model.proofs.Digits.{bit-past, bit-zero, bit-suc, even-half, odd-half, half, tz-out, tz-into}
 use Rattle.cores.specs.Cores.{cores}
@@ -227,7 +227,7 @@ popped n p h = popped-as n p h (cores n) refl
 
 -- ---- membership is the digit
 
-pub cores-memb : (n c : ℕ) → c < 64 → memb c (cores n) ≡ bit n c
+pub cores-memb : (n c : ℕ) → c < 64 → member c (cores n) ≡ bit n c
 unfolding cores
 cores-memb n c h = memb-kept (bit n) c (upFrom 0 64) ∙ ap (λ (t : Bool). t && bit n c) (memb-up c 0 64 (omega arith) h) ∙ true-and (bit n c)
 
@@ -243,11 +243,11 @@ set-room lo hi (c ∷ l) h r =
 pub set-lt : (l : List ℕ) → Range 0 64 l → setOf l < 2 ^ 64
 set-lt l r = omega (arith, set-room 0 64 l (omega arith) r)
 
-pub set-bit : (l : List ℕ) → Range 0 64 l → (c : ℕ) → bit (setOf l) c ≡ memb c l
+pub set-bit : (l : List ℕ) → Range 0 64 l → (c : ℕ) → bit (setOf l) c ≡ member c l
 set-bit l r c = go (ltb c 64) refl
   where
-    go : (t : Bool) → ltb c 64 ≡ t → bit (setOf l) c ≡ memb c l
-    go true e = sym (cores-memb (setOf l) c (ltb-true c 64 e)) ∙ ap (memb c) (cores-set l r)
+    go : (t : Bool) → ltb c 64 ≡ t → bit (setOf l) c ≡ member c l
+    go true e = sym (cores-memb (setOf l) c (ltb-true c 64 e)) ∙ ap (member c) (cores-set l r)
     go false e = bit-past 64 (setOf l) c (set-lt l r) (ltb-false c 64 e) ∙ sym (memb-past c 0 64 l r (ltb-false c 64 e))
 
 pub set-ones : (l : List ℕ) → Range 0 64 l → ones (setOf l) ≡ length l

@@ -7,14 +7,14 @@ use native.Mathlib.Omega.{arith}
 use lib.Dec.{ltb}
 use borrow.Author.Tests.{ltb-true}
 use Rattle.model.specs.Fence.{outside, unfenced}
-use Rattle.model.specs.Search.{bit, memb, upFrom}
+use Rattle.model.specs.Search.{bit, member, upFrom}
 use Rattle.model.proofs.Bools.{and-left, and-right}
 use Rattle.cores.specs.Cores.{cores}
 use Rattle.cores.proofs.Ascending.{In, memb-first, memb-kept}
 use Rattle.cores.proofs.Cores.{cores-memb}
 
 -- an open core is below the count and not in the fence
-pub memb-open : (f m c : ℕ) → memb c (unfenced f m) ≡ ltb c m && not (bit f c)
+pub memb-open : (f m c : ℕ) → member c (unfenced f m) ≡ ltb c m && not (bit f c)
 memb-open f m c = memb-kept (λ b. not (bit f b)) c (upFrom 0 m) ∙ ap (λ (t : Bool). t && not (bit f c)) (memb-first c m)
 
 pub in-open : (f m c : ℕ) → In c (unfenced f m) → (c < m) × (bit f c ≡ false)
@@ -31,10 +31,10 @@ pub open-of : (r f m : ℕ) → m ≤ 64 → cores r ≡ unfenced f (min m 64) �
 open-of r f m h e = let all : min m 64 ≡ m = omega arith in e ∙ ap (unfenced f) all
 
 -- the first cores without the unfenced ones are those in the fence
-pub memb-fenced : (free f m c : ℕ) → c < 64 → cores free ≡ unfenced f m → memb c (outside free (upFrom 0 m)) ≡ ltb c m && bit f c
+pub memb-fenced : (free f m c : ℕ) → c < 64 → cores free ≡ unfenced f m → member c (outside free (upFrom 0 m)) ≡ ltb c m && bit f c
 memb-fenced free f m c h e =
     memb-kept (λ b. not (bit free b)) c (upFrom 0 m)
-    ∙ (ap₂ (λ (t u : Bool). t && not u) (memb-first c m) (sym (cores-memb free c h) ∙ (ap (memb c) e ∙ memb-open f m c))
+    ∙ (ap₂ (λ (t u : Bool). t && not u) (memb-first c m) (sym (cores-memb free c h) ∙ (ap (member c) e ∙ memb-open f m c))
     ∙ same (ltb c m) (bit f c))
   where
     same : (t u : Bool) → t && not (t && not u) ≡ t && u

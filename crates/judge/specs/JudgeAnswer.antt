@@ -4,7 +4,7 @@ use Rattle.model.specs.Verdict as model
 use Rattle.judge.specs.declared.Verdict.{Verdict}
 use Rattle.judge.specs.declared.Verdict.the-variants.{Firm, Full, Miss, Refused}
 
--- a verdict on a table that passes, Firm or Full with S and P or Miss with tick and position; or refused with number and position
+-- a verdict on a table that passes, Firm or Full with S and P or Miss with tick and position; or refused with number and position, as in the model's `Answer`
 pub data JudgeAnswer : Type 0 where
   judged : model.Verdict → JudgeAnswer
   refused : ℕ → ℕ → JudgeAnswer

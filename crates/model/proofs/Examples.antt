@@ -41,7 +41,7 @@ pub record Line : Type 0 where
   pub name : String
   pub table : Table
   pub entries : List Entry
-  pub says : Verdict
+  pub result : Verdict
   pub answers : List Answer
   pub rows : List Asked
 
@@ -51,7 +51,7 @@ worked l = record {
   name = l .name;
   table = l .table;
   entries = l .entries;
-  says = verdict (l .table);
+  result = verdict (l .table);
   answers = answersFrom (l .table) emptyBook (l .entries);
   rows = rowsFrom (l .table) emptyBook (l .entries);
 }
@@ -62,7 +62,7 @@ reports x = advance x 0
 
 -- a line from its parts, the advances by their reports
 abbrev line : String → Table → Verdict → List ℕ → List Answer → List Asked → Line
-line n s v xs ws rs = record { name = n; table = s; entries = map reports xs; says = v; answers = ws; rows = rs }
+line n s v xs ws rs = record { name = n; table = s; entries = map reports xs; result = v; answers = ws; rows = rs }
 
 -- a row of two cores, and of three
 abbrev pub two : ℕ → ℕ → Asked

@@ -15,7 +15,7 @@ use Rattle.model.proofs.Renumbered.{at-map, grants-map, lent-map, owner
 use Rattle.model.proofs.Search.{any-same}
 use Rattle.model.specs.Book.{Answer, Book, Entry, advance, afterTaken, answer, answersFrom, book, bookFrom, borrowed, borrowing, borrows}
 use Rattle.model.specs.Book.{emptiable, emptied, emptyBook, emptyIn, enter, full, grantsOf, inRow, late, lentOf, wrongEmpties, wrongReports, newestEnded}
-use Rattle.model.specs.Book.{none, offer, reportable, bookRow, seeks, served, shownOf, step, unknownPositions, taskClaims, widths, withdraw, withdrawAll, work, workLent}
+use Rattle.model.specs.Book.{noPlaces, offer, reportable, bookRow, seeks, served, shownOf, step, unknownPositions, taskClaims, widths, withdraw, withdrawAll, work, workLent}
 use Rattle.model.specs.Fence.{unfencedTable, unfencedCores, outside, spread, unfenced}
 use Rattle.model.specs.Grants.{claimants, grants, some}
 use Rattle.model.specs.Horizon.{horizon}
@@ -208,7 +208,7 @@ module _ (s : Table) where
   pub fence-full : (t : ℕ) → full s t ≡ full (unfencedTable s) t
   unfolding full
   fence-full zero = refl
-  fence-full (suc t) = same-step none (full s t) ∙ ap (step (unfencedTable s) none) (fence-full t)
+  fence-full (suc t) = same-step noPlaces (full s t) ∙ ap (step (unfencedTable s) noPlaces) (fence-full t)
 
   same-missed-at : (t : ℕ) → missedAt s t ≡ missedAt (unfencedTable s) t
   unfolding missedAt

@@ -18,7 +18,7 @@ use Rattle.model.proofs.Verdict.{verdict-exact}
 use Rattle.model.specs.Book.{Answer, Asked, Book, Entry, NeverMissed, advance, answer, asked, askedBy, book, emptied, emptyIn, firstLate, full, late}
 use Rattle.model.specs.Book.{wrongEmpties, wrongReports, noReports, refused, bookRow, rowRefused, shown, taken, unknownPosition, unknownPositions, withdraw, withdrawAll}
 use Rattle.model.specs.Compare.{NoneBehind}
-use Rattle.model.specs.FirmKept.{FirmKept}
+use Rattle.model.specs.FirmGuarantee.{FirmGuarantee}
 use Rattle.model.specs.Sets.{setsAsked, bookSets}
 use Rattle.model.specs.Task.{AllValid, Table, due, task}
 use Rattle.model.specs.Firm.{FirmRule, firm}
@@ -82,7 +82,7 @@ module _ (s : Table) (ok : AllValid s) (firmly : FirmRule s) (accepted : NeverMi
   scope-full n = full-length s n (λ q t g. accepted q t)
 
   -- THE THEOREM
-  pub firm-kept : (xs : List Entry) → FirmKept s xs
+  pub firm-kept : (xs : List Entry) → FirmGuarantee s xs
   firm-kept xs = record {
     sustainable = λ other ys e nl. sustained-lists s ok (not-lending (s .rule) other) firmly xs ys e nl .near;
     not-behind = subst (NoneBehind s (book s xs)) (sym (scope-full (book s xs .tick))) (none-behind s ok firmly xs);
@@ -94,5 +94,5 @@ module _ (s : Table) (ok : AllValid s) (firmly : FirmRule s) (accepted : NeverMi
   }
 
 -- the same from the verdict
-pub firm-verdict : (s : Table) → AllValid s → (a b : ℕ) → verdict s ≡ Firm a b → (xs : List Entry) → FirmKept s xs
+pub firm-verdict : (s : Table) → AllValid s → (a b : ℕ) → verdict s ≡ Firm a b → (xs : List Entry) → FirmGuarantee s xs
 firm-verdict s ok a b e = let x = verdict-exact s ok .firm a b .0 e in firm-kept s ok (x .1) (x .0)

@@ -12,7 +12,7 @@ use Rattle.model.proofs.Bools.{and-left, and-right, not-true-false}
 use Rattle.model.proofs.Runs.{full-stays, full-tick, full-withdrawn, missed-at, still-advance}
 use Rattle.model.proofs.Search.{any-some, least-none, none-any}
 use Rattle.model.specs.Book.{Book, Missed, Misses, NeverMissed, advanced, afterTaken, answer, book, bookFrom, emptyIn, enter, entered, firstLate, full}
-use Rattle.model.specs.Book.{late, wrongEmpties, wrongReports, none, noReports, refused, step, taken}
+use Rattle.model.specs.Book.{late, wrongEmpties, wrongReports, noPlaces, noReports, refused, step, taken}
 use Rattle.model.specs.Search.{any, bit}
 use Rattle.model.specs.Task.{Table, due, task}
 
@@ -71,26 +71,26 @@ pub full-length :
     (s : Table) (n : ℕ) → ((p t : ℕ) → t < n → ¬ Missed s p t)
     → book s (replicate n noReports) ≡ full s n
 unfolding full
-full-length s n h = go-on s n 0 (λ t p g l. none t p (omega arith) l) ∙ ap (full s) (zero-add n)
+full-length s n h = go-on s n 0 (λ t p g l. noPlaces t p (omega arith) l) ∙ ap (full s) (zero-add n)
   where
-    none : (t p : ℕ) → t < n → p < length (s .tasks) → late s (full s t) p ≡ false
-    none t p g l = not-true-false (late s (full s t) p) (λ e. let x = late-missed s t p l e in h p (x .0) (omega arith) (x .2))
+    noPlaces : (t p : ℕ) → t < n → p < length (s .tasks) → late s (full s t) p ≡ false
+    noPlaces t p g l = not-true-false (late s (full s t) p) (λ e. let x = late-missed s t p l e in h p (x .0) (omega arith) (x .2))
 
 -- PAST A MISS the book of empty sets stays: it is always the full-length run at its own tick
 
 -- an advance with empty sets, where no position is withdrawn, is taken if no task is late, and else refused
-pub enter-empty : (s : Table) (b : Book) → b .withdrawn ≡ 0 → enter s noReports b ≡ cond (ltb (firstLate s b) (length (s .tasks))) b (step s none b)
+pub enter-empty : (s : Table) (b : Book) → b .withdrawn ≡ 0 → enter s noReports b ≡ cond (ltb (firstLate s b) (length (s .tasks))) b (step s noPlaces b)
 unfolding enter answer afterTaken wrongEmpties wrongReports any
 enter-empty s b w = go (ltb (firstLate s b) (length (s .tasks)))
   where
-    go : (t : Bool) → entered (cond t (refused 15 (suc (firstLate s b))) taken) (advanced s (bit 0) (emptyIn b 0) b) b ≡ cond t b (step s none b)
+    go : (t : Bool) → entered (cond t (refused 15 (suc (firstLate s b))) taken) (advanced s (bit 0) (emptyIn b 0) b) b ≡ cond t b (step s noPlaces b)
     go true = refl
     go false = still-advance s b w
 
 pub empty-more :
     (s : Table) (n t : ℕ)
     → bookFrom s (full s t) (replicate (suc n) noReports)
-    ≡ bookFrom s (cond (ltb (firstLate s (full s t)) (length (s .tasks))) (full s t) (step s none (full s t))) (replicate n noReports)
+    ≡ bookFrom s (cond (ltb (firstLate s (full s t)) (length (s .tasks))) (full s t) (step s noPlaces (full s t))) (replicate n noReports)
 unfolding bookFrom
 empty-more s n t = ap (λ (b : Book). bookFrom s b (replicate n noReports)) (enter-empty s (full s t) (full-withdrawn s t))
 
@@ -103,7 +103,7 @@ stays-full s (suc n) t =
     go : (b : Bool)
         → (u : ℕ) × (bookFrom s (full s t) (replicate n noReports) ≡ full s u)
         → (u : ℕ) × (bookFrom s (full s (suc t)) (replicate n noReports) ≡ full s u)
-        → (u : ℕ) × (bookFrom s (cond b (full s t) (step s none (full s t))) (replicate n noReports) ≡ full s u)
+        → (u : ℕ) × (bookFrom s (cond b (full s t) (step s noPlaces (full s t))) (replicate n noReports) ≡ full s u)
     go true x y = x
     go false x y = unfold full in y
 
@@ -117,13 +117,13 @@ empty-full s n =
 pub never-missed-exact : (s : Table) → NeverMissed s ↔ ((n p : ℕ) → ¬ Misses s (book s (replicate n noReports)) p)
 never-missed-exact s = (
   λ nm n p m. nm p n (subst (λ (b : Book). Misses s b p) (full-length s n (λ q t h. nm q t)) m),
-  λ none p t. below none (suc t) p t (omega arith),
+  λ noPlaces p t. below noPlaces (suc t) p t (omega arith),
 )
   where
     below : ((n p : ℕ) → ¬ Misses s (book s (replicate n noReports)) p) → (n p t : ℕ) → t < n → ¬ Missed s p t
-    below none zero p t h = absurd (not-suc-le-zero h)
-    below none (suc n) p t h =
+    below noPlaces zero p t h = absurd (not-suc-le-zero h)
+    below noPlaces (suc n) p t h =
         ⊎-elim
-        (λ (e : t ≡ n). λ m. none n p (subst (λ (b : Book). Misses s b p) (sym (full-length s n (below none n))) (subst (λ (u : ℕ). Missed s p u) e m)))
-        (λ (l : t < n). below none n p t l)
+        (λ (e : t ≡ n). λ m. noPlaces n p (subst (λ (b : Book). Misses s b p) (sym (full-length s n (below noPlaces n))) (subst (λ (u : ℕ). Missed s p u) e m)))
+        (λ (l : t < n). below noPlaces n p t l)
         (eq-or-lt-of-le (le-of-suc-le-suc h))

@@ -13,7 +13,7 @@ use Rattle.model.proofs.Lending.{not-borrowing, offer-none, shown-given
 use Rattle.model.proofs.SameClaims.{same-claims-asked, same-claimants}
 use Rattle.model.proofs.Runs.{full-claimed, full-offer, full-shown, full-withdrawn, still-emptied}
 use Rattle.model.specs.Book.{Book, Entry, asked, book, bookFrom, borrowing, claims, emptied, firstLate, full, grantsOf, jobClaims, late}
-use Rattle.model.specs.Book.{wrongEmpties, none, noReports, bookRow, rowRefused, served, shown, step, taskClaims, widths, work, workLent}
+use Rattle.model.specs.Book.{wrongEmpties, noPlaces, noReports, bookRow, rowRefused, served, shown, step, taskClaims, widths, work, workLent}
 use Rattle.model.specs.Firm.{firm}
 use Rattle.model.specs.Grants.{Claimant, claimants, endsChoosing, given, grants, left}
 use Rattle.model.specs.Horizon.{horizon}
@@ -68,7 +68,7 @@ module _ (r : Rule) (passes : endsChoosing r ≡ false) (τs : List Task) (m f :
   same-borrowing n p k = not-borrowing I (full I n) (full-offer I n) p k ∙ sym (not-borrowing G (full G n) (full-offer G n) p k)
 
   -- a path between books, which hold functions, is a path at each job
-  same-step : (n : ℕ) → full I n ≡ full G n → step I none (full I n) ≡ step G none (full G n)
+  same-step : (n : ℕ) → full I n ≡ full G n → step I noPlaces (full I n) ≡ step G noPlaces (full G n)
   unfolding step
   same-step n e = λ i. record {
     tick = suc (e i .tick);
@@ -102,7 +102,7 @@ module _ (r : Rule) (passes : endsChoosing r ≡ false) (τs : List Task) (m f :
       go : (a b : Bool) → a ≡ b
           → bookFrom I (full I t) (replicate n noReports) ≡ bookFrom G (full G t) (replicate n noReports)
           → bookFrom I (full I (suc t)) (replicate n noReports) ≡ bookFrom G (full G (suc t)) (replicate n noReports)
-          → bookFrom I (cond a (full I t) (step I none (full I t))) (replicate n noReports) ≡ bookFrom G (cond b (full G t) (step G none (full G t))) (replicate n noReports)
+          → bookFrom I (cond a (full I t) (step I noPlaces (full I t))) (replicate n noReports) ≡ bookFrom G (cond b (full G t) (step G noPlaces (full G t))) (replicate n noReports)
       go true true e x y = x
       go false false e x y = unfold full in y
       go true false e x y = absurd (true≢false e)

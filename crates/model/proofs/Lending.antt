@@ -19,7 +19,7 @@ use Rattle.model.specs.Book.{taskClaims, widths}
 use Rattle.model.specs.Fence.{unfencedCores}
 use Rattle.model.specs.Grants.{Claimant, claimants, grants, some}
 use Rattle.model.specs.Lending.{among, merged, lendOnce, lends, lent, shownCores, tries, unlent}
-use Rattle.model.specs.Search.{filtered, memb}
+use Rattle.model.specs.Search.{filtered, member}
 use Rattle.model.specs.Task.{Rule, Table, greedy, lending, limited, idling, newest, task, widthOf}
 
 -- the rules but rule 4 lend nothing
@@ -175,7 +175,7 @@ lent-above ws sk o n p h = go (leb p n) refl
 
 -- of empty lists none has a core
 among-none : (c : ℕ) (bs : List (List ℕ)) → ((q : ℕ) → getD bs q [] ≡ []) → among c bs ≡ false
-unfolding among memb
+unfolding among member
 among-none c [] e = refl
 among-none c (l ∷ ls) e = rw (e 0) (among-none c ls (λ q. e (suc q)))
 

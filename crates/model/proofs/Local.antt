@@ -19,14 +19,14 @@ use Rattle.model.proofs.Lists.{take-map}
 use Rattle.model.proofs.Runs.{full-offer}
 use Rattle.model.proofs.Search.{none-at}
 use Rattle.model.specs.Book.{Answer, Book, Entry, Job, advance, afterTaken, answer, book, bookFrom, borrowed, borrowing, emptied, emptyBook}
-use Rattle.model.specs.Book.{emptyIn, enter, entered, full, grantsOf, jobClaims, keep, newestEnded, none, offer, singleton, noReports, refused, bookRow, seeks}
+use Rattle.model.specs.Book.{emptyIn, enter, entered, full, grantsOf, jobClaims, keep, newestEnded, noPlaces, offer, singleton, noReports, refused, bookRow, seeks}
 use Rattle.model.specs.Book.{served, step, taken, takenFrom, takenOf, taskClaims, widths, withdraw, withdrawAll, withWithdrawn}
 use Rattle.model.specs.Fence.{unfencedCores}
 use Rattle.model.specs.Grants.{claimants}
 use Rattle.model.specs.Lending.{lent}
 use Rattle.model.specs.Local.{EqualAbove, SameBits, SameCoresAbove, SameEntries, SameEntry, SameReports, relevant, relevantIf, upTo}
 use Rattle.model.specs.Row.{byteOf, owner, row}
-use Rattle.model.specs.Search.{any, bit, memb, upFrom}
+use Rattle.model.specs.Search.{any, bit, member, upFrom}
 use Rattle.model.specs.Task.{Table, Task, newest, absentTask, task, widthOf}
 
 -- two books with the same tick, and the same jobs and withdrawals of the first n places
@@ -70,7 +70,7 @@ first-widths n t s s′ e =
 owner-from : (c p : ℕ) (gs : List (List ℕ)) → (owner c p gs ≡ 0) ⊎ (p ≤ owner c p gs)
 unfolding owner
 owner-from c p [] = inl refl
-owner-from c p (g ∷ gs) = go (memb c g) (owner-from c (suc p) gs)
+owner-from c p (g ∷ gs) = go (member c g) (owner-from c (suc p) gs)
   where
     go : (t : Bool) → (owner c (suc p) gs ≡ 0) ⊎ (suc p ≤ owner c (suc p) gs)
         → (cond t p (owner c (suc p) gs) ≡ 0) ⊎ (p ≤ cond t p (owner c (suc p) gs))
@@ -100,7 +100,7 @@ owner-cut c (suc n) p [] = go (ltb 0 (p + suc n))
     go : (t : Bool) → cond {A = ℕ} t 0 0 ≡ 0
     go true = refl
     go false = refl
-owner-cut c (suc n) p (g ∷ gs) = go (memb c g) (owner-cut c n (suc p) gs)
+owner-cut c (suc n) p (g ∷ gs) = go (member c g) (owner-cut c n (suc p) gs)
   where
     more : suc p + n ≡ p + suc n
     more = omega arith
@@ -225,7 +225,7 @@ module _ (n : ℕ) (s s′ : Table) (al : EqualAbove n s s′) where
   full-agree : (t : ℕ) → Agree n (full s t) (full s′ t)
   unfolding full
   full-agree zero = start-agree
-  full-agree (suc t) = same-step none none (λ q l. refl) (full s t) (full s′ t) (full-agree t)
+  full-agree (suc t) = same-step noPlaces noPlaces (λ q l. refl) (full s t) (full s′ t) (full-agree t)
 
   same-without : (b b′ : Book) → Agree n b b′ → (x y : ℕ) → SameBits n x y → Agree n (withWithdrawn x b) (withWithdrawn y b′)
   same-without b b′ ag x y h = record {

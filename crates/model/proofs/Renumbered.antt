@@ -12,7 +12,7 @@ use Rattle.model.proofs.Lists.{take-map}
 use Rattle.model.specs.Grants.{Claimant, claimants, endsChoosing, fits, given, grants, left, some}
 use Rattle.model.specs.Lending.{among, merged, lendOnce, lent, shownCores, tries, unlent}
 use Rattle.model.specs.Row.{owner}
-use Rattle.model.specs.Search.{filtered, consIf, memb}
+use Rattle.model.specs.Search.{filtered, consIf, member}
 use Rattle.model.specs.Task.{Rule, greedy}
 
 module _ (f : ℕ → ℕ) where
@@ -93,8 +93,8 @@ module _ (f : ℕ → ℕ) where
         (λ e. eq-eqb i j (apart i j (eqb-true (f i) (f j) e)))
         (λ e. eq-eqb (f i) (f j) (ap f (eqb-true i j e)))
 
-    memb-map : (c : ℕ) (l : List ℕ) → memb (f c) (map f l) ≡ memb c l
-    unfolding memb
+    memb-map : (c : ℕ) (l : List ℕ) → member (f c) (map f l) ≡ member c l
+    unfolding member
     memb-map c [] = refl
     memb-map c (x ∷ l) = rw (eqb-map c x, memb-map c l)
 

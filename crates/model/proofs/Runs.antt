@@ -13,7 +13,7 @@ use Rattle.model.proofs.Digits.{bit-none}
 use Rattle.model.proofs.Jobs.{LineBounds, after-release, bounds-fresh, mk, next, start-bounds, step-ended, step-bounds, step-whole}
 use Rattle.model.proofs.Lending.{not-borrowing, offer-whole, shown-given}
 use Rattle.model.specs.Book.{Answer, Book, Entry, Job, Missed, advance, advanced, afterTaken, answer, book, bookFrom, borrowed, borrowing, emptied}
-use Rattle.model.specs.Book.{emptyBook, emptyIn, enter, entered, fresh, full, grantsOf, jobClaims, keep, none, offer, singleton, noReports, refused}
+use Rattle.model.specs.Book.{emptyBook, emptyIn, enter, entered, fresh, full, grantsOf, jobClaims, keep, noPlaces, offer, singleton, noReports, refused}
 use Rattle.model.specs.Book.{releasedNow, bookRow, seeks, served, shownOf, step, taken, takenFrom, takenOf, withdraw, withdrawAll, withWithdrawn, work}
 use Rattle.model.specs.Row.{row}
 use Rattle.model.specs.Search.{bit}
@@ -73,7 +73,7 @@ before-release s f b p k h = rw off
 pub full-fresh : (s : Table) (n p k : ℕ) → n ≤ release (task s p) k → full s n .job p k ≡ fresh
 unfolding full
 full-fresh s zero p k h = refl
-full-fresh s (suc n) p k h = before-release s none (full s n) p k (omega (arith, full-tick s n)) ∙ full-fresh s n p k (omega arith)
+full-fresh s (suc n) p k h = before-release s noPlaces (full s n) p k (omega (arith, full-tick s n)) ∙ full-fresh s n p k (omega arith)
 
 -- every line of a book is good
 abbrev pub BookBounds : Table → Book → Type 0
@@ -103,21 +103,21 @@ module _ (s : Table) (ok : AllValid s) where
   pub bounds-full : (n : ℕ) → BookBounds s (full s n)
   unfolding full
   bounds-full zero = bounds-start
-  bounds-full (suc n) = bounds-step none (full s n) (bounds-full n)
+  bounds-full (suc n) = bounds-step noPlaces (full s n) (bounds-full n)
 
 -- the full-length run is the run of empty sets
 abbrev pub stillMove : Move
-stillMove = record { reports = none; empties = none }
+stillMove = record { reports = noPlaces; empties = noPlaces }
 
-step-last : (s : Table) (n : ℕ) (b : Book) → run s (step s none b) (replicate n stillMove) ≡ step s none (run s b (replicate n stillMove))
+step-last : (s : Table) (n : ℕ) (b : Book) → run s (step s noPlaces b) (replicate n stillMove) ≡ step s noPlaces (run s b (replicate n stillMove))
 unfolding run emptied
 step-last s zero b = refl
-step-last s (suc n) b = step-last s n (step s none b)
+step-last s (suc n) b = step-last s n (step s noPlaces b)
 
 pub full-run : (s : Table) (n : ℕ) → run s emptyBook (replicate n stillMove) ≡ full s n
 unfolding run full emptied
 full-run s zero = refl
-full-run s (suc n) = step-last s n emptyBook ∙ ap (step s none) (full-run s n)
+full-run s (suc n) = step-last s n emptyBook ∙ ap (step s noPlaces) (full-run s n)
 
 -- in the full-length run no position is withdrawn
 pub full-withdrawn : (s : Table) (n : ℕ) → full s n .withdrawn ≡ 0
@@ -133,14 +133,14 @@ still-emptied s b w = ap (λ (f : ℕ → Bool). emptied s f b) (fun-ext absentT
     absentTask : (p : ℕ) → emptyIn b 0 p ≡ false
     absentTask p = rw (w, bit-none p)
 
-pub still-advance : (s : Table) (b : Book) → b .withdrawn ≡ 0 → advanced s (bit 0) (emptyIn b 0) b ≡ step s none b
+pub still-advance : (s : Table) (b : Book) → b .withdrawn ≡ 0 → advanced s (bit 0) (emptyIn b 0) b ≡ step s noPlaces b
 still-advance s b w = ap₂ (λ (f : ℕ → Bool) (c : Book). step s f c) (fun-ext bit-none) (still-emptied s b w)
 
 -- every job that has ended in a book has had C ticks
 abbrev pub WholeBook : Table → Book → Type 0
 WholeBook s b = (p k : ℕ) → b .job p k .ended ≡ true → task s p .length ≤ b .job p k .had
 
-whole-step : (s : Table) (b : Book) → WholeBook s b → WholeBook s (step s none b)
+whole-step : (s : Table) (b : Book) → WholeBook s b → WholeBook s (step s noPlaces b)
 unfolding step
 whole-step s b w p k =
     step-whole (task s p .length) (served s b p k) (borrowing s b p k) (b .job p k .had) (b .job p k .claimed) (b .job p k .ended) (w p k)

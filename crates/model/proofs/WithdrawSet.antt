@@ -14,7 +14,7 @@ use Rattle.model.proofs.Withdraw.{within-unknown}
 use Rattle.model.specs.Book.{Answer, Book, afterTaken, answer, answersFrom, bookFrom, enter, entered, refused, unknownPosition}
 use Rattle.model.specs.Book.{unknownPositions, taken, withdraw, withdrawAll, withdrawing, withWithdrawn}
 use Rattle.model.specs.Firm.{firm}
-use Rattle.model.specs.Search.{bit, memb}
+use Rattle.model.specs.Search.{bit, member}
 use Rattle.model.specs.Task.{Table}
 use Rattle.model.specs.WithdrawSet.{Enumerates, SetAsSingles, SetBelow, oneByOne}
 
@@ -24,8 +24,8 @@ unfoldable pub members : List ℕ → ℕ
 members [] = 0
 members (q ∷ qs) = bitOr (2 ^ q) (members qs)
 
-pub members-bit : (qs : List ℕ) (i : ℕ) → bit (members qs) i ≡ memb i qs
-unfolding members memb
+pub members-bit : (qs : List ℕ) (i : ℕ) → bit (members qs) i ≡ member i qs
+unfolding members member
 members-bit [] i = bit-none i
 members-bit (q ∷ qs) i = or-bit (2 ^ q) (members qs) i ∙ rw (bit-power q i, members-bit qs i)
 
@@ -45,18 +45,18 @@ or-chain a x y =
 
 -- every place of a list is below n; and so are those of its rest
 abbrev pub Below : ℕ → List ℕ → Type 0
-Below n qs = (q : ℕ) → memb q qs ≡ true → q < n
+Below n qs = (q : ℕ) → member q qs ≡ true → q < n
 
 pub below-just : (n x : ℕ) (qs : List ℕ) → Enumerates x qs → SetBelow n x → Below n qs
 below-just n x qs just h q e = h q (sym (just q) ∙ e)
 
 pub below-first : (n q : ℕ) (qs : List ℕ) → Below n (q ∷ qs) → q < n
-unfolding memb
+unfolding member
 below-first n q qs h = h q (rw (eq-eqb q q refl))
 
 pub below-rest : (n q : ℕ) (qs : List ℕ) → Below n (q ∷ qs) → Below n qs
-unfolding memb
-below-rest n q qs h i e = h i (or-right (eqb i q) (memb i qs) e)
+unfolding member
+below-rest n q qs h i e = h i (or-right (eqb i q) (member i qs) e)
 
 -- ONE BY ONE
 
@@ -132,5 +132,5 @@ withdraw-set s b x = record {
 
 -- of no position: 21 or taken, and the book stays
 pub withdraw-none : (s : Table) (b : Book) → enter s (withdrawAll 0) b ≡ b
-unfolding bookFrom memb
+unfolding bookFrom member
 withdraw-none s b = withdraw-set s b 0 .singles (λ q e. absurd (false≢true (sym (bit-none q) ∙ e))) [] (λ q. sym (bit-none q))

@@ -234,7 +234,7 @@ pub data Answer : Type 0 where
 -- a withdrawal: 21 where the table's rule and widths are not firm; else 22 where one of its positions is not in the table; else taken.
 -- 15 is not tested, nor anything else in the book (`withdraw-taken`, `withdraw-all-taken`)
 abbrev pub withdrawing : Table → Bool → Answer
-withdrawing s strange = cond (firm (s .rule) (s .tasks)) (cond strange (refused 22 0) taken) (refused 21 0)
+withdrawing s unknown = cond (firm (s .rule) (s .tasks)) (cond unknown (refused 22 0) taken) (refused 21 0)
 
 -- an advance: 15 with the lowest late position; else 20 with position 0; else, with the empty jobs ended, 16 with position 0; else taken
 unfoldable pub answer : Table → Book → Entry → Answer
@@ -328,8 +328,8 @@ rowsFrom s b (x ∷ xs) = asked s b (emptiesOf x) ∷ rowsFrom s (enter s x b) x
 -- THE FULL-LENGTH RUN
 
 -- no report, and no empty job
-abbrev pub none : ℕ → Bool
-none p = false
+abbrev pub noPlaces : ℕ → Bool
+noPlaces p = false
 
 -- an advance whose sets are both empty
 abbrev pub noReports : Entry
@@ -339,7 +339,7 @@ noReports = advance 0 0
 -- a miss too; no position is withdrawn. Up to the first miss it is the scope's, the book of n advances whose sets are both empty (`full-length`)
 unfoldable pub full : Table → ℕ → Book
 full s zero = emptyBook
-full s (suc n) = step s none (full s n)
+full s (suc n) = step s noPlaces (full s n)
 
 -- place p of the table misses a deadline in book b: some job with r + D at the book's tick has not ended
 abbrev pub Misses : Table → Book → ℕ → Type 0

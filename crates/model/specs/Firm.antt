@@ -21,6 +21,7 @@ abbrev pub ParallelismMonotonic : List Task → Type 0
 ParallelismMonotonic τs = (p : ℕ) → suc p < length τs → widest (getD τs p absentTask) ≤ narrowest (getD τs (suc p) absentTask)
 
 -- firm is for rules 2, 3 and 4, and for rule 1 where widths never fall: the test (`firm-exact`)
+-- (scope: firm; the field: predictable, sustainable)
 unfoldable pub firm : Rule → List Task → Bool
 firm greedy τs = parallelismMonotonic τs
 firm limited τs = true

@@ -5,7 +5,7 @@ use mathlib.Core.List.{List, [], _∷_, _++_, map}
 use Prim.Native.Nat.{ℕ, zero, suc}
 use lib.ListN.{getD}
 use lib.Dec.{ltb}
-use Rattle.model.specs.Search.{filtered, memb}
+use Rattle.model.specs.Search.{filtered, member}
 use Rattle.model.specs.Task.{Rule, greedy, limited, idling, lending}
 use Rattle.model.specs.Grants.{claimants, grants, some}
 
@@ -39,7 +39,7 @@ lent ws seeks offer (suc n) = lendOnce ws seeks (offer n) n (lent ws seeks offer
 -- core c is in one of the lists
 unfoldable pub among : ℕ → List (List ℕ) → Bool
 among c [] = false
-among c (l ∷ ls) = memb c l || among c ls
+among c (l ∷ ls) = member c l || among c ls
 
 -- the cores of a list that no place borrows
 abbrev pub unlent : List (List ℕ) → List ℕ → List ℕ

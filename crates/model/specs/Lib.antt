@@ -14,5 +14,5 @@ pub mod Sets
 pub mod Compare
 pub mod Horizon
 pub mod Verdict
-pub mod FirmKept
+pub mod FirmGuarantee
 pub mod Local

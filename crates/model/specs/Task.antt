@@ -17,6 +17,7 @@ pub record Task : Type 0 where
   pub evenWidth : ℕ
 
 -- scope, 'The table': the rule is 1 greedy, 2 limited, 3 idling; 4 is lending (request 109)
+-- (scope: lending; the field: slack reclaiming)
 pub data Rule : Type 0 where
   greedy limited idling lending : Rule
 
@@ -25,6 +26,7 @@ abbrev pub ruleOf : ℕ → Rule
 ruleOf n = cond (eqb n 2) limited (cond (eqb n 3) idling (cond (eqb n 4) lending greedy))
 
 -- the tasks in priority order, the core count, the fence (a set of cores, bit c for core c: Fence.antt) and the rule
+-- (scope: fence; the field: reserved processors)
 pub record Table : Type 0 where
   pub tasks : List Task
   pub cores : ℕ

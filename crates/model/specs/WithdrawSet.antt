@@ -5,7 +5,7 @@ use mathlib.Core.Path.{_≡_}
 use Prim.Native.Nat.{_<_, suc, ℕ}
 use lib.ListN.{length, replicate}
 use Rattle.model.specs.Book.{Book, Entry, answer, answersFrom, bookFrom, enter, withdraw, withdrawAll}
-use Rattle.model.specs.Search.{bit, memb}
+use Rattle.model.specs.Search.{bit, member}
 use Rattle.model.specs.Task.{Table}
 
 -- every position of a set is one of the first n
@@ -14,7 +14,7 @@ SetBelow count x = (q : ℕ) → bit x q ≡ true → q < count
 
 -- a list holds just the places of a set, in any order, each once or more often
 abbrev pub Enumerates : ℕ → List ℕ → Type 0
-Enumerates x qs = (q : ℕ) → memb q qs ≡ bit x q
+Enumerates x qs = (q : ℕ) → member q qs ≡ bit x q
 
 -- the positions of these places withdrawn one after another
 abbrev pub oneByOne : List ℕ → List Entry

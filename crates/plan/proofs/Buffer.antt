@@ -11,7 +11,7 @@ use Rattle.model.proofs.Rows.{row-length}
 use Rattle.model.specs.Task.{Table, Task, idling, lending}
 use Rattle.model.specs.Book.{shownOf, bookRow, full}
 use Rattle.plan.specs.Rows.{fullRowsFrom}
-use Rattle.plan.specs.Plan.{over}
+use Rattle.plan.specs.Plan.{withRows}
 
 module _ (s : Table) where
   -- a row has a byte for each core, and n rows have n times as many
@@ -64,13 +64,13 @@ module _ (s : Table) where
           ∙ (drop-drop (s .cores) (n * s .cores) old ∙ ap (λ (k : ℕ). drop k old) (sym (suc-mul n (s .cores)))))
 
   -- THE TICKS. A tick before a writes no row
-  pub over-none : (a tick : ℕ) (old : List ℕ) → tick ≤ a → over s a tick old ≡ old
+  pub over-none : (a tick : ℕ) (old : List ℕ) → tick ≤ a → withRows s a tick old ≡ old
   over-none a tick old h = with-none a (tick - a) old (omega arith)
 
   -- a tick from a on writes its own
   pub over-more :
       (a tick : ℕ) (old bytes : List ℕ) → a ≤ tick → take (s .cores) bytes ≡ bookRow s (full s tick)
-      → paste (over s a tick old) ((tick - a) * s .cores) bytes (s .cores) ≡ over s a (suc tick) old
+      → paste (withRows s a tick old) ((tick - a) * s .cores) bytes (s .cores) ≡ withRows s a (suc tick) old
   over-more a tick old bytes h e =
       let i : tick ≡ a + (tick - a) = omega arith in
       let j : suc (tick - a) ≡ suc tick - a = omega arith in
@@ -94,7 +94,7 @@ module _ (s : Table) where
   -- in the buffer
   pub over-at :
       (a b t c : ℕ) (old : List ℕ) → a ≤ t → t < b → c < s .cores
-      → getD (over s a b old) ((t - a) * s .cores + c) 0 ≡ getD (bookRow s (full s t)) c 0
+      → getD (withRows s a b old) ((t - a) * s .cores + c) 0 ≡ getD (bookRow s (full s t)) c 0
   over-at a b t c old h k l =
       let n : suc (t - a) ≤ b - a = omega arith in
       let e : a + (t - a) ≡ t = omega arith in
@@ -103,12 +103,12 @@ module _ (s : Table) where
       ∙ (rows-at a (b - a) (t - a) c n l ∙ ap (λ (u : ℕ). getD (bookRow s (full s u)) c 0) e)
 
   -- after the last row
-  pub over-past : (a b i : ℕ) (old : List ℕ) → (b - a) * s .cores ≤ i → getD (over s a b old) i 0 ≡ getD old i 0
+  pub over-past : (a b i : ℕ) (old : List ℕ) → (b - a) * s .cores ≤ i → getD (withRows s a b old) i 0 ≡ getD old i 0
   over-past a b i old h =
       let m : ℕ = (b - a) * s .cores in
       let e : i ≡ length (fullRowsFrom s a (b - a)) + (i - m) = omega (arith, rows-length a (b - a)) in
       let f : m + (i - m) ≡ i = omega arith in
-      ap (λ (j : ℕ). getD (over s a b old) j 0) e
+      ap (λ (j : ℕ). getD (withRows s a b old) j 0) e
       ∙ (getD-append-add (fullRowsFrom s a (b - a)) (drop m old) (i - m) 0 ∙ (getD-drop m old (i - m) 0 ∙ ap (λ (j : ℕ). getD old j 0) f))
 
 -- RULE 4: the rows are those of rule 3 (request 109)

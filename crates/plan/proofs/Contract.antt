@@ -22,7 +22,7 @@ use Rattle.judge.proofs.Contract.{same-table}
 use Rattle.plan.specs.declared.Planned.{Planned}
 use Rattle.plan.specs.declared.Planned.the-variants.{Written, Refused}
 use Rattle.plan.specs.Numbers.{NoneApplies, words, eleven, twelve}
-use Rattle.plan.specs.Plan.{byPlan, plannedBy, plannedOf, over, planMeaning, bufferOf, PlanOf}
+use Rattle.plan.specs.Plan.{byPlan, plannedBy, plannedOf, withRows, planMeaning, bufferOf, PlanOf}
 use Rattle.plan.proofs.Late.{miss-decides}
 use Rattle.plan.proofs.Exact.{refused-exact, written-exact}
 use Rattle.plan.proofs.Buffer.{with-length, over-at, over-past}
@@ -72,7 +72,7 @@ module _ (ws : List ℕ) (a b : ℕ) (old new : List ℕ) where
       none : planMeaning v ≡ model.taken → NoneApplies ws a b (length old)
       none x = written-exact ws a b (length old) .0 (sym e ∙ meaning-written v x)
 
-      rows : planMeaning v ≡ model.taken → new ≡ over s a b old
+      rows : planMeaning v ≡ model.taken → new ≡ withRows s a b old
       rows x = f ∙ ap (λ (z : model.Answer). bufferOf z s a b old) x
 
       found : (n p : ℕ) → planMeaning v ≡ model.refused n p → new ≡ old

@@ -22,7 +22,7 @@ pub record Line : Type 0 where
   pub a : ℕ
   pub b : ℕ
   pub lent : List ℕ
-  pub says : Planned
+  pub result : Planned
   pub leaves : List ℕ
 
 -- the value by the definitions of a line's words, a, b and buffer
@@ -35,7 +35,7 @@ worked l =
       a = l .a;
       b = l .b;
       lent = l .lent;
-      says = v;
+      result = v;
       leaves = bufferOf (planMeaning v) (tableOf (l .words)) (l .a) (l .b) (l .lent);
     }
 
@@ -45,10 +45,10 @@ lent n = replicate n 9
 
 -- a buffer of n bytes: what is written over it, and that it is refused by number n and left as found
 abbrev writes : String → List ℕ → ℕ → ℕ → ℕ → List ℕ → Line
-writes s ws a b n new = record { name = s; words = ws; a = a; b = b; lent = lent n; says = Written; leaves = new }
+writes s ws a b n new = record { name = s; words = ws; a = a; b = b; lent = lent n; result = Written; leaves = new }
 
 abbrev refuses : String → List ℕ → ℕ → ℕ → ℕ → ℕ → Line
-refuses s ws a b n number = record { name = s; words = ws; a = a; b = b; lent = lent n; says = Refused number 0; leaves = lent n }
+refuses s ws a b n number = record { name = s; words = ws; a = a; b = b; lent = lent n; result = Refused number 0; leaves = lent n }
 
 -- A under a rule
 abbrev ruledA : ℕ → List ℕ

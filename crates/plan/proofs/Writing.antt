@@ -25,7 +25,7 @@ use Rattle.simulation.specs.TickState.{loadedNumbers}
 use Rattle.simulation.proofs.SameClaimants.{row-same}
 use Rattle.judge.specs.Judged.{loadedTable, Fit}
 use Rattle.judge.proofs.Ticks.{After, front-agree}
-use Rattle.plan.specs.Plan.{over}
+use Rattle.plan.specs.Plan.{withRows}
 use Rattle.plan.proofs.Buffer.{over-none, over-more, with-length}
 
 -- the widths of the table's tasks in a tick, by both widths of each place, where those of the set e are at their second
@@ -55,7 +55,7 @@ none-changed a b c d e = go (eqb a b) refl (eqb c d) refl e
 -- the buffer before a tick: the rows from a on, and after them as found
 pub record Filled (t : Loaded) (a tick at : ℕ) (old out : List ℕ) : Type 0 where
   pub next : at ≡ (tick - a) * t .cores
-  pub bytes : out ≡ over (loadedTable t) a tick old
+  pub bytes : out ≡ withRows (loadedTable t) a tick old
   pub size : length out ≡ length old
 
 pub filled-start : (t : Loaded) (a : ℕ) (old : List ℕ) → Filled t a 0 0 old old
@@ -100,11 +100,11 @@ filled-more t a b tick at at′ old out out′ row f h k enough e ea eo =
     fewer : suc tick - a ≤ b - a
     fewer = omega arith
 
-    new : out′ ≡ over (loadedTable t) a (suc tick) old
+    new : out′ ≡ withRows (loadedTable t) a (suc tick) old
     new =
         eo
         ∙ (ap (λ (l : List ℕ). paste l at row (t .cores)) (f .bytes)
-        ∙ (ap (λ (n : ℕ). paste (over (loadedTable t) a tick old) n row (t .cores)) (f .next)
+        ∙ (ap (λ (n : ℕ). paste (withRows (loadedTable t) a tick old) n row (t .cores)) (f .next)
         ∙ over-more (loadedTable t) a tick old row h e))
 
 -- THE ROW

@@ -38,8 +38,8 @@ unfoldable pub plannedOf : List ℕ → ℕ → ℕ → ℕ → Planned
 plannedOf ws a b bytes = plannedBy (answerOf ws) (byPlan (tableOf ws) a b bytes)
 
 -- the rows over the first bytes of the buffer, and after the last row the bytes as found
-abbrev pub over : Table → ℕ → ℕ → List ℕ → List ℕ
-over s a b old = rowsOf s a b ++ drop ((b - a) * s .cores) old
+abbrev pub withRows : Table → ℕ → ℕ → List ℕ → List ℕ
+withRows s a b old = rowsOf s a b ++ drop ((b - a) * s .cores) old
 
 -- the meaning of each case: taken where the rows are written, or refused with number and position
 abbrev pub planMeaning : Planned → model.Answer
@@ -48,7 +48,7 @@ planMeaning (Refused n p) = model.refused n p
 
 -- the buffer afterwards: the rows where the plan is taken, and as found in a refusal
 abbrev pub bufferOf : model.Answer → Table → ℕ → ℕ → List ℕ → List ℕ
-bufferOf model.taken s a b old = over s a b old
+bufferOf model.taken s a b old = withRows s a b old
 bufferOf (model.refused n p) s a b old = old
 
 -- the contract of the answer v to the words, a and b with a buffer that was `old` and is `new`

@@ -8,7 +8,7 @@ ghost use Rattle.model.specs.Search.{any};
 ghost use Rattle.model.specs.Verdict.{missedIn};
 ghost use Rattle.model.specs.Sizes.{mostCores};
 ghost use Rattle.judge.specs.Judged.{loadedTable, Fit};
-ghost use Rattle.plan.specs.Plan.{over};
+ghost use Rattle.plan.specs.Plan.{withRows};
 use model::ROW;
 use table::Loaded;
 
@@ -27,7 +27,7 @@ fn put(row: [u8; ROW], count: usize, at: usize, out: &mut [u8])
 // Writes rows `a` up to but not including `b` of a full-length run that meets every deadline before `b`.
 pub(crate) fn write(table: Loaded, a: u32, b: u32, out: &mut [u8])
     requires { ⌜ Fit table × (table .cores ≤ mostCores) × (b ≤ table .horizon) × (any b (missedIn (loadedTable table)) ≡ false) × ((b - a) * table .cores ≤ length (now out)) ⌝ }
-    ensures { λ _. ⌜ now (out .exit) ≡ over (loadedTable table) a b (now (out .entry)) ⌝ }
+    ensures { λ _. ⌜ now (out .exit) ≡ withRows (loadedTable table) a b (now (out .entry)) ⌝ }
 {
     let cores = table.cores as usize;
     let columns = simulation::columns::columns_of(table);

@@ -14,7 +14,7 @@ use Rattle.model.proofs.Bools.{not-false-true}
 use Rattle.model.proofs.Starts.{hyperperiod-pos}
 use Rattle.model.specs.Horizon.{horizon}
 use Rattle.model.specs.Task.{AllValid, Table}
-use Rattle.plan_check.specs.Answers.{ValidBefore, DeadlineMissed, PlanOutcome, OutcomeFor, accepts, all-valid, bad, late, late-end, past, phases, refuses, size, too-few, unfinished}
+use Rattle.plan_check.specs.Answers.{ValidBefore, DeadlineMissed, PlanOutcome, OutcomeFor, accepts, all-valid, bad, missed-deadline, late-end, past, phases, refuses, size, too-few, unfinished}
 use Rattle.plan_check.proofs.PlanBook.{Answer, PlanBook, accepted, after, planBookAnswer, check, checkFrom, finalBookAnswer, differs, faulty, lateNow, refused, takeRow}
 use Rattle.plan_check.specs.Plan.{Agree, ValidRow, rowAt}
 use Rattle.plan_check.proofs.Meets.{agree-differs, differs-agree, valid-right, late-found, late-not, not-late, right-valid}
@@ -103,7 +103,7 @@ module _ (s : Table) (ok : AllValid s) (rows : List (List ℕ)) where
       ap (λ x. on x h) (end-last s r (suc h) q (subst (Closing s r) (sym q) (closing n a)))
       ∙ ap (λ (l : List (List ℕ)). after (accepted (planBookAt s r (suc h))) l (λ next. checkFrom s next l)) (drop-cons rows (suc h) [] (omega arith)))
   outcome-check o (size t h l b n) = at-row t 11 0 h l b (row-11 t h n)
-  outcome-check o (late t h l b e x) = at-row t 25 t h l b (row-25 t h e x)
+  outcome-check o (missed-deadline t h l b e x) = at-row t 25 t h l b (row-25 t h e x)
   outcome-check o (bad t h l b e n f) =
       at-row t 24 t h l b (row-24 t h e n
       (not-false-true (faulty s t (owedAt s r t) (r t)) (λ q. f (right-valid s ok r t (none-upto t b n) e q))))
@@ -151,7 +151,7 @@ module _ (s : Table) (ok : AllValid s) (rows : List (List ℕ)) where
       go false f false g z i w j ih =
           unfold Answered in (refuses 11 0, size t (omega arith) (omega (arith, eqb-false t (length rows) f)) b (eqb-false (length (r t)) (s .cores) g))
       go false f true g true i w j ih =
-          unfold Answered in (refuses 25 t, late t (omega arith) (omega (arith, eqb-false t (length rows) f)) b (eqb-true (length (r t)) (s .cores) g) (late-job s ok r t i))
+          unfold Answered in (refuses 25 t, missed-deadline t (omega arith) (omega (arith, eqb-false t (length rows) f)) b (eqb-true (length (r t)) (s .cores) g) (late-job s ok r t i))
       go false f true g false i true j ih =
           unfold Answered in (
             refuses 24 t,

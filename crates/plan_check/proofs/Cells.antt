@@ -13,7 +13,7 @@ use Rattle.model.proofs.Bools.{and-right, not-true-false}
 use Rattle.model.specs.Fence.{unfenced}
 use Rattle.model.specs.Grants.{Claimant, fits, given, grants, left, some}
 use Rattle.model.specs.Row.{byteOf, owner, row}
-use Rattle.model.specs.Search.{bit, memb, upFrom}
+use Rattle.model.specs.Search.{bit, member, upFrom}
 use Rattle.model.specs.Sizes.{fencedByte}
 use Rattle.model.specs.Task.{Rule, Table}
 use Rattle.cores.proofs.Ascending.{Range, getD-up, memb-below, memb-kept, range-kept, range-take, range-up, range-weaken}
@@ -24,7 +24,7 @@ use Rattle.plan_check.specs.Plan.{UnknownByte, cellCount}
 owner-low : (c p : ℕ) (gs : List (List ℕ)) → (owner c p gs ≡ 0) ⊎ (p ≤ owner c p gs)
 unfolding owner
 owner-low c p [] = inl refl
-owner-low c p (g ∷ gs) = go (memb c g) (owner-low c (suc p) gs)
+owner-low c p (g ∷ gs) = go (member c g) (owner-low c (suc p) gs)
   where
     go : (b : Bool) → (owner c (suc p) gs ≡ 0) ⊎ (suc p ≤ owner c (suc p) gs) → (cond b p (owner c (suc p) gs) ≡ 0) ⊎ (p ≤ cond b p (owner c (suc p) gs))
     go true x = inr (le-refl p)
@@ -34,44 +34,44 @@ owner-low c p (g ∷ gs) = go (memb c g) (owner-low c (suc p) gs)
 pub owner-most : (c p : ℕ) (gs : List (List ℕ)) → owner c (suc p) gs ≤ p + length gs
 unfolding owner
 owner-most c p [] = omega arith
-owner-most c p (g ∷ gs) = go (memb c g) (owner-most c (suc p) gs)
+owner-most c p (g ∷ gs) = go (member c g) (owner-most c (suc p) gs)
   where
     go : (b : Bool) → owner c (suc (suc p)) gs ≤ suc p + length gs → cond b (suc p) (owner c (suc (suc p)) gs) ≤ p + suc (length gs)
     go true x = omega arith
     go false x = omega arith
 
 -- where no core is in two lists, a core shows a place exactly if it is in that place's list
-pub owner-is : (c q : ℕ) (gs : List (List ℕ)) → Apart gs → (p : ℕ) → eqb (owner c (suc q) gs) (suc (q + p)) ≡ memb c (getD gs p [])
-unfolding owner memb
+pub owner-is : (c q : ℕ) (gs : List (List ℕ)) → Apart gs → (p : ℕ) → eqb (owner c (suc q) gs) (suc (q + p)) ≡ member c (getD gs p [])
+unfolding owner member
 owner-is c q [] a p = ne-eqb 0 (suc (q + p)) (λ e. omega arith)
-owner-is c q (g ∷ gs) a zero = go (memb c g) refl (owner-low c (suc (suc q)) gs)
+owner-is c q (g ∷ gs) a zero = go (member c g) refl (owner-low c (suc (suc q)) gs)
   where
-    go : (b : Bool) → memb c g ≡ b → (owner c (suc (suc q)) gs ≡ 0) ⊎ (suc (suc q) ≤ owner c (suc (suc q)) gs)
+    go : (b : Bool) → member c g ≡ b → (owner c (suc (suc q)) gs ≡ 0) ⊎ (suc (suc q) ≤ owner c (suc (suc q)) gs)
         → eqb (cond b (suc q) (owner c (suc (suc q)) gs)) (suc (q + 0)) ≡ b
     go true e x = eq-eqb (suc q) (suc (q + 0)) (omega arith)
     go false e (inl x) = ne-eqb (owner c (suc (suc q)) gs) (suc (q + 0)) (λ e. omega arith)
     go false e (inr x) = ne-eqb (owner c (suc (suc q)) gs) (suc (q + 0)) (λ e. omega arith)
-owner-is c q (g ∷ gs) a (suc p) = go (memb c g) refl (owner-is c (suc q) gs (λ c i j l. a c (suc i) (suc j) (omega arith)) p)
+owner-is c q (g ∷ gs) a (suc p) = go (member c g) refl (owner-is c (suc q) gs (λ c i j l. a c (suc i) (suc j) (omega arith)) p)
   where
-    go : (b : Bool) → memb c g ≡ b → eqb (owner c (suc (suc q)) gs) (suc (suc q + p)) ≡ memb c (getD gs p [])
-        → eqb (cond b (suc q) (owner c (suc (suc q)) gs)) (suc (q + suc p)) ≡ memb c (getD gs p [])
+    go : (b : Bool) → member c g ≡ b → eqb (owner c (suc (suc q)) gs) (suc (suc q + p)) ≡ member c (getD gs p [])
+        → eqb (cond b (suc q) (owner c (suc (suc q)) gs)) (suc (q + suc p)) ≡ member c (getD gs p [])
     go true e ih =
         ne-eqb (suc q) (suc (q + suc p)) (λ e. omega arith)
-        ∙ sym (not-true-false (memb c (getD gs p [])) (λ k. a c 0 (suc p) (omega arith) e k))
-    go false e ih = subst (λ (n : ℕ). eqb (owner c (suc (suc q)) gs) (suc n) ≡ memb c (getD gs p [])) (omega arith) ih
+        ∙ sym (not-true-false (member c (getD gs p [])) (λ k. a c 0 (suc p) (omega arith) e k))
+    go false e ih = subst (λ (n : ℕ). eqb (owner c (suc (suc q)) gs) (suc n) ≡ member c (getD gs p [])) (omega arith) ih
 
 -- counting the numbers from i up that are in an ascending list
 count-list :
-    (f : ℕ → ℕ) (b i n : ℕ) (g : List ℕ) → Range i (i + n) g → ((c : ℕ) → i ≤ c → eqb (f c) b ≡ memb c g)
+    (f : ℕ → ℕ) (b i n : ℕ) (g : List ℕ) → Range i (i + n) g → ((c : ℕ) → i ≤ c → eqb (f c) b ≡ member c g)
     → cellCount b (map f (upFrom i n)) ≡ length g
 unfolding cellCount upFrom
 count-list f b i zero [] o h = refl
 count-list f b i zero (x ∷ g) o h = absurd (omega (arith, o .0, o .1))
 count-list f b i (suc n) [] o h = none (h i (le-refl i)) (count-list f b (suc i) n [] tt (λ c l. h c (omega arith)))
   where
-    none : eqb (f i) b ≡ memb i [] → cellCount b (map f (upFrom (suc i) n)) ≡ 0
+    none : eqb (f i) b ≡ member i [] → cellCount b (map f (upFrom (suc i) n)) ≡ 0
         → cond (eqb (f i) b) (suc (cellCount b (map f (upFrom (suc i) n)))) (cellCount b (map f (upFrom (suc i) n))) ≡ 0
-    none e ih = unfold memb in rw e ih
+    none e ih = unfold member in rw e ih
 count-list f b i (suc n) (x ∷ g) o h =
     ⊎-elim
     (λ (e : i ≡ x). at e (count-list f b (suc i) n g (here e) (λ c l. beyond e c l)))
@@ -84,12 +84,12 @@ count-list f b i (suc n) (x ∷ g) o h =
     later : i < x → Range (suc i) (suc i + n) (x ∷ g)
     later e = (e, omega (arith, o .1), range-weaken g (le-refl (suc x)) (omega arith) (o .2))
 
-    beyond : i ≡ x → (c : ℕ) → suc i ≤ c → eqb (f c) b ≡ memb c g
-    beyond e c l = h c (omega arith) ∙ (unfold memb in rw (ne-eqb c x (λ q. omega arith)))
+    beyond : i ≡ x → (c : ℕ) → suc i ≤ c → eqb (f c) b ≡ member c g
+    beyond e c l = h c (omega arith) ∙ (unfold member in rw (ne-eqb c x (λ q. omega arith)))
 
     at : i ≡ x → cellCount b (map f (upFrom (suc i) n)) ≡ length g
         → cond (eqb (f i) b) (suc (cellCount b (map f (upFrom (suc i) n)))) (cellCount b (map f (upFrom (suc i) n))) ≡ suc (length g)
-    at e ih = let stands : memb i (x ∷ g) ≡ true = unfold memb in rw (eq-eqb i x e) in rw (h i (le-refl i) ∙ stands) (ap suc ih)
+    at e ih = let stands : member i (x ∷ g) ≡ true = unfold member in rw (eq-eqb i x e) in rw (h i (le-refl i) ∙ stands) (ap suc ih)
 
     past : i < x → cellCount b (map f (upFrom (suc i) n)) ≡ suc (length g)
         → cond (eqb (f i) b) (suc (cellCount b (map f (upFrom (suc i) n)))) (cellCount b (map f (upFrom (suc i) n))) ≡ suc (length g)
@@ -119,18 +119,18 @@ module _ (r : Rule) (bs : List Claimant) (fence m p : ℕ) (few : suc p < fenced
   free = range-kept (λ c. not (bit fence c)) 0 m (upFrom 0 m) (range-up 0 m m (omega arith))
 
   -- a fenced core is given to no place
-  fenced-none : (c : ℕ) → bit fence c ≡ true → memb c (getD gs p []) ≡ false
-  fenced-none c e = not-true-false (memb c (getD gs p [])) (λ h.
+  fenced-none : (c : ℕ) → bit fence c ≡ true → member c (getD gs p []) ≡ false
+  fenced-none c e = not-true-false (member c (getD gs p [])) (λ h.
       true≢false
-      (sym (and-right (memb c (upFrom 0 m)) (not (bit fence c)) (sym (memb-kept (λ c. not (bit fence c)) c (upFrom 0 m)) ∙ in-grants r c bs (unfenced fence m) p h))
+      (sym (and-right (member c (upFrom 0 m)) (not (bit fence c)) (sym (memb-kept (λ c. not (bit fence c)) c (upFrom 0 m)) ∙ in-grants r c bs (unfenced fence m) p h))
       ∙ ap not e))
 
-  byte-is : (c : ℕ) → eqb (byteOf fence gs c) (suc p) ≡ memb c (getD gs p [])
+  byte-is : (c : ℕ) → eqb (byteOf fence gs c) (suc p) ≡ member c (getD gs p [])
   byte-is c = go (bit fence c) refl
     where
-      go : (b : Bool) → bit fence c ≡ b → eqb (cond b fencedByte (owner c 1 gs)) (suc p) ≡ memb c (getD gs p [])
+      go : (b : Bool) → bit fence c ≡ b → eqb (cond b fencedByte (owner c 1 gs)) (suc p) ≡ member c (getD gs p [])
       go true e = ne-eqb fencedByte (suc p) (λ q. omega arith) ∙ sym (fenced-none c e)
-      go false e = subst (λ (n : ℕ). eqb (owner c 1 gs) (suc n) ≡ memb c (getD gs p [])) (omega arith) (owner-is c 0 gs (apart r m bs (unfenced fence m) free) p)
+      go false e = subst (λ (n : ℕ). eqb (owner c 1 gs) (suc n) ≡ member c (getD gs p [])) (omega arith) (owner-is c 0 gs (apart r m bs (unfenced fence m) free) p)
 
   pub row-cells : cellCount (suc p) (row fence m gs) ≡ length (getD gs p [])
   unfolding row

@@ -24,7 +24,7 @@ use Rattle.plan_check.specs.Numbers.{differs, missed, stateOut}
 use Rattle.plan_check.specs.Plan.{cellCount, phaseBy, repeated, rowAt, ticks}
 use Rattle.plan_check.specs.Row.{faulty, anyUnknownByte, workedRow}
 use Rattle.plan_check.specs.RowAnswer.{RowAnswer, accepted, refused, taken}
-use Rattle.plan_check.specs.Take.{answerAt, finalAnswer, takeAnswer, takeOf}
+use Rattle.plan_check.specs.CheckRow.{answerAt, finalAnswer, checkRowAnswer, checkRowOf}
 
 -- a line: its name, the words of a table and a list of rows; what each row is answered, and what the list comes to
 pub record Line : Type 0 where
@@ -199,7 +199,7 @@ lines =
 
 -- every line is its value by the definitions, line by line
 computed : LineByLine computes lines lines
-unfolding rowAnswersFrom outcomeFrom beginOf takeOf takeAnswer answerAt finalAnswer differs missed stateOut faulty anyUnknownByte workedRow cellCount startedRun mapFirst runOut pastCount
+unfolding rowAnswersFrom outcomeFrom beginOf checkRowOf checkRowAnswer answerAt finalAnswer differs missed stateOut faulty anyUnknownByte workedRow cellCount startedRun mapFirst runOut pastCount
     answerOf byWalk byTasks byHorizon firstOut endingOf lastStep headerNumber tableOf chain count visited computing
 computed =
     let past-42 : LineByLine computes (drop 42 lines) (drop 42 lines) =

@@ -1,5 +1,5 @@
 -- A plan taken row by row on the table alone, by the ticks owed to each place: a plan book between rows, the answer to each, and the answer to a list. The
--- theorems go through it; the states of `take` have its answers: `TakeAnswers`.
+-- theorems go through it; the states of `check_row` have its answers: `TakeAnswers`.
 use mathlib.Core.Bool.{_&&_, Bool, cond, not, _||_}
 use mathlib.Core.List.{List, [], _∷_}
 use Prim.Native.Nat.{_-_, suc, ℕ}

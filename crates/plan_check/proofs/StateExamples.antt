@@ -31,7 +31,7 @@ use Rattle.plan_check.specs.Plan.{cellCount}
 use Rattle.plan_check.specs.Row.{faulty, anyUnknownByte, workedRow}
 use Rattle.plan_check.specs.RowAnswer.{RowAnswer, accepted, refused, taken, rowAnswerMeaning}
 use Rattle.plan_check.specs.State.{blank, note}
-use Rattle.plan_check.specs.Take.{answerAt, finalAnswer, takeAnswer, takeOf}
+use Rattle.plan_check.specs.CheckRow.{answerAt, finalAnswer, checkRowAnswer, checkRowOf}
 
 -- STATES
 
@@ -77,7 +77,7 @@ pub record Line : Type 0 where
   pub name : String
   pub before : SuppliedPlan
   pub row : List ℕ
-  pub says : RowAnswer
+  pub result : RowAnswer
   pub after : Shows
 
 abbrev pub computes : Line → Line
@@ -85,18 +85,18 @@ computes l = record {
   name = l .name;
   before = l .before;
   row = l .row;
-  says = rowAnswerMeaning (takeOf (l .before) (l .row) .answer);
-  after = shows (takeOf (l .before) (l .row) .plan);
+  result = rowAnswerMeaning (checkRowOf (l .before) (l .row) .answer);
+  after = shows (checkRowOf (l .before) (l .row) .plan);
 }
 
 -- turned down, the state as given
 abbrev turns : String → ℕ → ℕ → SuppliedPlan → List ℕ → Line
-turns name n t w row = record { name = name; before = w; row = row; says = refused n t; after = shows w }
+turns name n t w row = record { name = name; before = w; row = row; result = refused n t; after = shows w }
 
 -- taken or accepted, and then so
 abbrev goes : String → RowAnswer → SuppliedPlan → List ℕ → ℕ → List Phase → List Bool → List Phase → Line
 goes name a w row t phs es ns =
-    record { name = name; before = w; row = row; says = a; after = record { tick = t; phases = phs; evens = es; noted = ns } }
+    record { name = name; before = w; row = row; result = a; after = record { tick = t; phases = phs; evens = es; noted = ns } }
 
 -- one core, a task (0,1,2,4,4): the last S is 0, the horizon 4. Its phase, the tick, what is recorded
 abbrev one : Phase → ℕ → Phase → SuppliedPlan
@@ -193,7 +193,7 @@ lines =
 
 -- every line is its value by the definitions, line by line
 computed : LineByLine computes lines lines
-unfolding takeOf takeAnswer answerAt finalAnswer differs missed stateOut faulty anyUnknownByte workedRow cellCount mapFirst runOut pastCount computing
+unfolding checkRowOf checkRowAnswer answerAt finalAnswer differs missed stateOut faulty anyUnknownByte workedRow cellCount mapFirst runOut pastCount computing
 computed =
     let past-42 : LineByLine computes (drop 42 lines) (drop 42 lines) =
     (refl, (refl, (refl, (refl, (refl, (refl, (refl, tt))))))) in
@@ -239,10 +239,10 @@ beyond t ns = record {
 
 -- any number returns the whole state; a row that is taken, and notes, leaves what is past the count
 pub rest-stays :
-    (takeOf (one (Working 3 0 0) 3 (Working 0 0 0)) (1 ∷ []) .plan ≡ one (Working 3 0 0) 3 (Working 0 0 0))
-    × (drop 1 (takeOf (beyond 1 (Resting 0 ∷ Holding 8 8 ∷ [])) (0 ∷ []) .plan .run .tasks) ≡ at 7 7 7 7 (Holding 7 7) ∷ replicate 30 unused)
-    × (takeOf (beyond 1 (Resting 0 ∷ Holding 8 8 ∷ [])) (0 ∷ []) .plan .noted ≡ notes (Working 0 0 0 ∷ Holding 8 8 ∷ []))
-unfolding takeOf takeAnswer answerAt finalAnswer differs missed stateOut faulty anyUnknownByte workedRow cellCount mapFirst runOut pastCount computing
+    (checkRowOf (one (Working 3 0 0) 3 (Working 0 0 0)) (1 ∷ []) .plan ≡ one (Working 3 0 0) 3 (Working 0 0 0))
+    × (drop 1 (checkRowOf (beyond 1 (Resting 0 ∷ Holding 8 8 ∷ [])) (0 ∷ []) .plan .run .tasks) ≡ at 7 7 7 7 (Holding 7 7) ∷ replicate 30 unused)
+    × (checkRowOf (beyond 1 (Resting 0 ∷ Holding 8 8 ∷ [])) (0 ∷ []) .plan .noted ≡ notes (Working 0 0 0 ∷ Holding 8 8 ∷ []))
+unfolding checkRowOf checkRowAnswer answerAt finalAnswer differs missed stateOut faulty anyUnknownByte workedRow cellCount mapFirst runOut pastCount computing
 rest-stays = (refl, refl, refl)
 
 -- BEGINNINGS: the words of a table, what is answered, and the state
@@ -250,11 +250,11 @@ rest-stays = (refl, refl, refl)
 pub record Beginning : Type 0 where
   pub name : String
   pub words : List ℕ
-  pub says : book.Answer
+  pub result : book.Answer
   pub plan : Shows
 
 abbrev pub begins : Beginning → Beginning
-begins l = record { name = l .name; words = l .words; says = loadMeaning (beginOf (l .words) .answer); plan = shows (beginOf (l .words) .plan) }
+begins l = record { name = l .name; words = l .words; result = loadMeaning (beginOf (l .words) .answer); plan = shows (beginOf (l .words) .plan) }
 
 -- a table of one task on one core under rule 1
 abbrev alone : ℕ → ℕ → ℕ → ℕ → List ℕ
@@ -264,7 +264,7 @@ abbrev begun : String → List ℕ → Phase → Phase → Beginning
 begun name ws ph n = record {
   name = name;
   words = ws;
-  says = book.taken;
+  result = book.taken;
   plan = record { tick = 0; phases = ph ∷ []; evens = false ∷ []; noted = n ∷ [] };
 }
 
@@ -272,7 +272,7 @@ abbrev no-plan : String → List ℕ → ℕ → ℕ → Beginning
 no-plan name ws n p = record {
   name = name;
   words = ws;
-  says = book.refused n p;
+  result = book.refused n p;
   plan = record { tick = 0; phases = []; evens = []; noted = [] };
 }
 
@@ -294,6 +294,6 @@ pub begin-examples : map begins beginnings ≡ beginnings
 begin-examples = by-line begins beginnings beginnings begun-computed
 
 -- a refused beginning leaves what 14 turns down
-pub refused-then : rowAnswerMeaning (takeOf (beginOf [] .plan) (0 ∷ []) .answer) ≡ refused 14 0
-unfolding takeOf takeAnswer stateOut runOut beginOf answerOf headerNumber computing
+pub refused-then : rowAnswerMeaning (checkRowOf (beginOf [] .plan) (0 ∷ []) .answer) ≡ refused 14 0
+unfolding checkRowOf checkRowAnswer stateOut runOut beginOf answerOf headerNumber computing
 refused-then = refl

@@ -1,4 +1,4 @@
--- A STATE OF `take` AND THE ROWS BEFORE IT: their relation, from the beginning on, and that the tests of such a state are the plan book's up to the first
+-- A STATE OF `check_row` AND THE ROWS BEFORE IT: their relation, from the beginning on, and that the tests of such a state are the plan book's up to the first
 -- fault.
 use mathlib.Core.Bool.{_&&_, Bool, cond, false, false≢true, not, true, true≢false, _||_}
 use mathlib.Core.List.{List, map}

@@ -1,4 +1,4 @@
--- THE ANSWERS OF `take` ARE THE PLAN BOOK'S: from the beginning of a table's words that pass, row after row, up to the first fault.
+-- THE ANSWERS OF `check_row` ARE THE PLAN BOOK'S: from the beginning of a table's words that pass, row after row, up to the first fault.
 use mathlib.Core.Bool.{Bool, cond, false, not, true, true≢false}
 use mathlib.Core.List.{List, [], _++_, _∷_}
 use mathlib.Core.Path.{ap, refl, subst, sym, _∙_, _≡_}
@@ -20,7 +20,7 @@ use Rattle.plan_check.specs.Plan.{rowAt}
 use Rattle.plan_check.specs.Row.{faulty}
 use Rattle.plan_check.specs.RowAnswer.{RowAnswer, accepted, stateByAnswer, refused, taken, rowAnswerMeaning}
 use Rattle.plan_check.specs.State.{horizonIn}
-use Rattle.plan_check.specs.Take.{answerAt, finalAnswer, takeAnswer, takeOf}
+use Rattle.plan_check.specs.CheckRow.{answerAt, finalAnswer, checkRowAnswer, checkRowOf}
 use Rattle.plan_check.specs.declared.Answer.{Answer}
 use Rattle.plan_check.specs.declared.Answer.the-variants.{Accepted, Refused, Taken}
 use Rattle.plan_check.specs.declared.SuppliedPlan.{SuppliedPlan}
@@ -70,13 +70,13 @@ module _ (s : Table) (ok : AllValid s) (near : horizonOut (horizon s) ≡ false)
         cond (not (eqb (length row) (s .cores))) (Refused 11 0)
         (cond (missed (w .run)) (Refused 25 t) (cond (faulty (w .run) row) (Refused 24 t) (answerAt (afterRow w row))))
 
-    answer-by : (row : List ℕ) → takeAnswer w row ≡ cond (leb H t) (Refused 10 0) (from-11 row)
-    unfolding takeAnswer
+    answer-by : (row : List ℕ) → checkRowAnswer w row ≡ cond (leb H t) (Refused 10 0) (from-11 row)
+    unfolding checkRowAnswer
     answer-by row =
         rw (state-passes (w .run) (x .passes), same-horizon, near, x .tick, ap (λ (y : Table). y .cores) (x .table))
 
     -- past the horizon it is 10
-    pub past-ten : H ≤ t → (row : List ℕ) → takeAnswer w row ≡ Refused 10 0
+    pub past-ten : H ≤ t → (row : List ℕ) → checkRowAnswer w row ≡ Refused 10 0
     past-ten h row = answer-by row ∙ ap (λ (b : Bool). cond b (Refused 10 0) (from-11 row)) (le-leb H t h)
 
     -- after the row before t
@@ -112,7 +112,7 @@ module _ (s : Table) (ok : AllValid s) (near : horizonOut (horizon s) ≡ false)
 
   -- THE ANSWER TO THE ROW OF TICK t
   pub same-answer :
-      (t : ℕ) (w : SuppliedPlan) → StateRelated s ok r t w → Good s ok r t → rowAnswerMeaning (takeAnswer w (r t)) ≡ kind (takeRow s (planBookAt s r t) (r t))
+      (t : ℕ) (w : SuppliedPlan) → StateRelated s ok r t w → Good s ok r t → rowAnswerMeaning (checkRowAnswer w (r t)) ≡ kind (takeRow s (planBookAt s r t) (r t))
   same-answer t w x g =
       ap rowAnswerMeaning (answer-by t w x (r t)) ∙ (unfold takeRow in rw (missed-same s ok r t w x g, next-plan-book s r t)
       (go (leb H t) (eqb (length (r t)) (s .cores)) refl (lateNow s t (owedAt s r t)) refl (planBook.faulty s t (owedAt s r t) (r t)) refl))
@@ -141,14 +141,14 @@ module _ (s : Table) (ok : AllValid s) (near : horizonOut (horizon s) ≡ false)
 
   -- the answer to the first of the rows from t on, and to the rest of them
   answers-on : (t : ℕ) (w : SuppliedPlan) → t < length rows
-      → rowAnswersFrom w (drop t rows) ≡ rowAnswerMeaning (takeAnswer w (r t)) ∷ rowAnswersFrom (stateByAnswer (takeAnswer w (r t)) (afterRow w (r t)) w) (drop (suc t) rows)
-  unfolding rowAnswersFrom takeOf
+      → rowAnswersFrom w (drop t rows) ≡ rowAnswerMeaning (checkRowAnswer w (r t)) ∷ rowAnswersFrom (stateByAnswer (checkRowAnswer w (r t)) (afterRow w (r t)) w) (drop (suc t) rows)
+  unfolding rowAnswersFrom checkRowOf
   answers-on t w h = rw (drop-cons rows t [] h)
 
   -- rows after an accepted one are past the horizon
   after-last : (t : ℕ) (w : SuppliedPlan) → StateRelated s ok r t w → H ≤ t → (l : List (List ℕ)) (st : planBook.PlanBook)
       → outcomeFrom accepts (rowAnswersFrom w l) ≡ after (planBook.accepted st) l (λ next. checkFrom s next l)
-  unfolding rowAnswersFrom takeOf outcomeFrom
+  unfolding rowAnswersFrom checkRowOf outcomeFrom
   after-last t w x h [] st = refl
   after-last t w x h (row ∷ l) st = rw (past-ten t w x h row)
 
@@ -168,19 +168,19 @@ module _ (s : Table) (ok : AllValid s) (near : horizonOut (horizon s) ≡ false)
       on : Ok s r t → missed (w .run) ≡ false
       on o = missed-same s ok r t w x g ∙ o .on-time
 
-      go : (a : planBook.Answer) → Case s r t a → rowAnswerMeaning (takeAnswer w (r t)) ≡ kind a
+      go : (a : planBook.Answer) → Case s r t a → rowAnswerMeaning (checkRowAnswer w (r t)) ≡ kind a
           → (StateRelated s ok r (suc t) (afterRow w (r t)) → Good s ok r (suc t)
           → outcomeFrom unfinished (rowAnswersFrom (afterRow w (r t)) rest) ≡ checkFrom s (planBookAt s r (suc t)) rest)
-          → outcomeFrom unfinished (rowAnswerMeaning (takeAnswer w (r t)) ∷ rowAnswersFrom (stateByAnswer (takeAnswer w (r t)) (afterRow w (r t)) w) rest)
+          → outcomeFrom unfinished (rowAnswerMeaning (checkRowAnswer w (r t)) ∷ rowAnswersFrom (stateByAnswer (checkRowAnswer w (r t)) (afterRow w (r t)) w) rest)
           ≡ after a rest (λ next. checkFrom s next rest)
       go a (fault m u f) q ih = rw (q, f)
       go a (goes o h f) q ih =
-          let said : rowAnswerMeaning (takeAnswer w (r t)) ≡ taken = q ∙ ap kind f in
-          rw (taken-plan (takeAnswer w (r t)) (afterRow w (r t)) w said, said, f)
+          let said : rowAnswerMeaning (checkRowAnswer w (r t)) ≡ taken = q ∙ ap kind f in
+          rw (taken-plan (checkRowAnswer w (r t)) (afterRow w (r t)) w said, said, f)
           (ih (next-related s ok r t w x (on o)) (good-next t g o))
       go a (last o h c f) q ih =
-          let said : rowAnswerMeaning (takeAnswer w (r t)) ≡ accepted = q ∙ ap kind f in
-          rw (accepted-plan (takeAnswer w (r t)) (afterRow w (r t)) w said, said, f)
+          let said : rowAnswerMeaning (checkRowAnswer w (r t)) ≡ accepted = q ∙ ap kind f in
+          rw (accepted-plan (checkRowAnswer w (r t)) (afterRow w (r t)) w said, said, f)
           (after-last (suc t) (afterRow w (r t)) (next-related s ok r t w x (on o)) (omega arith) rest (planBookAt s r (suc t)))
 
   -- where all goes well ..
@@ -190,7 +190,7 @@ module _ (s : Table) (ok : AllValid s) (near : horizonOut (horizon s) ≡ false)
 
     row-answered :
         (t : ℕ) (w : SuppliedPlan) → t < H → StateRelated s ok r t w → (b : RowAnswer) → kind (planBook.planBookAnswer s (planBookAt s r (suc t))) ≡ b
-        → rowAnswerMeaning (takeAnswer w (r t)) ≡ b
+        → rowAnswerMeaning (checkRowAnswer w (r t)) ≡ b
     row-answered t w h x b f = same-answer t w x (all-good t (omega arith)) ∙ (ap kind (take-ok s r t h (a .ok t (omega arith) h)) ∙ f)
 
     row-on : (t : ℕ) (w : SuppliedPlan) → t < H → StateRelated s ok r t w → StateRelated s ok r (suc t) (afterRow w (r t))
@@ -200,12 +200,12 @@ module _ (s : Table) (ok : AllValid s) (near : horizonOut (horizon s) ≡ false)
     pub all-taken : (n t : ℕ) (w : SuppliedPlan) → t + suc n ≡ H → StateRelated s ok r t w → rowAnswersFrom w (drop t rows) ≡ replicate n taken ++ (accepted ∷ [])
     unfolding rowAnswersFrom
     all-taken zero t w q x =
-        let f : rowAnswerMeaning (takeAnswer w (r t)) ≡ accepted =
+        let f : rowAnswerMeaning (checkRowAnswer w (r t)) ≡ accepted =
         row-answered t w (omega arith) x accepted (ap kind (end-last s r (suc t) (omega arith) (subst (Closing s r) (omega arith) (a .closing)))) in
         answers-on t w (omega arith) ∙ rw (f, drop-of-length-le rows {i = suc t} (omega arith))
     all-taken (suc n) t w q x =
-        let f : rowAnswerMeaning (takeAnswer w (r t)) ≡ taken = row-answered t w (omega arith) x taken (ap kind (end-on s r (suc t) (omega arith))) in
+        let f : rowAnswerMeaning (checkRowAnswer w (r t)) ≡ taken = row-answered t w (omega arith) x taken (ap kind (end-on s r (suc t) (omega arith))) in
         let ih : rowAnswersFrom (afterRow w (r t)) (drop (suc t) rows) ≡ replicate n taken ++ (accepted ∷ []) =
         all-taken n (suc t) (afterRow w (r t)) (omega arith) (row-on t w (omega arith) x) in
         answers-on t w (omega arith)
-        ∙ rw (taken-plan (takeAnswer w (r t)) (afterRow w (r t)) w f, f, ih)
+        ∙ rw (taken-plan (checkRowAnswer w (r t)) (afterRow w (r t)) w f, f, ih)

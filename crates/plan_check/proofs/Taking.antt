@@ -17,12 +17,12 @@ use Rattle.run.specs.Run.{tasksIn}
 use Rattle.run.specs.declared.Run.{Run}
 use Rattle.plan_check.specs.Extent.{Ready}
 use Rattle.plan_check.specs.Numbers.{Applies, eleven, fourteen, late-last, late-now, nine, ten, twenty-four, twenty-six}
-use Rattle.plan_check.specs.Numbers.{AnyLate, Differs, Earlier, Faulty, First, Last, NoneApplies, StateOut, afterRow, differs, missed, stateOut}
+use Rattle.plan_check.specs.Numbers.{AnyLate, Differs, EarlierFault, Faulty, First, Last, NoneApplies, StateOut, afterRow, differs, missed, stateOut}
 use Rattle.plan_check.specs.Row.{faulty, workedRow}
 use Rattle.plan_check.specs.RowAnswer.{stateByAnswer, rowAnswerMeaning}
 use Rattle.plan_check.specs.RowAnswer as meaning
 use Rattle.plan_check.specs.State.{horizonIn, noteOf, noting, startIn}
-use Rattle.plan_check.specs.Take.{TakeOf, answerAt, finalAnswer, takeAnswer, takeOf}
+use Rattle.plan_check.specs.CheckRow.{CheckRowOf, answerAt, finalAnswer, checkRowAnswer, checkRowOf}
 use Rattle.plan_check.specs.declared.Answer.{Answer}
 use Rattle.plan_check.specs.declared.Answer.the-variants.{Accepted, Refused, Taken}
 use Rattle.plan_check.specs.declared.Entered.{Entered}
@@ -58,7 +58,7 @@ module _ (w : SuppliedPlan) (row : List ℕ) where
   right-14 : StateOut r → First w row 14 0
   right-14 h = (fourteen h, earlier)
     where
-      earlier : (m s : ℕ) → Earlier m s 14 0 → ¬ Applies w row m s
+      earlier : (m s : ℕ) → EarlierFault m s 14 0 → ¬ Applies w row m s
       earlier m s x (fourteen y) = no-earlier 14 0 14 0 (omega arith) (omega arith) (omega arith) x
       earlier m s x (nine y) = later 9 0 14 0 (omega arith) x
       earlier m s x (ten y) = later 10 0 14 0 (omega arith) x
@@ -72,7 +72,7 @@ module _ (w : SuppliedPlan) (row : List ℕ) where
     right-9 : HorizonOut (horizonIn r) → First w row 9 0
     right-9 h = (nine h, earlier)
       where
-        earlier : (m s : ℕ) → Earlier m s 9 0 → ¬ Applies w row m s
+        earlier : (m s : ℕ) → EarlierFault m s 9 0 → ¬ Applies w row m s
         earlier m s x (fourteen y) = n14 y
         earlier m s x (nine y) = no-earlier 9 0 9 0 (omega arith) (omega arith) (omega arith) x
         earlier m s x (ten y) = later 10 0 9 0 (omega arith) x
@@ -86,7 +86,7 @@ module _ (w : SuppliedPlan) (row : List ℕ) where
       right-10 : horizonIn r ≤ t → First w row 10 0
       right-10 h = (ten h, earlier)
         where
-          earlier : (m s : ℕ) → Earlier m s 10 0 → ¬ Applies w row m s
+          earlier : (m s : ℕ) → EarlierFault m s 10 0 → ¬ Applies w row m s
           earlier m s x (fourteen y) = n14 y
           earlier m s x (nine y) = n9 y
           earlier m s x (ten y) = no-earlier 10 0 10 0 (omega arith) (omega arith) (omega arith) x
@@ -100,7 +100,7 @@ module _ (w : SuppliedPlan) (row : List ℕ) where
         right-11 : ¬ (length row ≡ r .cores) → First w row 11 0
         right-11 h = (eleven h, earlier)
           where
-            earlier : (m s : ℕ) → Earlier m s 11 0 → ¬ Applies w row m s
+            earlier : (m s : ℕ) → EarlierFault m s 11 0 → ¬ Applies w row m s
             earlier m s x (fourteen y) = n14 y
             earlier m s x (nine y) = n9 y
             earlier m s x (ten y) = omega (arith, n10)
@@ -114,7 +114,7 @@ module _ (w : SuppliedPlan) (row : List ℕ) where
           right-25 : AnyLate r → First w row 25 t
           right-25 h = (late-now h, earlier)
             where
-              earlier : (m s : ℕ) → Earlier m s 25 t → ¬ Applies w row m s
+              earlier : (m s : ℕ) → EarlierFault m s 25 t → ¬ Applies w row m s
               earlier m s x (fourteen y) = n14 y
               earlier m s x (nine y) = n9 y
               earlier m s x (ten y) = omega (arith, n10)
@@ -128,7 +128,7 @@ module _ (w : SuppliedPlan) (row : List ℕ) where
             right-24 : Faulty r row → First w row 24 t
             right-24 h = (twenty-four h, earlier)
               where
-                earlier : (m s : ℕ) → Earlier m s 24 t → ¬ Applies w row m s
+                earlier : (m s : ℕ) → EarlierFault m s 24 t → ¬ Applies w row m s
                 earlier m s x (fourteen y) = n14 y
                 earlier m s x (nine y) = n9 y
                 earlier m s x (ten y) = omega (arith, n10)
@@ -156,7 +156,7 @@ module _ (w : SuppliedPlan) (row : List ℕ) where
                 right-25-last : AnyLate (workedRow r row) → First w row 25 (suc t)
                 right-25-last h = (late-last last h, earlier)
                   where
-                    earlier : (m s : ℕ) → Earlier m s 25 (suc t) → ¬ Applies w row m s
+                    earlier : (m s : ℕ) → EarlierFault m s 25 (suc t) → ¬ Applies w row m s
                     earlier m s x (fourteen y) = n14 y
                     earlier m s x (nine y) = n9 y
                     earlier m s x (ten y) = omega (arith, n10)
@@ -170,7 +170,7 @@ module _ (w : SuppliedPlan) (row : List ℕ) where
                   right-26 : Differs (afterRow w row) → First w row 26 (suc t)
                   right-26 h = (twenty-six last h, earlier)
                     where
-                      earlier : (m s : ℕ) → Earlier m s 26 (suc t) → ¬ Applies w row m s
+                      earlier : (m s : ℕ) → EarlierFault m s 26 (suc t) → ¬ Applies w row m s
                       earlier m s x (fourteen y) = n14 y
                       earlier m s x (nine y) = n9 y
                       earlier m s x (ten y) = omega (arith, n10)
@@ -218,8 +218,8 @@ module _ (w : SuppliedPlan) (row : List ℕ) where
                       before n = omega (arith, n10, n)
 
   -- THE LAW
-  take-right : Right (takeAnswer w row)
-  unfolding takeAnswer
+  take-right : Right (checkRowAnswer w row)
+  unfolding checkRowAnswer
   take-right =
       go (stateOut r) refl (horizonOut (horizonIn r)) refl (leb (horizonIn r) t) refl (eqb (length row) (r .cores)) refl (missed r) refl (faulty r row) refl
     where
@@ -304,19 +304,19 @@ module _ (w : SuppliedPlan) (row : List ℕ) where
       (length-map (take (r .count) (workedRow r row .tasks)) noteOf ∙ length-take-le (r .count) (workedRow r row .tasks) (omega (arith, worked-length r row, h)))
 
   -- a value that is the definition's meets the contract
-  pub take-of : (e : Entered) → e ≡ takeOf w row → TakeOf w row e
+  pub take-of : (e : Entered) → e ≡ checkRowOf w row → CheckRowOf w row e
   take-of e q = rw q record {
     value = refl;
-    refused = unfold takeOf in refused-exact (takeAnswer w row) take-right;
-    taken = unfold takeOf in taken-exact (takeAnswer w row) take-right;
-    accepted = unfold takeOf in accepted-exact (takeAnswer w row) take-right;
-    on = unfold takeOf in by-continues (takeAnswer w row);
-    passes = unfold takeOf in λ x.
-        subst (λ (v : SuppliedPlan). ¬ StateOut (v .run)) (sym (by-continues (takeAnswer w row) x)) (again (none-if (takeAnswer w row) take-right x));
-    tasks = unfold takeOf in same-tasks (takeAnswer w row);
-    as-given = unfold takeOf in by-refused (takeAnswer w row);
-    past = unfold takeOf in same-past (takeAnswer w row);
-    past-notes = unfold takeOf in same-notes (takeAnswer w row) take-right;
+    refused = unfold checkRowOf in refused-exact (checkRowAnswer w row) take-right;
+    taken = unfold checkRowOf in taken-exact (checkRowAnswer w row) take-right;
+    accepted = unfold checkRowOf in accepted-exact (checkRowAnswer w row) take-right;
+    on = unfold checkRowOf in by-continues (checkRowAnswer w row);
+    passes = unfold checkRowOf in λ x.
+        subst (λ (v : SuppliedPlan). ¬ StateOut (v .run)) (sym (by-continues (checkRowAnswer w row) x)) (again (none-if (checkRowAnswer w row) take-right x));
+    tasks = unfold checkRowOf in same-tasks (checkRowAnswer w row);
+    as-given = unfold checkRowOf in by-refused (checkRowAnswer w row);
+    past = unfold checkRowOf in same-past (checkRowAnswer w row);
+    past-notes = unfold checkRowOf in same-notes (checkRowAnswer w row) take-right;
   }
     where
       same-tasks : (a : Answer) → tasksIn (stateByAnswer a (afterRow w row) w .run) ≡ tasksIn r
@@ -335,9 +335,9 @@ module _ (w : SuppliedPlan) (row : List ℕ) where
       same-notes (Refused n s) h = refl
 
   -- where the state was ready, what is returned is ready with the same numbers
-  pub ready-next : (start horizon : ℕ) → Ready r start horizon → Ready (takeOf w row .plan .run) start horizon
-  unfolding takeOf
-  ready-next start horizon h = go (takeAnswer w row) take-right
+  pub ready-next : (start horizon : ℕ) → Ready r start horizon → Ready (checkRowOf w row .plan .run) start horizon
+  unfolding checkRowOf
+  ready-next start horizon h = go (checkRowAnswer w row) take-right
     where
       on : NoneApplies w row → Ready (workedRow r row) start horizon
       on none = ready-again r (workedRow r row) start horizon h (worked-tasks r row) (next-passes (h .passes) (timely none))
@@ -349,5 +349,5 @@ module _ (w : SuppliedPlan) (row : List ℕ) where
 
   -- a value that is the definition's comes with a state that is ready
   pub enter-of :
-      (start horizon : ℕ) → Ready r start horizon → (e : Entered) → e ≡ takeOf w row → (e ≡ takeOf w row) × Ready (e .plan .run) start horizon
+      (start horizon : ℕ) → Ready r start horizon → (e : Entered) → e ≡ checkRowOf w row → (e ≡ checkRowOf w row) × Ready (e .plan .run) start horizon
   enter-of start horizon h e q = (q, subst⁻¹ (λ (x : Entered). Ready (x .plan .run) start horizon) q (ready-next start horizon h))

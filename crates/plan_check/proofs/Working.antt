@@ -58,10 +58,10 @@ pub fault-found :
 fault-found r row s few h = go (s .unknown) refl
   where
     go : (b : Bool) → s .unknown ≡ b → s .unknown || anyWrong r (s .cells) ≡ faulty r row
-    go true e = ap (λ (t : Bool). t || anyWrong r (s .cells)) e ∙ sym (by-strangers (sym (h .unknown) ∙ e))
+    go true e = ap (λ (t : Bool). t || anyWrong r (s .cells)) e ∙ sym (by-unknown (sym (h .unknown) ∙ e))
       where
-        by-strangers : anyUnknownByte (r .fence) (r .count) row ≡ true → faulty r row ≡ true
-        by-strangers q = unfold faulty in or-left (anyUnknownByte (r .fence) (r .count) row) (any (r .count) (wrongAt r row)) q
+        by-unknown : anyUnknownByte (r .fence) (r .count) row ≡ true → faulty r row ≡ true
+        by-unknown q = unfold faulty in or-left (anyUnknownByte (r .fence) (r .count) row) (any (r .count) (wrongAt r row)) q
     go false e = ap (λ (t : Bool). t || anyWrong r (s .cells)) (h .unknown) ∙ wrong-counted r (s .cells) row few (h .counted e)
 
 -- the tasks stay

@@ -36,7 +36,7 @@ pub data OutcomeFor (s : Table) (rows : List (List ℕ)) : PlanOutcome → Type 
   -- 11: the first fault is a row whose length isn't the core count
   size : (t : ℕ) → t < horizon s → t < length rows → ValidBefore s (rowAt rows) t → ¬ (length (rowAt rows t) ≡ s .cores) → OutcomeFor s rows (refuses 11 0)
   -- 25: the first fault is a deadline missed at t
-  late :
+  missed-deadline :
       (t : ℕ) → t < horizon s → t < length rows → ValidBefore s (rowAt rows) t → length (rowAt rows t) ≡ s .cores → DeadlineMissed s (rowAt rows) t
       → OutcomeFor s rows (refuses 25 t)
   -- 24: the first fault is the row of t, and no deadline is missed at t

@@ -18,12 +18,12 @@ use Rattle.plan_check.specs.Answers.{PlanOutcome, OutcomeFor, accepts, r
 use Rattle.plan_check.specs.Begin.{beginOf}
 use Rattle.plan_check.specs.Plan.{Acceptable, ForEver, repeated}
 use Rattle.plan_check.specs.RowAnswer.{RowAnswer, accepted, refused, taken, rowAnswerMeaning}
-use Rattle.plan_check.specs.Take.{takeOf}
+use Rattle.plan_check.specs.CheckRow.{checkRowOf}
 
 -- the answer to each row of a list, from state w on: each is taken from the state after the one before it
 unfoldable pub rowAnswersFrom : SuppliedPlan → List (List ℕ) → List RowAnswer
 rowAnswersFrom w [] = []
-rowAnswersFrom w (row ∷ rows) = rowAnswerMeaning (takeOf w row .answer) ∷ rowAnswersFrom (takeOf w row .plan) rows
+rowAnswersFrom w (row ∷ rows) = rowAnswerMeaning (checkRowOf w row .answer) ∷ rowAnswersFrom (checkRowOf w row .plan) rows
 
 -- the answers to a list of rows, from the state that the words begin with
 abbrev pub rowAnswersOf : List ℕ → List (List ℕ) → List RowAnswer

@@ -6,9 +6,9 @@ pub mod State
 pub mod Row
 pub mod Numbers
 pub mod RowAnswer
-pub mod Take
+pub mod CheckRow
 pub mod Begin
 pub mod Checked
 pub mod Extent
 pub mod Shown
-pub mod Past
+pub mod UnusedPlaces

@@ -67,7 +67,7 @@ afterRow w row = stateAt (workedRow (w .run) row) (suc (w .tick)) (w .noted)
 abbrev pub Last : SuppliedPlan → Type 0
 Last w = suc (w .tick) ≡ horizonIn (w .run)
 
--- number n applies to a row, with tick t. As in table/specs/Numbers, with a tick for the position: `Applies`, `First`, `NoneApplies`, `Earlier`, `order`
+-- number n applies to a row, with tick t. As in table/specs/Numbers, with a tick for the position: `Applies`, `First`, `NoneApplies`, `EarlierFault`, `rowOrder`
 pub data Applies (w : SuppliedPlan) (row : List ℕ) : ℕ → ℕ → Type 0 where
   -- 14. The run is one that 14 turns down, or has a task Holding, withdrawn or with unequal counts.
   fourteen : StateOut (w .run) → Applies w row 14 0
@@ -88,23 +88,23 @@ pub data Applies (w : SuppliedPlan) (row : List ℕ) : ℕ → ℕ → Type 0 wh
 -- WHICH IS THE FIRST
 
 -- 14, 9, 10 and 11 are checked in this order; 24 to 26 come after them
-abbrev pub order : List ℕ
-order = 14 ∷ 9 ∷ 10 ∷ 11 ∷ []
+abbrev pub rowOrder : List ℕ
+rowOrder = 14 ∷ 9 ∷ 10 ∷ 11 ∷ []
 
 -- they are checked tick by tick; at the start of a tick 25, then 24; after the last row 25, then 26
 abbrev pub inTick : List ℕ
 inTick = 25 ∷ 24 ∷ 26 ∷ []
 
 -- number m with tick s is checked before number n with tick t
-abbrev pub Earlier : ℕ → ℕ → ℕ → ℕ → Type 0
-Earlier m s n t =
-    (placeFrom 1 order m < placeFrom 1 order n)
-    ⊎ ((placeFrom 1 order m ≡ placeFrom 1 order n)
+abbrev pub EarlierFault : ℕ → ℕ → ℕ → ℕ → Type 0
+EarlierFault m s n t =
+    (placeFrom 1 rowOrder m < placeFrom 1 rowOrder n)
+    ⊎ ((placeFrom 1 rowOrder m ≡ placeFrom 1 rowOrder n)
     × ((s < t) ⊎ ((s ≡ t) × (placeFrom 1 inTick m < placeFrom 1 inTick n))))
 
 -- of the numbers that apply, n is the first, with tick t (`first-only`: there is one at most)
 abbrev pub First : SuppliedPlan → List ℕ → ℕ → ℕ → Type 0
-First w row n t = Applies w row n t × ((m s : ℕ) → Earlier m s n t → ¬ Applies w row m s)
+First w row n t = Applies w row n t × ((m s : ℕ) → EarlierFault m s n t → ¬ Applies w row m s)
 
 -- no number applies
 abbrev pub NoneApplies : SuppliedPlan → List ℕ → Type 0

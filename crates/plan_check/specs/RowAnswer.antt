@@ -4,7 +4,8 @@ use Rattle.plan_check.specs.declared.Answer.{Answer}
 use Rattle.plan_check.specs.declared.Answer.the-variants.{Accepted, Refused, Taken}
 use Rattle.plan_check.specs.declared.SuppliedPlan.{SuppliedPlan}
 
--- taken, or taken as the last and the plan accepted, or refused with number and tick: 24 to 26 have their tick, all else 0
+-- taken, or taken as the last and the plan accepted, or refused with number and tick: 24 to 26 have their tick, all else 0.
+-- `taken` and `refused` as in the model's `Answer`
 pub data RowAnswer : Type 0 where
   taken accepted : RowAnswer
   refused : ℕ → ℕ → RowAnswer

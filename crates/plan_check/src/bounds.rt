@@ -8,7 +8,7 @@ ghost use Rattle.run.specs.Run.{phaseAt};
 ghost use Rattle.model.specs.Search.{any};
 ghost use Rattle.plan_check.specs.Numbers.{unreachablePhase, stateOut, missed, samePhase, differs};
 ghost use Rattle.plan_check.specs.State.{horizonIn};
-ghost use Rattle.plan_check.specs.Take.{answerAt, finalAnswer};
+ghost use Rattle.plan_check.specs.CheckRow.{answerAt, finalAnswer};
 use crate::Answer;
 use crate::SuppliedPlan;
 use phase::Phase;

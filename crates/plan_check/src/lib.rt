@@ -6,7 +6,7 @@ ghost use Rattle.plan_check.specs.declared.Answer.the-variants.{Refused}
 ghost use Rattle.plan_check.specs.Extent.{Ready};
 ghost use Rattle.plan_check.specs.Begin.{BeginOf};
 ghost use Rattle.plan_check.specs.RowAnswer.{stateByAnswer};
-ghost use Rattle.plan_check.specs.Take.{TakeOf, takeOf};
+ghost use Rattle.plan_check.specs.CheckRow.{CheckRowOf, checkRowOf};
 
 mod extent; // extent.rt: the extent of a plan, and numbers 14 and 9
 mod begins; // begins.rt: a state of all zeros
@@ -107,7 +107,7 @@ impl SuppliedPlan {
     // The row of a tick before the horizon, one byte a core: 25, 24, or the answer of the state after it.
     fn shown(self, start: u32, horizon: u32, row: &[u8]) -> Entered
         requires { ⌜ Ready (self .run) start horizon ⌝ ∗ ⌜ self .tick < horizon ⌝ ∗ ⌜ length (now row) ≡ self .run .cores ⌝ }
-        ensures { λ r. ⌜ r ≡ takeOf self (now (row .entry)) ⌝ }
+        ensures { λ r. ⌜ r ≡ checkRowOf self (now (row .entry)) ⌝ }
     {
         let run = self.run;
         let tick = self.tick;
@@ -124,10 +124,10 @@ impl SuppliedPlan {
         self.by_answer(answer, next)
     }
 
-    // The answer of `take` to the row of this tick, where `extent` is known: for plans of many rows. The state that it returns is ready for the next row.
+    // The answer of `check_row` to the row of this tick, where `extent` is known: for plans of many rows. The state that it returns is ready for the next row.
     pub fn enter(self, start: u32, horizon: u32, row: &[u8]) -> Entered
         requires { ⌜ Ready (self .run) start horizon ⌝ }
-        ensures { λ r. ⌜ (r ≡ takeOf self (now (row .entry))) × Ready (r .plan .run) start horizon ⌝ }
+        ensures { λ r. ⌜ (r ≡ checkRowOf self (now (row .entry))) × Ready (r .plan .run) start horizon ⌝ }
     {
         let run = self.run;
         if horizon <= self.tick {
@@ -141,8 +141,8 @@ impl SuppliedPlan {
 
     // The row of this tick, one byte a core: taken, with the state one tick on; accepted as the last one; or 14, 9, 10, 11, 25, 24 and, after the last
     // row, 25 and 26 at the horizon, with the state as given.
-    pub fn take(self, row: &[u8]) -> Entered
-        ensures { λ r. ⌜ TakeOf self (now (row .entry)) r ⌝ }
+    pub fn check_row(self, row: &[u8]) -> Entered
+        ensures { λ r. ⌜ CheckRowOf self (now (row .entry)) r ⌝ }
     {
         let found = self.extent();
         if found.number != 0 {

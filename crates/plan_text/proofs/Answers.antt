@@ -17,7 +17,7 @@ use Rattle.text.specs.Output.{letters}
 use Rattle.sentence.specs.Reading.{startsWith}
 use Rattle.session.specs.Transcript.{nothing}
 use Rattle.plan_check.specs.Begin.{beginOf}
-use Rattle.plan_check.specs.Take.{takeOf}
+use Rattle.plan_check.specs.CheckRow.{checkRowOf}
 use Rattle.plan_check.specs.declared.Answer as planCheck
 use Rattle.plan_check.specs.declared.Answer.the-variants as answer
 use Rattle.plan_check.specs.declared.Begun.{Begun}
@@ -28,7 +28,7 @@ use Rattle.plan_text.specs.declared.PlanAnswer.{PlanAnswer}
 use Rattle.plan_text.specs.declared.PlanAnswer.the-variants.{Accepted, Fault, More, Refused, Unfinished, Unread}
 use Rattle.plan_text.specs.declared.LineAnswer.{LineAnswer}
 use Rattle.plan_text.specs.declared.line.Line.{Line}
-use Rattle.plan_text.specs.Line.{Read, isVerdict, readLine, longLine, mostCells, noRow, row, rowIn}
+use Rattle.plan_text.specs.Line.{Read, isVerdict, readLine, longLine, mostCells, noRow, rowRead, rowIn}
 use Rattle.plan_text.specs.Checked.{endAnswer, rowEntered, enters, orElse, isMore, nextLine, openedBy, openedOf, skipped, refusalAnswer, rowsAt, rowsAnswer, stepOf, lineAnswer, noRowAnswer}
 
 -- THE COUNT OF LINES
@@ -74,7 +74,7 @@ pub entered-refused :
     (a : planCheck.Answer) (w : SuppliedPlan) (n k t : ℕ) (s : PlanAnswer) → a ≡ answer.Refused k t → s ≡ refusalAnswer k t → lineAnswer (rowsAt w n false) s ≡ rowEntered a w n
 entered-refused a w n k t s e h = rw (e, h)
 
--- the plan after a row is what `take` returns
+-- the plan after a row is what `check_row` returns
 pub entered-plan : (a : planCheck.Answer) (w : SuppliedPlan) (n : ℕ) → rowEntered a w n .rows .plan ≡ w
 entered-plan answer.Taken w n = refl
 entered-plan answer.Accepted w n = refl
@@ -102,7 +102,7 @@ step-enters r l p q e = rw (← q, e)
 
 -- the numbers that were read are in their places
 pub count-within : (x : Read) (k : Line) → k ≡ readLine x → k .count ≤ length (k .cells)
-count-within (row t ns) k e =
+count-within (rowRead t ns) k e =
     let a : k .count ≡ length ns = ap (λ (y : Line). y .count) e in
     let b : length (k .cells) ≡ length ns + length {A = ℕ} (replicate (mostCells - length ns) 0) =
     ap (λ (y : Line). length (y .cells)) e ∙ length-append ns (replicate (mostCells - length ns) 0) in
@@ -112,23 +112,23 @@ count-within noRow k e = let a : k .count ≡ 0 = ap (λ (y : Line). y .count) e
 -- a row of the expected tick is taken ..
 pub enters-row :
     (r : PlanProgress) (x : Read) (k : Line) (e : Entered) (u : LineAnswer) → k ≡ readLine x → k .found ≡ true → k .tick ≡ r .plan .tick
-    → e ≡ takeOf (r .plan) (take (k .count) (k .cells)) → u ≡ rowEntered (e .answer) (e .plan) (nextLine (r .lines)) → u ≡ enters r x
-enters-row r (row t ns) k e u q f w v z =
+    → e ≡ checkRowOf (r .plan) (take (k .count) (k .cells)) → u ≡ rowEntered (e .answer) (e .plan) (nextLine (r .lines)) → u ≡ enters r x
+enters-row r (rowRead t ns) k e u q f w v z =
     let m : take (k .count) (k .cells) ≡ ns = ap (λ (y : Line). take (y .count) (y .cells)) q ∙ take-append-seam ns (replicate (mostCells - length ns) 0) in
     let s : t ≡ r .plan .tick = sym (ap (λ (y : Line). y .tick) q) ∙ w in
-    z ∙ ap (λ (y : Entered). rowEntered (y .answer) (y .plan) (nextLine (r .lines))) (v ∙ ap (takeOf (r .plan)) m) ∙ sym (taken s)
+    z ∙ ap (λ (y : Entered). rowEntered (y .answer) (y .plan) (nextLine (r .lines))) (v ∙ ap (checkRowOf (r .plan)) m) ∙ sym (taken s)
   where
-    taken : t ≡ r .plan .tick → enters r (row t ns) ≡ rowEntered (takeOf (r .plan) ns .answer) (takeOf (r .plan) ns .plan) (nextLine (r .lines))
+    taken : t ≡ r .plan .tick → enters r (rowRead t ns) ≡ rowEntered (checkRowOf (r .plan) ns .answer) (checkRowOf (r .plan) ns .plan) (nextLine (r .lines))
     taken s = rw (eq-eqb t (r .plan .tick) s)
 enters-row r noRow k e u q f w v z = absurd (false≢true (sym (ap (λ (y : Line). y .found) q) ∙ f))
 
 -- .. one of another tick, and what is no row, are not
 pub enters-other : (r : PlanProgress) (x : Read) (k : Line) (n : ℕ) → k ≡ readLine x → (k .tick ≡ r .plan .tick → ⊥) → n ≡ nextLine (r .lines) → lineAnswer r (Unread n) ≡ enters r x
-enters-other r (row t ns) k n q w h = rw (ne-eqb t (r .plan .tick) (λ s. w (ap (λ (y : Line). y .tick) q ∙ s)), h)
+enters-other r (rowRead t ns) k n q w h = rw (ne-eqb t (r .plan .tick) (λ s. w (ap (λ (y : Line). y .tick) q ∙ s)), h)
 enters-other r noRow k n q w h = rw h
 
 pub enters-none : (r : PlanProgress) (x : Read) (k : Line) (n : ℕ) → k ≡ readLine x → k .found ≡ false → n ≡ nextLine (r .lines) → lineAnswer r (Unread n) ≡ enters r x
-enters-none r (row t ns) k n q f h = absurd (false≢true (sym f ∙ ap (λ (y : Line). y .found) q))
+enters-none r (rowRead t ns) k n q f h = absurd (false≢true (sym f ∙ ap (λ (y : Line). y .found) q))
 enters-none r noRow k n q f h = rw h
 
 -- WHERE MORE LINES ARE NEEDED

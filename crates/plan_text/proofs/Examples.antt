@@ -26,11 +26,11 @@ use Rattle.plan_check.specs.Numbers.{differs, missed, stateOut}
 use Rattle.plan_check.specs.Plan.{cellCount}
 use Rattle.plan_check.specs.Row.{faulty, anyUnknownByte, workedRow}
 use Rattle.plan_check.specs.State.{note}
-use Rattle.plan_check.specs.Take.{answerAt, finalAnswer, takeAnswer, takeOf}
+use Rattle.plan_check.specs.CheckRow.{answerAt, finalAnswer, checkRowAnswer, checkRowOf}
 use Rattle.plan_text.specs.declared.PlanAnswer.{PlanAnswer}
 use Rattle.plan_text.specs.declared.PlanAnswer.the-variants.{Accepted, Fault, Refused, Unfinished, Unread}
 use Rattle.plan_text.specs.Checked.{checkedOf, endAnswer, nextLine, openedOf, opens, skipped, rowsAt, rowsAnswer, stepOf, tableAnswer, unclosedAnswer}
-use Rattle.plan_text.specs.Line.{Read, cellsOf, isByte, isVerdict, noRow, row, rowIn, rowOfWords}
+use Rattle.plan_text.specs.Line.{Read, cellsOf, isByte, isVerdict, noRow, rowRead, rowIn, rowOfWords}
 use Rattle.plan_text.specs.Printed.{planAnswerLine}
 
 -- WHAT IS READ IN A LINE
@@ -44,10 +44,10 @@ reads s x = record { text = s; read = x }
 
 abbrev pub some-lines : List Line
 some-lines =
-    reads "0 1 2" (row 0 (1 ∷ 2 ∷ []))
-    ∷ reads "7" (row 7 [])
-    ∷ reads "4294967295 255" (row 4294967295 (255 ∷ []))
-    ∷ reads "0000000000 007" (row 0 (7 ∷ []))
+    reads "0 1 2" (rowRead 0 (1 ∷ 2 ∷ []))
+    ∷ reads "7" (rowRead 7 [])
+    ∷ reads "4294967295 255" (rowRead 4294967295 (255 ∷ []))
+    ∷ reads "0000000000 007" (rowRead 0 (7 ∷ []))
     -- no tick, or one that is too large
     ∷ reads "" noRow
     ∷ reads "x" noRow
@@ -99,10 +99,10 @@ plan-begun = refl
 -- the lines of a plan, and the answer to them
 pub record Check : Type 0 where
   pub input : String
-  pub says : PlanAnswer
+  pub result : PlanAnswer
 
 abbrev check : String → PlanAnswer → Check
-check i s = record { input = i; says = s }
+check i s = record { input = i; result = s }
 
 abbrev pub checks : List Check
 checks =
@@ -131,7 +131,7 @@ abbrev checking : Check → Check
 checking c = check (c .input) (rowsAnswer nothing (rowsAt plan 0 false) (linesFrom nothing [] (letters (c .input))))
 
 each-check : LineByLine checking checks checks
-unfolding rowsAnswer endAnswer stepOf skipped nextLine isVerdict startsWith linesFrom lastLine rowOfWords cellsOf isByte wordsIn isNumber all value takeOf takeAnswer answerAt finalAnswer differs missed
+unfolding rowsAnswer endAnswer stepOf skipped nextLine isVerdict startsWith linesFrom lastLine rowOfWords cellsOf isByte wordsIn isNumber all value checkRowOf checkRowAnswer answerAt finalAnswer differs missed
     stateOut faulty anyUnknownByte workedRow cellCount mapFirst runOut pastCount computing
 each-check = (refl, (refl, (refl, (refl, (refl, (refl, (refl, (refl, (refl, (refl, (refl, (refl, (refl, (refl, (refl, tt)))))))))))))))
 

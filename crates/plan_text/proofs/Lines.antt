@@ -18,7 +18,7 @@ use Rattle.session.proofs.Transcripts.{dashes-two, lines-line, lines-more, nil-
 use Rattle.plan_text.specs.declared.PlanProgress.{PlanProgress}
 use Rattle.plan_text.specs.declared.PlanAnswer.{PlanAnswer}
 use Rattle.plan_text.specs.declared.PlanAnswer.the-variants.{More, Refused}
-use Rattle.plan_text.specs.Checked.{checkedOf, dueOf, endAnswer, orElse, isMore, openedOf, opens, rowsAnswer, stepOf, tableAnswer, unclosedAnswer}
+use Rattle.plan_text.specs.Checked.{checkedOf, answerSoFar, endAnswer, orElse, isMore, openedOf, opens, rowsAnswer, stepOf, tableAnswer, unclosedAnswer}
 use Rattle.plan_text.proofs.Answers.{on-end, on-more}
 use Rattle.plan_text.proofs.Taking.{begin-none}
 
@@ -201,8 +201,8 @@ unfolding opens
 opens-end e d ls h = on-end (openedOf d .answer) (rowsAnswer e (openedOf d .rows) ls) h
 
 -- a check before its first byte
-pub new-answer : (bs : List ℕ) → (tableAnswer nothing [] [] bs ≡ checkedOf bs) × (tableAnswer unknown [] [] bs ≡ dueOf bs)
-unfolding checkedOf dueOf
+pub new-answer : (bs : List ℕ) → (tableAnswer nothing [] [] bs ≡ checkedOf bs) × (tableAnswer unknown [] [] bs ≡ answerSoFar bs)
+unfolding checkedOf answerSoFar
 new-answer bs = (refl, refl)
 
 -- where a table ends whose last line begins at a place

@@ -20,13 +20,13 @@ use Rattle.text.proofs.Lines.{mark-within}
 use Rattle.text.proofs.Numbers.{number-exact}
 use Rattle.plan_check.specs.declared.Answer as planCheck
 use Rattle.plan_check.specs.declared.Answer.the-variants as answer
-use Rattle.plan_check.specs.Take.{takeOf}
+use Rattle.plan_check.specs.CheckRow.{checkRowOf}
 use Rattle.session.specs.Transcript.{lastLine, linesFrom, nothing}
 use Rattle.plan_text.specs.declared.PlanProgress.{PlanProgress}
 use Rattle.plan_text.specs.declared.PlanAnswer.{PlanAnswer}
 use Rattle.plan_text.specs.declared.PlanAnswer.the-variants.{Fault, Refused, Unread}
 use Rattle.plan_text.specs.declared.LineAnswer.{LineAnswer}
-use Rattle.plan_text.specs.Line.{Read, wordsAfter, cellsOf, isByte, isVerdict, longLine, mostCells, noRow, row, rowIn, rowOfWords}
+use Rattle.plan_text.specs.Line.{Read, wordsAfter, cellsOf, isByte, isVerdict, longLine, mostCells, noRow, rowRead, rowIn, rowOfWords}
 use Rattle.plan_text.specs.Checked.{rowEntered, enters, isMore, nextLine, skipped, refusalAnswer, rowsAnswer, stepOf, noRowAnswer}
 use Rattle.plan_text.proofs.Lines.{rows-end}
 use Rattle.plan_text.proofs.Reading.{row-split, words-split}
@@ -168,13 +168,13 @@ many (suc k) (b ∷ l) more h =
 
 -- what is read in a long line: no row, or one of more numbers than there are cores
 abbrev Wide : Read → Type 0
-Wide x = (x ≡ noRow) ⊎ ((t : ℕ) × (ns : List ℕ) × (x ≡ row t ns) × (mostCores < length ns))
+Wide x = (x ≡ noRow) ⊎ ((t : ℕ) × (ns : List ℕ) × (x ≡ rowRead t ns) × (mostCores < length ns))
 
 cells-none : (t : ℕ) (ws : List (List ℕ)) → all isByte ws ≡ false → cellsOf t ws ≡ noRow
 unfolding cellsOf
 cells-none t ws e = rw e
 
-cells-some : (t : ℕ) (ws : List (List ℕ)) → all isByte ws ≡ true → cellsOf t ws ≡ row t (map value ws)
+cells-some : (t : ℕ) (ws : List (List ℕ)) → all isByte ws ≡ true → cellsOf t ws ≡ rowRead t (map value ws)
 unfolding cellsOf
 cells-some t ws e = rw e
 
@@ -248,12 +248,12 @@ wide-ends : (r : PlanProgress) (x : Read) → Wide x → isMore (enters r x .ans
 wide-ends r x (inl e) = ap (λ (y : Read). isMore (enters r y .answer)) e
 wide-ends r x (inr w) = ap (λ (y : Read). isMore (enters r y .answer)) (w .2) ∙ go (eqb (w .0) (r .plan .tick))
   where
-    taken : isMore (rowEntered (takeOf (r .plan) (w .1) .answer) (takeOf (r .plan) (w .1) .plan) (nextLine (r .lines)) .answer) ≡ false
+    taken : isMore (rowEntered (checkRowOf (r .plan) (w .1) .answer) (checkRowOf (r .plan) (w .1) .plan) (nextLine (r .lines)) .answer) ≡ false
     taken =
         let z = take-long (r .plan) (w .1) (w .3) in
-        ap (λ (a : planCheck.Answer). isMore (rowEntered a (takeOf (r .plan) (w .1) .plan) (nextLine (r .lines)) .answer)) (z .2) ∙ refusal-ends (z .0) (z .1)
+        ap (λ (a : planCheck.Answer). isMore (rowEntered a (checkRowOf (r .plan) (w .1) .plan) (nextLine (r .lines)) .answer)) (z .2) ∙ refusal-ends (z .0) (z .1)
 
-    go : (b : Bool) → isMore (cond {A = LineAnswer} b (rowEntered (takeOf (r .plan) (w .1) .answer) (takeOf (r .plan) (w .1) .plan) (nextLine (r .lines))) (noRowAnswer r) .answer) ≡ false
+    go : (b : Bool) → isMore (cond {A = LineAnswer} b (rowEntered (checkRowOf (r .plan) (w .1) .answer) (checkRowOf (r .plan) (w .1) .plan) (nextLine (r .lines))) (noRowAnswer r) .answer) ≡ false
     go true = taken
     go false = refl
 

@@ -23,7 +23,7 @@ use Rattle.table.specs.declared.Answer.the-variants.{Passed}
 use Rattle.table.proofs.Exact.{passed-exact}
 use Rattle.table.proofs.Passed.{passed-cores, passed-count, passed-horizon, passed-valid}
 use Rattle.judge.specs.JudgeAnswer.{judged}
-use Rattle.text.specs.Format.{Words, largest, mostNumbers, textOf, words, wordsOf}
+use Rattle.text.specs.Format.{Words, largest, mostNumbers, textOf, readWords, wordsOf}
 use Rattle.text.specs.Output.{firstLine, output, outputOf, printed, printedBy, rowLines, rowsPrinted}
 use Rattle.text.proofs.Canonical.{text-read}
 use Rattle.plan_check.specs.Answers.{PlanOutcome, accepts, unfinished}

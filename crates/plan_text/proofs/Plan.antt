@@ -29,7 +29,7 @@ use Rattle.plan_check.specs.Numbers.{afterRow}
 use Rattle.plan_check.specs.Answers.{PlanOutcome, accepts, refuses, unfinished}
 use Rattle.plan_check.specs.Checked.{rowAnswersFrom, outcomeFrom}
 use Rattle.plan_check.specs.RowAnswer.{stateByAnswer, rowAnswerMeaning}
-use Rattle.plan_check.specs.Take.{takeAnswer, takeOf}
+use Rattle.plan_check.specs.CheckRow.{checkRowAnswer, checkRowOf}
 use Rattle.plan_check.specs.declared.Answer as planCheck
 use Rattle.plan_check.specs.declared.Answer.the-variants as answer
 use Rattle.plan_check.specs.declared.SuppliedPlan.{SuppliedPlan}
@@ -37,7 +37,7 @@ use Rattle.plan_text.specs.declared.PlanProgress.{PlanProgress}
 use Rattle.plan_text.specs.declared.PlanAnswer.{PlanAnswer}
 use Rattle.plan_text.specs.declared.PlanAnswer.the-variants.{Accepted, More, Unfinished}
 use Rattle.plan_text.specs.declared.LineAnswer.{LineAnswer}
-use Rattle.plan_text.specs.Line.{Read, cellsOf, isByte, isVerdict, longLine, mostCells, noRow, row, rowIn, rowOfWords}
+use Rattle.plan_text.specs.Line.{Read, cellsOf, isByte, isVerdict, longLine, mostCells, noRow, rowRead, rowIn, rowOfWords}
 use Rattle.plan_text.specs.Checked.{endAnswer, rowEntered, enters, orElse, isMore, nextLine, skipped, refusalAnswer, rowsAt, rowsAnswer, stepOf, lineAnswer}
 use Rattle.plan_text.specs.Plan.{WordsOf, ExpressibleRow, planText, planAnswerOf}
 use Rattle.plan_text.proofs.Lines.{rows-none}
@@ -48,7 +48,7 @@ use Rattle.text.specs.Input.{lengthTo}
 
 -- the answer to a row
 abbrev pub takes : PlanProgress → List ℕ → LineAnswer
-takes r ns = rowEntered (takeOf (r .plan) ns .answer) (takeOf (r .plan) ns .plan) (nextLine (r .lines))
+takes r ns = rowEntered (checkRowOf (r .plan) ns .answer) (checkRowOf (r .plan) ns .plan) (nextLine (r .lines))
 
 -- the answer to a list of rows, each taken from the state that the one before returns
 unfoldable pub listAnswer : PlanProgress → List (List ℕ) → PlanAnswer
@@ -147,7 +147,7 @@ map-length : (ns : List ℕ) → length (map decimal ns) ≡ length ns
 map-length [] = refl
 map-length (n ∷ ns) = ap suc (map-length ns)
 
-pub row-read : (t : ℕ) (ns : List ℕ) → t ≤ mostWord → ExpressibleRow ns → rowIn (bare t ns) ≡ row t ns
+pub row-read : (t : ℕ) (ns : List ℕ) → t ≤ mostWord → ExpressibleRow ns → rowIn (bare t ns) ≡ rowRead t ns
 unfolding rowOfWords cellsOf
 row-read t ns h s =
     let b = text-bytes ns (s .1) in
@@ -190,9 +190,9 @@ row-step r ns h s =
     rw (row-passed r (r .plan .tick) ns, row-read (r .plan .tick) ns h s, eq-eqb (r .plan .tick) (r .plan .tick) refl)
 
 -- a row that is taken leaves the next tick
-taken-tick : (w : SuppliedPlan) (ns : List ℕ) (n : ℕ) → isMore (rowEntered (takeOf w ns .answer) (takeOf w ns .plan) n .answer) ≡ true → takeOf w ns .plan .tick ≡ suc (w .tick)
-unfolding takeOf
-taken-tick w ns n = go (takeAnswer w ns)
+taken-tick : (w : SuppliedPlan) (ns : List ℕ) (n : ℕ) → isMore (rowEntered (checkRowOf w ns .answer) (checkRowOf w ns .plan) n .answer) ≡ true → checkRowOf w ns .plan .tick ≡ suc (w .tick)
+unfolding checkRowOf
+taken-tick w ns n = go (checkRowAnswer w ns)
   where
     go :
         (a : planCheck.Answer) → isMore (rowEntered a (stateByAnswer a (afterRow w ns) w) n .answer) ≡ true
@@ -222,7 +222,7 @@ plan-read r (ns ∷ rows) f h =
 
     next-tick : isMore (takes r ns .answer) ≡ true → takes r ns .rows .plan .tick ≡ suc (r .plan .tick)
     next-tick m =
-        ap (λ (w : SuppliedPlan). w .tick) (entered-plan (takeOf (r .plan) ns .answer) (takeOf (r .plan) ns .plan) (nextLine (r .lines)))
+        ap (λ (w : SuppliedPlan). w .tick) (entered-plan (checkRowOf (r .plan) ns .answer) (checkRowOf (r .plan) ns .plan) (nextLine (r .lines)))
         ∙ taken-tick (r .plan) ns (nextLine (r .lines)) m
 
     by-answer :
@@ -269,7 +269,7 @@ list-answer r [] = unfold endAnswer outcomeFrom in go (r .accepted)
     go true = refl
     go false = ap Unfinished here
 list-answer r (ns ∷ rows) =
-    list-row (before (r .accepted)) (r .plan .tick) (nextLine (r .lines)) rows (takeOf (r .plan) ns .answer) (takeOf (r .plan) ns .plan)
+    list-row (before (r .accepted)) (r .plan .tick) (nextLine (r .lines)) rows (checkRowOf (r .plan) ns .answer) (checkRowOf (r .plan) ns .plan)
     (taken-tick (r .plan) ns (nextLine (r .lines))) (list-answer (takes r ns .rows) rows)
 
 pub plan-answer :

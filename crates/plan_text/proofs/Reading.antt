@@ -21,7 +21,7 @@ use Rattle.text.proofs.Numbers.{nothing-found, value-found}
 use Rattle.session.specs.Operation.{wordsIn}
 use Rattle.session.proofs.Asking.{words-more, words-one}
 use Rattle.plan_text.specs.declared.line.Line.{Line}
-use Rattle.plan_text.specs.Line.{Read, wordsAfter, cellsOf, isByte, readLine, mostCells, noRow, padCells, row, rowIn, rowOfWords}
+use Rattle.plan_text.specs.Line.{Read, wordsAfter, cellsOf, isByte, readLine, mostCells, noRow, padCells, rowRead, rowIn, rowOfWords}
 
 -- WORDS
 
@@ -76,19 +76,19 @@ byte-found w n e h = let v = value-found w n e in rw (v .0) (le-leb (value w) 25
 -- the row where the numbers ns have been read and the words ws are left, of which as many are read as there is space for
 unfoldable pub cellsFrom : ℕ → List ℕ → List (List ℕ) → Read
 cellsFrom t ns ws =
-    cond (all isByte (take (mostCells - length ns) ws)) (row t (ns ++ map value (take (mostCells - length ns) ws))) noRow
+    cond (all isByte (take (mostCells - length ns) ws)) (rowRead t (ns ++ map value (take (mostCells - length ns) ws))) noRow
 
 pub from-start : (t : ℕ) (ws : List (List ℕ)) → cellsFrom t [] ws ≡ cellsOf t (take mostCells ws)
 unfolding cellsFrom cellsOf
 from-start t ws = refl
 
-pub from-none : (t : ℕ) (ns : List ℕ) → cellsFrom t ns [] ≡ row t ns
+pub from-none : (t : ℕ) (ns : List ℕ) → cellsFrom t ns [] ≡ rowRead t ns
 unfolding cellsFrom all
-from-none t ns = rw (take-nil {A = List ℕ} (mostCells - length ns)) (ap (row t) (append-nil ns))
+from-none t ns = rw (take-nil {A = List ℕ} (mostCells - length ns)) (ap (rowRead t) (append-nil ns))
 
-pub from-full : (t : ℕ) (ns : List ℕ) (ws : List (List ℕ)) → length ns ≡ mostCells → cellsFrom t ns ws ≡ row t ns
+pub from-full : (t : ℕ) (ns : List ℕ) (ws : List (List ℕ)) → length ns ≡ mostCells → cellsFrom t ns ws ≡ rowRead t ns
 unfolding cellsFrom all
-from-full t ns ws e = let z : mostCells - length ns ≡ 0 = omega (arith, e) in rw z (ap (row t) (append-nil ns))
+from-full t ns ws e = let z : mostCells - length ns ≡ 0 = omega (arith, e) in rw z (ap (rowRead t) (append-nil ns))
 
 module _ (t : ℕ) (ns w : List ℕ) (ws : List (List ℕ)) (room : length ns < mostCells) where
   pub from-wrong : isByte w ≡ false → cellsFrom t ns (w ∷ ws) ≡ noRow
@@ -114,7 +114,7 @@ placed-more ns n h =
 -- the numbers in their places and their count are the whole row
 pub line-of :
     (t : ℕ) (ns places : List ℕ) (count : ℕ) → places ≡ padCells ns → count ≡ length ns
-    → _≡_ {A = Line} (record { found = true; tick = t; count = count; cells = places }) (readLine (row t ns))
+    → _≡_ {A = Line} (record { found = true; tick = t; count = count; cells = places }) (readLine (rowRead t ns))
 line-of t ns places count p q = λ i. record { found = true; tick = t; count = q i; cells = p i }
 
 -- THE FIRST WORD

@@ -17,7 +17,7 @@ use Rattle.plan_check.specs.Begin.{beginOf}
 use Rattle.plan_check.specs.Numbers.{StateOut, afterRow, missed, stateOut}
 use Rattle.plan_check.specs.Row.{faulty}
 use Rattle.plan_check.specs.State.{horizonIn}
-use Rattle.plan_check.specs.Take.{answerAt, takeAnswer, takeOf}
+use Rattle.plan_check.specs.CheckRow.{answerAt, checkRowAnswer, checkRowOf}
 use Rattle.plan_check.specs.declared.Answer.{Answer}
 use Rattle.plan_check.specs.declared.Answer.the-variants as answer
 use Rattle.plan_check.specs.declared.SuppliedPlan.{SuppliedPlan}
@@ -29,8 +29,8 @@ unfolding beginOf answerOf headerNumber
 begin-none = refl
 
 -- of 65 bytes or more: 14, 9 or 10, and else 11, since a run that passes 14 has at most 64 cores
-pub take-long : (w : SuppliedPlan) (row : List ℕ) → mostCores < length row → (n : ℕ) × (t : ℕ) × (takeOf w row .answer ≡ answer.Refused n t)
-unfolding takeOf takeAnswer
+pub take-long : (w : SuppliedPlan) (row : List ℕ) → mostCores < length row → (n : ℕ) × (t : ℕ) × (checkRowOf w row .answer ≡ answer.Refused n t)
+unfolding checkRowOf checkRowAnswer
 take-long w row h = go (stateOut (w .run)) refl (horizonOut (horizonIn (w .run))) (leb (horizonIn (w .run)) (w .tick))
   where
     shown : Answer

@@ -13,7 +13,7 @@ use Rattle.table.specs.Answer.{answerOf}
 use Rattle.table.specs.declared.Answer.{Answer}
 use Rattle.table.specs.declared.Answer.the-variants as table
 use Rattle.text.specs.Decimal.{Digits, decimal}
-use Rattle.text.specs.Format.{Words, largest, mostNumbers, newline, numbersIn, textOf, words, wordsOf}
+use Rattle.text.specs.Format.{Words, largest, mostNumbers, newline, numbersIn, textOf, readWords, wordsOf}
 use Rattle.text.proofs.Canonical.{text-read}
 use Rattle.text.proofs.Decimals.{decimal-digits}
 use Rattle.session.specs.Transcript.{InputEnd, isDashes, linesFrom, nothing}

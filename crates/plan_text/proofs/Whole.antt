@@ -9,7 +9,7 @@ use Rattle.plan_text.specs.declared.Check.{Check}
 use Rattle.plan_text.specs.declared.Fed.{Fed}
 use Rattle.plan_text.specs.declared.PlanAnswer.{PlanAnswer}
 use Rattle.plan_text.specs.declared.PlanAnswer.the-variants.{More}
-use Rattle.plan_text.specs.Checked.{checkedOf, dueOf}
+use Rattle.plan_text.specs.Checked.{checkedOf, answerSoFar}
 use Rattle.plan_text.specs.Check.{Feeds, FedOf, NewOf, isOver, more, none, checkAnswer}
 use Rattle.plan_text.proofs.Ending.{over-answer}
 use Rattle.plan_text.proofs.Lines.{table-waits}
@@ -51,12 +51,12 @@ none-so-far :
 none-so-far none o e = e
 none-so-far (more left chunk r q w f) o e = none-so-far f o (w .silent (due-so-far f o .0))
 
-due-nothing : dueOf [] ≡ More
-unfolding dueOf
+due-nothing : answerSoFar [] ≡ More
+unfolding answerSoFar
 due-nothing = table-waits [] []
 
 -- no answer waits: where the bytes bs have come, however they came, and a new check is not over, nothing is due
-pub at-once : (c c′ : Check) (bs left : List ℕ) → NewOf c → Feeds c [] bs left c′ → isOver (c′ .stage) ≡ false → dueOf bs ≡ More
+pub at-once : (c c′ : Check) (bs left : List ℕ) → NewOf c → Feeds c [] bs left c′ → isOver (c′ .stage) ≡ false → answerSoFar bs ≡ More
 at-once c c′ bs left new f o =
     sym (new bs .1) ∙ ap (checkAnswer c unknown) (sym (append-nil bs)) ∙ due-so-far f o .1 [] ∙ ap (checkAnswer c′ unknown) (append-nil left)
     ∙ none-so-far f o (new [] .1 ∙ due-nothing)

@@ -17,7 +17,7 @@ use Rattle.plan_text.specs.declared.PlanAnswer.{PlanAnswer}
 use Rattle.plan_text.specs.declared.PlanAnswer.the-variants.{More}
 use Rattle.plan_text.specs.declared.Stage.{Stage}
 use Rattle.plan_text.specs.declared.Stage.the-variants.{Over, Plan, Table}
-use Rattle.plan_text.specs.Checked.{checkedOf, dueOf, opens, rowsAnswer, tableAnswer}
+use Rattle.plan_text.specs.Checked.{checkedOf, answerSoFar, opens, rowsAnswer, tableAnswer}
 
 -- this is the extent of the plan, where it is known
 abbrev pub ExtentKnown : KnownExtent → SuppliedPlan → Type 0
@@ -70,7 +70,7 @@ FedOf c bytes r = FedBy (checkAnswer c) 0 bytes r
 
 -- a check whose answer is what the program prints, and whose due answer is what the program must have printed
 abbrev pub NewOf : Check → Type 0
-NewOf c = (bs : List ℕ) → (checkAnswer c nothing bs ≡ checkedOf bs) × (checkAnswer c unknown bs ≡ dueOf bs)
+NewOf c = (bs : List ℕ) → (checkAnswer c nothing bs ≡ checkedOf bs) × (checkAnswer c unknown bs ≡ answerSoFar bs)
 
 -- where a line `--` ends the table it is found, with the place where it begins; else the place where the last line begins
 pub record CutOf (bytes : List ℕ) (r : Cut) : Type 0 where

@@ -9,7 +9,7 @@ use Rattle.table.specs.declared.Answer.{Answer}
 use Rattle.table.specs.declared.Answer.the-variants as table
 use Rattle.text.specs.Format.{newline, numbersIn, wordsOf}
 use Rattle.plan_check.specs.Begin.{beginOf}
-use Rattle.plan_check.specs.Take.{takeOf}
+use Rattle.plan_check.specs.CheckRow.{checkRowOf}
 use Rattle.plan_check.specs.declared.Answer as planCheck
 use Rattle.plan_check.specs.declared.Answer.the-variants as answer
 use Rattle.plan_check.specs.declared.SuppliedPlan.{SuppliedPlan}
@@ -18,7 +18,7 @@ use Rattle.plan_text.specs.declared.PlanProgress.{PlanProgress}
 use Rattle.plan_text.specs.declared.PlanAnswer.{PlanAnswer}
 use Rattle.plan_text.specs.declared.PlanAnswer.the-variants.{Accepted, Fault, More, Refused, Unfinished, Unread}
 use Rattle.plan_text.specs.declared.LineAnswer.{LineAnswer}
-use Rattle.plan_text.specs.Line.{Read, isVerdict, noRow, row, rowIn}
+use Rattle.plan_text.specs.Line.{Read, isVerdict, noRow, rowRead, rowIn}
 
 -- ONE LINE
 
@@ -41,7 +41,7 @@ lineAnswer r s = record { rows = r; answer = s }
 abbrev pub refusalAnswer : ℕ → ℕ → PlanAnswer
 refusalAnswer n t = cond (leb 24 n) (Fault n t) (Refused n t)
 
--- the answer to a row by that of `take`: more lines are needed, or the check ends with a number
+-- the answer to a row by that of `check_row`: more lines are needed, or the check ends with a number
 abbrev pub rowEntered : planCheck.Answer → SuppliedPlan → ℕ → LineAnswer
 rowEntered answer.Taken plan lines = lineAnswer (rowsAt plan lines false) More
 rowEntered answer.Accepted plan lines = lineAnswer (rowsAt plan lines true) More
@@ -53,7 +53,7 @@ noRowAnswer r = lineAnswer r (Unread (nextLine (r .lines)))
 
 -- the answer to what is read in a line
 abbrev pub enters : PlanProgress → Read → LineAnswer
-enters r (row t ns) = cond (eqb t (r .plan .tick)) (rowEntered (takeOf (r .plan) ns .answer) (takeOf (r .plan) ns .plan) (nextLine (r .lines))) (noRowAnswer r)
+enters r (rowRead t ns) = cond (eqb t (r .plan .tick)) (rowEntered (checkRowOf (r .plan) ns .answer) (checkRowOf (r .plan) ns .plan) (nextLine (r .lines))) (noRowAnswer r)
 enters r noRow = noRowAnswer r
 
 -- .. and to a line
@@ -119,5 +119,5 @@ unfoldable pub checkedOf : List ℕ → PlanAnswer
 checkedOf bs = tableAnswer nothing [] [] bs
 
 -- the answer that is due once these bytes have come: the first line with another answer than more is answered at once
-unfoldable pub dueOf : List ℕ → PlanAnswer
-dueOf bs = tableAnswer unknown [] [] bs
+unfoldable pub answerSoFar : List ℕ → PlanAnswer
+answerSoFar bs = tableAnswer unknown [] [] bs

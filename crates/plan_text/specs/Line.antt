@@ -26,12 +26,12 @@ isByte w = isNumber w && leb (value w) 255
 
 -- the tick and the numbers of a row, or that there is none
 pub data Read : Type 0 where
-  row : ℕ → List ℕ → Read
+  rowRead : ℕ → List ℕ → Read
   noRow : Read
 
 -- the row of a tick and of words that all represent bytes
 unfoldable pub cellsOf : ℕ → List (List ℕ) → Read
-cellsOf t ws = cond (all isByte ws) (row t (map value ws)) noRow
+cellsOf t ws = cond (all isByte ws) (rowRead t (map value ws)) noRow
 
 -- the row of a line's words: the tick, and the numbers after it, as many as are read
 unfoldable pub rowOfWords : List (List ℕ) → Read
@@ -57,5 +57,5 @@ padCells ns = ns ++ replicate (mostCells - length ns) 0
 
 -- a row with its numbers and their count; of a line that is none all is zero
 abbrev pub readLine : Read → Line
-readLine (row t ns) = record { found = true; tick = t; count = length ns; cells = padCells ns }
+readLine (rowRead t ns) = record { found = true; tick = t; count = length ns; cells = padCells ns }
 readLine noRow = record { found = false; tick = 0; count = 0; cells = replicate mostCells 0 }

@@ -4,7 +4,7 @@ ghost use Prim.Native.Nat.{_≤_};
 ghost use mathlib.Core.Bool.{cond};
 ghost use mathlib.Core.List.{[]};
 ghost use lib.ListN.{drop, length};
-ghost use Rattle.plan_check.specs.Take.{takeOf};
+ghost use Rattle.plan_check.specs.CheckRow.{checkRowOf};
 ghost use Rattle.session.specs.Transcript.{isDashes, nothing};
 ghost use Rattle.plan_text.specs.declared.Stage.the-variants.{Table};
 ghost use Rattle.plan_text.specs.Checked.{nextLine, skipped, refusalAnswer, rowEntered, stepOf, isMore, openedOf, endAnswer, tableAnswer};
@@ -101,7 +101,7 @@ fn refusal_of(number: u32, tick: u32) -> PlanAnswer
     PlanAnswer::Refused(number, tick)
 }
 
-// The answer to a row by that of `take`.
+// The answer to a row by that of `check_row`.
 fn enter(row: Entered, lines: u32) -> LineAnswer
     ensures { λ r. ⌜ r ≡ rowEntered (row .answer) (row .plan) lines ⌝ }
 {
@@ -153,12 +153,12 @@ fn extent_of(plan: SuppliedPlan) -> KnownExtent
 // Takes a row of a plan with this extent.
 fn take(plan: SuppliedPlan, extent: KnownExtent, row: &[u8]) -> Entered
     requires { ⌜ ExtentKnown extent plan ⌝ }
-    ensures { λ r. ⌜ (r ≡ takeOf plan (now (row .entry))) × ExtentKnown extent (r .plan) ⌝ }
+    ensures { λ r. ⌜ (r ≡ checkRowOf plan (now (row .entry))) × ExtentKnown extent (r .plan) ⌝ }
 {
     if extent.known {
         return plan.enter(extent.start, extent.horizon, row);
     }
-    plan.take(row)
+    plan.check_row(row)
 }
 
 // The answer to a line of a plan with this extent, and the plan after it.

@@ -7,7 +7,7 @@ use Prim.Native.String.{String}
 use Rattle.model.specs.Grants.{claimants, given, grants, left}
 use Rattle.model.specs.Horizon.{S, horizon, hyperperiod, lcm}
 use Rattle.model.specs.Row.{owner, row}
-use Rattle.model.specs.Search.{any, filtered, least, memb, upFrom}
+use Rattle.model.specs.Search.{any, filtered, least, member, upFrom}
 use Rattle.model.proofs.Computing.{computing}
 use Rattle.model.proofs.LineByLine.{LineByLine, by-line}
 use Rattle.rule.specs.Widths.{widthsIn}
@@ -89,7 +89,7 @@ rows p = letters (p .lines)
 each-run : LineByLine stepping prints (map rows prints)
 unfolding linesIn lineIn textIn cells nextTickState afterEvents nextEventAfter evenAtTick grantedAt pairedIn withRelease releasedDue earliest workedTick mapPlaces setWhere widthsIn fields decimal
     lastDigits digitCount digitsWithin loadOf answerOf byWalk byTasks byHorizon firstOut endingOf lastStep headerNumber tableOf chain count visited horizon S
-    hyperperiod lcm least any filtered memb upFrom owner row given left grants claimants
+    hyperperiod lcm least any filtered member upFrom owner row given left grants claimants
 each-run = (refl, (refl, (refl, tt)))
 
 pub runs : map (λ p. stepped (loadOf (p .words)) (p .rows)) prints ≡ map (λ p. letters (p .lines)) prints

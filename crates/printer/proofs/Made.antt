@@ -45,7 +45,7 @@ use Rattle.judge.specs.JudgeAnswer.{JudgeAnswer, judged, refused, verdictMeanin
 use Rattle.judge.specs.Judged.{Judged, loadedTable, Fit}
 use Rattle.judge.proofs.Refines.{refines-start}
 use Rattle.judge.proofs.Contract.{meaning-case, fit, same-table, passed-is, refused-is}
-use Rattle.text.specs.Format.{mostNumbers, Words, words, noText, wordsOf}
+use Rattle.text.specs.Format.{mostNumbers, Words, readWords, noText, wordsOf}
 use Rattle.text.specs.Input.{inputOf, ReadOf}
 use Rattle.text.specs.Output.{firstLine, rowLines, rowsPrinted, printed, printedBy, outputOf, output, longestCells, longestLine}
 use Rattle.text.specs.Written.{Put}
@@ -261,7 +261,7 @@ pub read-fits : (bs : List ℕ) (r : Input) → ReadOf bs r → r .count ≤ len
 read-fits bs r h = subst⁻¹ (λ (i : Input). i .count ≤ length (i .words)) (h .value) (go (wordsOf bs))
   where
     go : (x : Words) → inputOf x .count ≤ length (inputOf x .words)
-    go (words ws) = omega (arith, length-append ws (replicate (mostNumbers - length ws) 0))
+    go (readWords ws) = omega (arith, length-append ws (replicate (mostNumbers - length ws) 0))
     go noText = omega arith
 
 -- no words are turned down with 1
@@ -279,7 +279,7 @@ bytes-made bs r p h w = record { valid = w .valid; whole = w .whole ∙ go (word
     read-words x e = ap (λ (i : Input). take (i .count) (i .words)) (h .value ∙ ap inputOf e)
 
     go : (x : Words) → wordsOf bs ≡ x → printedBy (answerOf (take (r .count) (r .words))) (tableOf (take (r .count) (r .words))) ≡ outputOf (wordsOf bs)
-    go (words ws) e =
-        ap (λ (l : List ℕ). printedBy (answerOf l) (tableOf l)) (read-words (words ws) e ∙ take-append-seam ws (replicate (mostNumbers - length ws) 0))
+    go (readWords ws) e =
+        ap (λ (l : List ℕ). printedBy (answerOf l) (tableOf l)) (read-words (readWords ws) e ∙ take-append-seam ws (replicate (mostNumbers - length ws) 0))
         ∙ ap outputOf (sym e)
     go noText e = ap (λ (l : List ℕ). printedBy (answerOf l) (tableOf l)) (read-words noText e) ∙ no-words ∙ ap outputOf (sym e)

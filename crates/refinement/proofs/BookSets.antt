@@ -32,7 +32,7 @@ use Rattle.refinement.specs.Refines.{firstRun}
 use Rattle.refinement.specs.Sets.{SetsBook, SetsHold, SetsKept}
 use Rattle.refinement.proofs.Refines.{sound, represented}
 use Rattle.refinement.proofs.EmptiedRelated.{EmptiedRelated, SameTable, below-count, claims-below, open-works, same-cores-at, same-lent, same-lent-at, same-offer, same-shown, same-widths}
-use Rattle.refinement.proofs.Related.{in-time, looks, same-any, same-first, same-misemptied}
+use Rattle.refinement.proofs.Related.{in-time, emptied-related, same-any, same-first, same-wrong-empties}
 use Rattle.refinement.proofs.Represents.{Represents}
 
 -- a run that represents a book gives its sets
@@ -58,9 +58,9 @@ same-sets s ok b r h e =
     go true q = refl
     go false q =
         let it = in-time s ok b r (h .related) q in
-        rw (same-misemptied s ok b r (h .related) it e)
+        rw (same-wrong-empties s ok b r (h .related) it e)
         (twenty (wrongEmpties s b e) (model.bookSets s (emptied s (emptyIn b e) b))
-        (ap (λ (gs : List (List ℕ)). in32 (map setOf gs)) (same-shown s ok (emptied s (emptyIn b e) b) r e (looks s ok b r (h .related) it e))))
+        (ap (λ (gs : List (List ℕ)). in32 (map setOf gs)) (same-shown s ok (emptied s (emptyIn b e) b) r e (emptied-related s ok b r (h .related) it e))))
 
 -- THEOREM (sets-book): for every table that start takes, Firm and Full alike, and every list of entries
 pub sets-book : (ws : List ℕ) → answerMeaning (startOf ws .answer) ≡ taken → (xs : List Entry) → SetsBook ws xs
@@ -85,7 +85,7 @@ module _ (s : Table) (ok : AllValid s) (b : Book) (r : Run) (h : Represents s b 
   module _ (t : answerMeaning (w .answer) ≡ taken) where
     -- no task is late, so the run as it is seen is related to the book
     seen : EmptiedRelated s c r e
-    seen = looks s ok b r (h .related) it e
+    seen = emptied-related s ok b r (h .related) it e
       where
         it : (p : ℕ) → p < length (s .tasks) → lateAt r p ≡ false
         it p l = not-true-false (lateAt r p) (λ x. o .taken .0 t 15 (suc p) (fifteen p (below-count s r same p l) (late-decides r p .0 x)))

@@ -43,9 +43,9 @@ small-advance r x e = by-out (runOut r) refl
     by-out false q = by-late q (ltb (firstLateIn r) (r .count)) refl
 
 -- .. and those of a withdrawal
-small-withdraw : (r : Run) (stranger : Bool) → EntryAnswer (answerMeaning (withdrawAnswer r stranger))
+small-withdraw : (r : Run) (unknown : Bool) → EntryAnswer (answerMeaning (withdrawAnswer r unknown))
 unfolding withdrawAnswer
-small-withdraw r stranger = go (runOut r) (firmIn r) stranger
+small-withdraw r unknown = go (runOut r) (firmIn r) unknown
   where
     go : (t u v : Bool) → EntryAnswer (answerMeaning (cond t (Refused 14 0) (cond u (cond v (Refused 22 0) Taken) (Refused 21 0))))
     go true u v = ((omega arith, omega arith), omega arith)

@@ -159,7 +159,7 @@ abbrev begins : Line → Begins
 begins l = record { table = tableOf (wordsOf l); start = answerMeaning (startOf (wordsOf l) .answer) }
 
 expected : Line → Begins
-expected l = record { table = l .table; start = startOutcome (l .says) }
+expected l = record { table = l .table; start = startOutcome (l .result) }
 
 -- what an example opens, so that its words' table and the answer of start compute
 unfoldable starting : Unit {0}
@@ -196,10 +196,10 @@ begun-lend =
     (refl, (refl, (refl, (refl, (refl, (refl, (refl, (refl, (refl, (refl, (refl, later)))))))))))
 
 -- the contract gives for lines through `replay` their values by the definitions
-through : (ls : List Line) → map worked ls ≡ ls → LineByLine begins ls (map expected ls) → Each (λ l. ByVerdict (l .says) l) ls
+through : (ls : List Line) → map worked ls ≡ ls → LineByLine begins ls (map expected ls) → Each (λ l. ByVerdict (l .result) l) ls
 through ls works starts =
-    both (λ l. worked l ≡ l) (λ l. begins l ≡ expected l) (λ l. ByVerdict (l .says) l)
-    (λ l w e. unfold expected in by-verdict l w (ap (λ (x : Begins). x .table) e) (l .says) (ap (λ (x : Begins). x .start) e))
+    both (λ l. worked l ≡ l) (λ l. begins l ≡ expected l) (λ l. ByVerdict (l .result) l)
+    (λ l w e. unfold expected in by-verdict l w (ap (λ (x : Begins). x .table) e) (l .result) (ap (λ (x : Begins). x .start) e))
     ls (each worked (λ l. l) ls (works ∙ sym (map-id ls))) (each begins expected ls (by-line begins ls (map expected ls) starts))
   where
     map-id : (ls : List Line) → map (λ l. l) ls ≡ ls
@@ -207,25 +207,25 @@ through ls works starts =
     map-id (l ∷ ls) = ap (λ (m : List Line). l ∷ m) (map-id ls)
 
 -- THEOREM: every marked line of the table of examples, through the contract of `replay`
-pub through-replay : Each (λ l. ByVerdict (l .says) l) lines
+pub through-replay : Each (λ l. ByVerdict (l .result) l) lines
 through-replay = through lines examples line-by-line
 
 -- and every line with empty jobs
-pub empty-through-replay : Each (λ l. ByVerdict (l .says) l) empty-lines
+pub empty-through-replay : Each (λ l. ByVerdict (l .result) l) empty-lines
 empty-through-replay = through empty-lines empty-examples begun-empty
 
 -- and every line with withdrawals
-pub withdraw-through-replay : Each (λ l. ByVerdict (l .says) l) withdraw-lines
+pub withdraw-through-replay : Each (λ l. ByVerdict (l .result) l) withdraw-lines
 withdraw-through-replay = through withdraw-lines withdraw-examples begun-withdraw
 
 -- and every line with several withdrawn together
-pub together-through-replay : Each (λ l. ByVerdict (l .says) l) together-lines
+pub together-through-replay : Each (λ l. ByVerdict (l .result) l) together-lines
 together-through-replay = through together-lines together-examples begun-together
 
 -- and every line with two widths
-pub width-through-replay : Each (λ l. ByVerdict (l .says) l) width-lines
+pub width-through-replay : Each (λ l. ByVerdict (l .result) l) width-lines
 width-through-replay = through width-lines width-examples begun-width
 
 -- and every line with lending
-pub lend-through-replay : Each (λ l. ByVerdict (l .says) l) lend-lines
+pub lend-through-replay : Each (λ l. ByVerdict (l .result) l) lend-lines
 lend-through-replay = through lend-lines lend-examples begun-lend

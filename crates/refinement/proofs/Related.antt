@@ -120,9 +120,9 @@ module _ (s : Table) (ok : AllValid s) (b : Book) (r : Run) (h : Related s b r) 
         go false i = refl
 
     -- so 20 is
-    pub same-misemptied : (e : ℕ) → wrongEmptiesIn r e ≡ wrongEmpties s b e
+    pub same-wrong-empties : (e : ℕ) → wrongEmptiesIn r e ≡ wrongEmpties s b e
     unfolding wrongEmptiesIn wrongEmpties
-    same-misemptied e =
+    same-wrong-empties e =
         any-same e (λ p. bit e p && not (emptiableAt r p)) (λ p. bit e p && not (emptiable s b p))
         (λ p l. ap (λ (m : Bool). bit e p && not m) (same-emptiable p))
 
@@ -131,8 +131,8 @@ module _ (s : Table) (ok : AllValid s) (b : Book) (r : Run) (h : Related s b r) 
     same-empty e p = ap (λ (w : ℕ). bit e p || bit w p) (h .same-withdrawn)
 
     -- as it is seen in a tick with the empties e, the run is related to the book with its empty jobs ended
-    pub looks : (e : ℕ) → EmptiedRelated s (emptied s (emptyIn b e) b) r e
-    looks e = record {
+    pub emptied-related : (e : ℕ) → EmptiedRelated s (emptied s (emptyIn b e) b) r e
+    emptied-related e = record {
       same = h .table;
       related = λ p l. unfold emptied in
           subst₂ (λ (u : Rule) (t : Bool). PhaseRelated (s .rule) (task s p) (b .tick) (emptied s (emptyIn b e) b .job p) (evenAt r p) (phaseEmptied u t (phaseAt r p)))
@@ -144,9 +144,9 @@ module _ (s : Table) (ok : AllValid s) (b : Book) (r : Run) (h : Related s b r) 
     -- a taken advance keeps them related
     pub related-on : (f : ℕ → Bool) (e : ℕ) → Related s (advanced s f (emptyIn b e) b) (moved f e r)
     related-on f e = record {
-      table = same-moved s ok (emptied s (emptyIn b e) b) r e (looks e) f;
+      table = same-moved s ok (emptied s (emptyIn b e) b) r e (emptied-related e) f;
       same-withdrawn = unfold step emptied moved in h .same-withdrawn;
-      related = λ p l. unfold step in related-moved s ok (emptied s (emptyIn b e) b) r e (looks e) f p l;
+      related = λ p l. unfold step in related-moved s ok (emptied s (emptyIn b e) b) r e (emptied-related e) f p l;
     }
 
 -- a withdrawal keeps them related: only the set moves

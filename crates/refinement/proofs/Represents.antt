@@ -27,7 +27,7 @@ use Rattle.run.proofs.Limits.{Passes, passes-runs, moved-passes, withdrawn-pass
 use Rattle.run.proofs.SetTests.{past-search}
 use Rattle.run.proofs.WithdrawExact.{taken-parts, taken-within}
 use Rattle.refinement.proofs.EmptiedRelated.{same-row, same-wrong-reports}
-use Rattle.refinement.proofs.Related.{Related, same-first, same-any, in-time, same-misemptied, looks, related-on, related-out}
+use Rattle.refinement.proofs.Related.{Related, same-first, same-any, in-time, same-wrong-empties, emptied-related, related-on, related-out}
 
 -- the run passes 14 and is related to the book
 pub record Represents (s : Table) (b : Book) (r : Run) : Type 0 where
@@ -61,8 +61,8 @@ module _ (s : Table) (ok : AllValid s) where
           let it = in-time s ok b r (h .related) q in
           let c : Book = emptied s (emptyIn b e) b in
           meaning-same (wrongEmptiesIn r e) (wrongReportsIn r e x)
-          ∙ ap₂ (λ (u v : Bool). cond u (refused 20 0) (cond v (refused 16 0) taken)) (same-misemptied s ok b r (h .related) it e)
-          (same-wrong-reports s ok c r e (looks s ok b r (h .related) it e) x)
+          ∙ ap₂ (λ (u v : Bool). cond u (refused 20 0) (cond v (refused 16 0) taken)) (same-wrong-empties s ok b r (h .related) it e)
+          (same-wrong-reports s ok c r e (emptied-related s ok b r (h .related) it e) x)
 
   -- .. and to a withdrawal ..
   same-withdraw : (b : Book) (r : Run) → Represents s b r → (t : Bool) → answerMeaning (withdrawAnswer r t) ≡ withdrawing s t
@@ -114,9 +114,9 @@ module _ (s : Table) (ok : AllValid s) where
       go true q = refl
       go false q =
           let it = in-time s ok b r (h .related) q in
-          rw (same-misemptied s ok b r (h .related) it e)
+          rw (same-wrong-empties s ok b r (h .related) it e)
           (twenty (wrongEmpties s b e) (bookRow s (emptied s (emptyIn b e) b))
-          (ap in64 (same-row s ok (emptied s (emptyIn b e) b) r e (looks s ok b r (h .related) it e))))
+          (ap in64 (same-row s ok (emptied s (emptyIn b e) b) r e (emptied-related s ok b r (h .related) it e))))
 
   -- an answer's number
   number : Answer → ℕ

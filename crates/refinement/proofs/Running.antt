@@ -3,7 +3,7 @@ use Rattle.model.specs.Firm.{firm, parallelismMonotonic}
 use Rattle.model.specs.Grants.{claimants, given, grants, left}
 use Rattle.model.specs.Lending.{among, merged, lent}
 use Rattle.model.specs.Row.{owner, row}
-use Rattle.model.specs.Search.{any, filtered, least, memb, upFrom}
+use Rattle.model.specs.Search.{any, filtered, least, member, upFrom}
 use Rattle.run.specs.Run.{grantsIn, lentIn, mapFirst, moved, offerIn, seeksIn, withdrawnIn}
 use Rattle.run.specs.Numbers.{pastCount, runOut, firstLateIn, wrongEmptiesIn, wrongReportsIn}
 use Rattle.run.specs.Advance.{advanceAnswer, advanceOf}
@@ -12,6 +12,6 @@ use Rattle.run.specs.Row.{rowAnswer, bytesIn, rowOf}
 use Rattle.refinement.specs.Entries.{answers, runAfterList}
 
 unfoldable pub running : Unit {0}
-unfolding any least memb upFrom filtered owner row given left grants claimants firm parallelismMonotonic lent merged among answers runAfterList advanceOf advanceAnswer withdrawOf
+unfolding any least member upFrom filtered owner row given left grants claimants firm parallelismMonotonic lent merged among answers runAfterList advanceOf advanceAnswer withdrawOf
     withdrawAllOf withdrawAnswer rowOf rowAnswer bytesIn pastCount runOut firstLateIn wrongEmptiesIn wrongReportsIn grantsIn offerIn seeksIn lentIn mapFirst moved withdrawnIn
 running = tt

@@ -3,7 +3,7 @@ use mathlib.Core.Path.{_≡_}
 use mathlib.Core.List.{List}
 use Prim.Native.Nat.{ℕ}
 use Rattle.model.specs.Book.{Entry, taken}
-use Rattle.model.specs.FirmKept.{FirmKept}
+use Rattle.model.specs.FirmGuarantee.{FirmGuarantee}
 use Rattle.table.specs.Words.{tableOf}
 use Rattle.run.specs.Answer.{answerMeaning}
 use Rattle.run.specs.Start.{startOf}
@@ -17,4 +17,4 @@ pub record RunRefinesBook (ws : List ℕ) (xs : List Entry) : Type 0 where
   pub refines : Refines ws xs
   -- no deadline is missed, the list is behind the full-length run on no job, and under rules 1 to 3, of two lists at one tick the one with no
   -- longer job is never behind
-  pub kept : FirmKept (tableOf ws) xs
+  pub kept : FirmGuarantee (tableOf ws) xs

@@ -17,18 +17,18 @@ use Rattle.response_time.specs.Response.{greatest, worstResponseBy, resp
 -- a line: the words of a table, and what is answered of them
 pub record Line : Type 0 where
   pub words : List ℕ
-  pub says : ResponseTimes
+  pub result : ResponseTimes
 
 -- the value by the definitions of a line's words
 abbrev pub worked : Line → Line
-worked l = record { words = l .words; says = responseTimesOf (l .words) }
+worked l = record { words = l .words; result = responseTimesOf (l .words) }
 
 -- these response times are given, with zeros past them; the words are turned down by a number, with its position
 abbrev gives : List ℕ → List ℕ → Line
-gives ws xs = record { words = ws; says = answers.givenTimes (xs ++ replicate (mostTasks - length xs) 0) }
+gives ws xs = record { words = ws; result = answers.givenTimes (xs ++ replicate (mostTasks - length xs) 0) }
 
 abbrev refuses : List ℕ → ℕ → ℕ → Line
-refuses ws n p = record { words = ws; says = noTimes n p }
+refuses ws n p = record { words = ws; result = noTimes n p }
 
 -- a header with an empty fence, and a record's seven words, with widths v and w and with both widths v
 abbrev header : ℕ → ℕ → ℕ → List ℕ

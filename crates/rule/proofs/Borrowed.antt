@@ -10,7 +10,7 @@ use lib.Dec.{eqb, ltb}
 use lib.ListN.{length, getD, length-map}
 use Rattle.model.specs.Grants.{claimants, grants, some}
 use Rattle.model.specs.Lending.{among, merged, lent, shownCores, tries, unlent}
-use Rattle.model.specs.Search.{filtered, memb}
+use Rattle.model.specs.Search.{filtered, member}
 use Rattle.model.specs.Task.{greedy}
 use Rattle.model.proofs.Bools.{and-left, and-right, not-true-false, or-cases, or-left, or-right}
 use Rattle.model.proofs.Grants.{grants-length, grants-none}
@@ -51,14 +51,14 @@ width-of [] c q = refl
 width-of (w ∷ ws) c zero = refl
 width-of (w ∷ ws) c (suc q) = width-of ws (λ p. c (suc p)) q
 
-pub memb-append : (c : ℕ) (a b : List ℕ) → memb c (a ++ b) ≡ memb c a || memb c b
-unfolding memb
+pub memb-append : (c : ℕ) (a b : List ℕ) → member c (a ++ b) ≡ member c a || member c b
+unfolding member
 memb-append c [] b = refl
-memb-append c (x ∷ a) b = ap (λ (t : Bool). eqb c x || t) (memb-append c a b) ∙ sym (or-assoc (eqb c x) (memb c a) (memb c b))
+memb-append c (x ∷ a) b = ap (λ (t : Bool). eqb c x || t) (memb-append c a b) ∙ sym (or-assoc (eqb c x) (member c a) (member c b))
 
 -- a number that is in two lists, one after the other, is in one of them
 in-append : (c : ℕ) (a b : List ℕ) → In c (a ++ b) → (In c a) ⊎ (In c b)
-in-append c a b h = or-cases (memb c a) (memb c b) (sym (memb-append c a b) ∙ h)
+in-append c a b h = or-cases (member c a) (member c b) (sym (memb-append c a b) ∙ h)
 
 module _ (ws : List ℕ) (sk : ℕ → Bool) (o : ℕ → List ℕ) where
   -- what each place has borrowed
@@ -108,18 +108,18 @@ module _ (ws : List ℕ) (sk : ℕ → Bool) (o : ℕ → List ℕ) where
 
   -- each core that is borrowed is lent by one of the places
   pub lent-from : (c n q : ℕ) → In c (had n q) → (m : ℕ) × (m < n) × In c (o m)
-  lent-from c zero q h = absurd (not-in-none c (sym (ap (memb c) (lent-none q)) ∙ h))
+  lent-from c zero q h = absurd (not-in-none c (sym (ap (member c) (lent-none q)) ∙ h))
   lent-from c (suc n) q h =
       ⊎-elim
       (λ k. let f = lent-from c n q k in (f .0, omega (arith, f .1), f .2))
       (λ k. (n, omega arith, in-grants greedy c (claimants ws (tried n)) (o n) q k))
-      (in-append c (had n q) (getD (lentBy n) q []) (sym (ap (memb c) (lent-more n q)) ∙ h))
+      (in-append c (had n q) (getD (lentBy n) q []) (sym (ap (member c) (lent-more n q)) ∙ h))
 
   -- no core is lent twice, where the places lend ascending lists and no core is in two of these
   pub lent-apart :
       (hi : ℕ) → ((m : ℕ) → Range 0 hi (o m)) → ((c i j : ℕ) → i < j → In c (o i) → In c (o j) → ⊥)
       → (n : ℕ) → Apart (lent ws sk o n)
-  lent-apart hi r a zero c i j l h k = not-in-none c (sym (ap (memb c) (lent-none i)) ∙ h)
+  lent-apart hi r a zero c i j l h k = not-in-none c (sym (ap (member c) (lent-none i)) ∙ h)
   lent-apart hi r a (suc n) c i j l h k =
       ⊎-elim
       (λ x. ⊎-elim (λ y. lent-apart hi r a n c i j l x y) (λ y. cross i j x y) (split j k))
@@ -127,7 +127,7 @@ module _ (ws : List ℕ) (sk : ℕ → Bool) (o : ℕ → List ℕ) where
       (split i h)
     where
       split : (q : ℕ) → In c (had (suc n) q) → (In c (had n q)) ⊎ (In c (getD (lentBy n) q []))
-      split q x = in-append c (had n q) (getD (lentBy n) q []) (sym (ap (memb c) (lent-more n q)) ∙ x)
+      split q x = in-append c (had n q) (getD (lentBy n) q []) (sym (ap (member c) (lent-more n q)) ∙ x)
 
       -- lent before, and lent by place n
       cross : (q q′ : ℕ) → In c (had n q) → In c (getD (lentBy n) q′ []) → ⊥
@@ -141,8 +141,8 @@ module _ (ws : List ℕ) (sk : ℕ → Bool) (o : ℕ → List ℕ) where
 among-of : (c : ℕ) (bs : List (List ℕ)) (j : ℕ) → In c (getD bs j []) → among c bs ≡ true
 unfolding among
 among-of c [] j h = absurd (not-in-none c h)
-among-of c (b ∷ bs) zero h = or-left (memb c b) (among c bs) h
-among-of c (b ∷ bs) (suc j) h = or-right (memb c b) (among c bs) (among-of c bs j h)
+among-of c (b ∷ bs) zero h = or-left (member c b) (among c bs) h
+among-of c (b ∷ bs) (suc j) h = or-right (member c b) (among c bs) (among-of c bs j h)
 
 map-place : (f : List ℕ → List ℕ) → f [] ≡ [] → (gs : List (List ℕ)) (q : ℕ) → getD (map f gs) q [] ≡ f (getD gs q [])
 map-place f e [] q = sym e
@@ -162,13 +162,13 @@ module _ (gs bs : List (List ℕ)) (same : length gs ≡ length bs) where
 
   module _ (c : ℕ) where
     split : (q : ℕ) → In c (getD (shownCores gs bs) q []) → (In c (getD bs q [])) ⊎ (In c (unlent bs (getD gs q [])))
-    split q h = in-append c (getD bs q []) (unlent bs (getD gs q [])) (sym (ap (memb c) (shown-place q)) ∙ h)
+    split q h = in-append c (getD bs q []) (unlent bs (getD gs q [])) (sym (ap (member c) (shown-place q)) ∙ h)
 
     -- what is kept is of its own, and of no other place
     kept-own : (q : ℕ) → In c (unlent bs (getD gs q [])) → (In c (getD gs q [])) × (among c bs ≡ false)
     kept-own q h =
         let e = sym (memb-kept (λ x. not (among x bs)) c (getD gs q [])) ∙ h in
-        (and-left (memb c (getD gs q [])) (not (among c bs)) e, not-not (among c bs) (and-right (memb c (getD gs q [])) (not (among c bs)) e))
+        (and-left (member c (getD gs q [])) (not (among c bs)) e, not-not (among c bs) (and-right (member c (getD gs q [])) (not (among c bs)) e))
       where
         not-not : (t : Bool) → not t ≡ true → t ≡ false
         not-not false e = refl

@@ -3,12 +3,12 @@ use mathlib.Core.Path.{_≡_, refl}
 use mathlib.Core.List.{List, [], _∷_, _++_, map}
 use Prim.Native.Nat.{ℕ, _^_}
 use lib.ListN.{replicate}
-use Rattle.model.specs.Search.{bit, filtered, memb, upFrom}
+use Rattle.model.specs.Search.{bit, filtered, member, upFrom}
 use Rattle.model.specs.Task.{greedy, limited}
 use Rattle.model.specs.Grants.{claimants, given, left, grants}
 use Rattle.cores.specs.Cores.{cores}
 use Rattle.rule.specs.Granted.{granted}
-use Rattle.rule.specs.Marked.{marked, shown}
+use Rattle.rule.specs.Marked.{marked, shownBytes}
 use Rattle.rule.specs.Widths.{widthsIn}
 
 -- widths 2, 2 and 1 on three cores, all claiming: greedy passes the second over, limited ends there
@@ -39,6 +39,6 @@ unfolding widthsIn upFrom
 last-turned = refl
 
 -- position 1 on cores 0 and 2, position 3 on core 1, over a row that has 255 on core 3
-pub three-shown : shown (0 ∷ 0 ∷ 0 ∷ 255 ∷ []) 1 ((0 ∷ 2 ∷ []) ∷ [] ∷ (1 ∷ []) ∷ []) ≡ 1 ∷ 3 ∷ 1 ∷ 255 ∷ []
-unfolding shown marked memb upFrom
+pub three-shown : shownBytes (0 ∷ 0 ∷ 0 ∷ 255 ∷ []) 1 ((0 ∷ 2 ∷ []) ∷ [] ∷ (1 ∷ []) ∷ []) ≡ 1 ∷ 3 ∷ 1 ∷ 255 ∷ []
+unfolding shownBytes marked member upFrom
 three-shown = refl

@@ -6,7 +6,7 @@ use lib.ListN.{length, replicate}
 use Rattle.model.specs.Grants.{claimants, given, left, grants}
 use Rattle.model.specs.Lending.{among, merged, lent, shownCores}
 use Rattle.model.specs.Row.{owner, row}
-use Rattle.model.specs.Search.{bit, filtered, memb, upFrom}
+use Rattle.model.specs.Search.{bit, filtered, member, upFrom}
 use Rattle.cores.specs.Cores.{cores}
 use Rattle.rule.specs.Lent.{offered}
 
@@ -77,9 +77,9 @@ all-cores = refl
 
 -- the row shows the borrower, and the holder on what it keeps; a place that works keeps its cores
 pub keeps-the-rest : shownCores ((0 ∷ 1 ∷ 2 ∷ []) ∷ (4 ∷ []) ∷ [] ∷ []) ([] ∷ [] ∷ (0 ∷ 1 ∷ []) ∷ []) ≡ (2 ∷ []) ∷ (4 ∷ []) ∷ (0 ∷ 1 ∷ []) ∷ []
-unfolding merged among memb filtered
+unfolding merged among member filtered
 keeps-the-rest = refl
 
 pub row-of-lent : row 8 6 (shownCores ((0 ∷ 1 ∷ 2 ∷ []) ∷ (4 ∷ []) ∷ [] ∷ []) ([] ∷ [] ∷ (0 ∷ 1 ∷ []) ∷ [])) ≡ 3 ∷ 3 ∷ 1 ∷ 255 ∷ 2 ∷ 0 ∷ []
-unfolding row owner merged among memb filtered upFrom
+unfolding row owner merged among member filtered upFrom
 row-of-lent = refl

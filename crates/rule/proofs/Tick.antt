@@ -13,7 +13,7 @@ use borrow.Author.Tests.{eq-eqb, eqb-false, eqb-true, ltb-false, ltb-true}
 use Rattle.model.specs.Fence.{unfenced}
 use Rattle.model.specs.Grants.{Claimant, claimants, fits, given, grants, left, some}
 use Rattle.model.specs.Lending.{among, lent, lentAway, shownCores, unlent}
-use Rattle.model.specs.Search.{bit, filtered, consIf, memb, upFrom}
+use Rattle.model.specs.Search.{bit, filtered, consIf, member, upFrom}
 use Rattle.model.specs.Sets.{SetsApart, SetsCount, SetsUnfenced, setOf}
 use Rattle.model.specs.Task.{Rule, greedy}
 use Rattle.model.proofs.Bools.{not-false-true, not-true-false, or-cases, or-right}
@@ -65,16 +65,16 @@ unfolding among
 among-some c [] e = absurd (false≢true e)
 among-some c (b ∷ bs) e =
     ⊎-elim
-    (λ (h : memb c b ≡ true). (0, h))
+    (λ (h : member c b ≡ true). (0, h))
     (λ (h : among c bs ≡ true). let x = among-some c bs h in (suc (x .0), x .1))
-    (or-cases (memb c b) (among c bs) e)
+    (or-cases (member c b) (among c bs) e)
 
 kept-all : (f : ℕ → Bool) (l : List ℕ) → ((c : ℕ) → In c l → f c ≡ true) → filtered f l ≡ l
-unfolding filtered memb
+unfolding filtered member
 kept-all f [] h = refl
 kept-all f (x ∷ l) h =
     ap (λ (t : Bool). consIf t x (filtered f l)) (h x (rw (eq-eqb x x refl)))
-    ∙ ap (λ (k : List ℕ). x ∷ k) (kept-all f l (λ c e. h c (or-right (eqb c x) (memb c l) e)))
+    ∙ ap (λ (k : List ℕ). x ∷ k) (kept-all f l (λ c e. h c (or-right (eqb c x) (member c l) e)))
 
 -- ---- the cores of a tick: ws are the widths and c the claims, of which the rule gives the unfenced cores; a place that seeks has none of them, and what a
 -- place offers is what it is given, or nothing
@@ -232,7 +232,7 @@ module _ (r : Rule) (ws : List ℕ) (c : ℕ → Bool) (f m : ℕ) (sk : ℕ →
       unfolding setOf
       at p = List·getD-map setOf (shownCores gs bs) p []
 
-      has : (p x : ℕ) → bit (getD sets p 0) x ≡ memb x (shownAt p)
+      has : (p x : ℕ) → bit (getD sets p 0) x ≡ member x (shownAt p)
       has p x = ap (λ (n : ℕ). bit n x) (at p) ∙ set-bit (shownAt p) (ascending p) x
 
       pub tick-sets-apart : SetsApart sets

@@ -12,7 +12,7 @@ use lib.Seq.{drop-cons}
 use borrow.Author.Tests.{lt-ltb, ltb-true, ltb-false}
 use Rattle.model.specs.Grants.{some}
 use Rattle.model.specs.Lending.{among}
-use Rattle.model.specs.Search.{bit, memb, upFrom}
+use Rattle.model.specs.Search.{bit, member, upFrom}
 use Rattle.model.proofs.Digits.{bit-none, or-bit}
 use Rattle.cores.specs.Cores.{cores}
 use Rattle.cores.proofs.Ascending.{kept-same, range-up}
@@ -26,8 +26,8 @@ some-cores (suc n) h = ap some (popped (suc n) (omega arith) h .rest) ∙ sym (l
 -- ---- one set beside another, where one of them has no core
 
 no-digit : (a c : ℕ) → cores a ≡ [] → c < 64 → bit a c ≡ false
-unfolding memb
-no-digit a c e h = sym (cores-memb a c h) ∙ ap (memb c) e
+unfolding member
+no-digit a c e h = sym (cores-memb a c h) ∙ ap (member c) e
 
 or-none : (a b : ℕ) → cores a ≡ [] → cores (bitOr a b) ≡ cores b
 unfolding cores

@@ -6,7 +6,7 @@ use mathlib.Core.Logic.{_⊎_}
 use Prim.Native.Nat.{ℕ, _-_, _≤_, _<_}
 use lib.ListN.{length, getD, take, drop, replicate}
 use Rattle.model.specs.Lending.{lent, unlent}
-use Rattle.model.specs.Search.{bit, memb}
+use Rattle.model.specs.Search.{bit, member}
 use Rattle.model.specs.Sizes.{mostTasks}
 use Rattle.cores.specs.Cores.{cores}
 
@@ -35,5 +35,5 @@ pub record ShownAs (reserved borrowed : List ℕ) (count : ℕ) (sets : List ℕ
 
 -- a row of m cores with this fence can show these lists: no core is in two of them, and each is below m and outside the fence
 pub record Showable (fence m : ℕ) (gs : List (List ℕ)) : Type 0 where
-  pub apart : (c i j : ℕ) → i < j → memb c (getD gs i []) ≡ true → memb c (getD gs j []) ≡ true → ⊥
-  pub unfenced-only : (c j : ℕ) → memb c (getD gs j []) ≡ true → (c < m) × (bit fence c ≡ false)
+  pub apart : (c i j : ℕ) → i < j → member c (getD gs i []) ≡ true → member c (getD gs j []) ≡ true → ⊥
+  pub unfenced-only : (c j : ℕ) → member c (getD gs j []) ≡ true → (c < m) × (bit fence c ≡ false)

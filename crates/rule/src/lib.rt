@@ -17,7 +17,7 @@ ghost use Rattle.cores.specs.Cores.{cores};
 ghost use Rattle.cores.specs.Cores as listed;
 ghost use Rattle.rule.specs.Granted.{selection, GrantedAs, granted};
 ghost use Rattle.rule.specs.Lent.{LentAs, NotBoth, ShownAs, Showable};
-ghost use Rattle.rule.specs.Marked.{marked, shown};
+ghost use Rattle.rule.specs.Marked.{marked, shownBytes};
 ghost use Rattle.rule.specs.Widths.{widthsIn};
 use model::FENCED;
 use model::MOST_TASKS;
@@ -140,7 +140,7 @@ pub fn mark(row: [u8; ROW], set: u64, mark: u8) -> [u8; ROW]
 // The row with each position on its cores; the first set is that of position `first`.
 pub fn row_of(start: [u8; ROW], first: u8, sets: &[u64; MOST_TASKS], count: usize) -> [u8; ROW]
     requires { ⌜ (count ≤ mostTasks) × (first + count ≤ 256) ⌝ }
-    ensures { λ r. ⌜ r ≡ shown start first (map cores (take count (now (sets .entry)))) ⌝ }
+    ensures { λ r. ⌜ r ≡ shownBytes start first (map cores (take count (now (sets .entry)))) ⌝ }
 {
     let mut out = start;
     let mut i: usize = 0;

@@ -38,7 +38,7 @@ use Rattle.run.proofs.First.{by-taken, by-refused, Right, refused-exact
 use Rattle.run.proofs.SetTests.{beyond-decides, set-decides}
 use Rattle.run.proofs.Limits.{run-decides}
 use Rattle.run.proofs.Again.{advance-passes}
-use Rattle.run.proofs.Past.{past-unchanged}
+use Rattle.run.proofs.UnusedPlaces.{past-unchanged}
 
 -- THE TESTS OF 15, 20 AND 16
 

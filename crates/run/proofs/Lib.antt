@@ -5,7 +5,7 @@ pub mod Places
 pub mod SetTests
 pub mod Limits
 pub mod First
-pub mod Past
+pub mod UnusedPlaces
 pub mod Again
 pub mod Exact
 pub mod WithdrawExact

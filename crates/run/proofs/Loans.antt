@@ -14,7 +14,7 @@ use borrow.Author.Tests.{eq-eqb, ltb-false, ltb-true, not-true}
 use Rattle.model.specs.Task.{Rule}
 use Rattle.model.specs.Grants.{claimants, some}
 use Rattle.model.specs.Lending.{lends, lent, shownCores}
-use Rattle.model.specs.Search.{bit, memb}
+use Rattle.model.specs.Search.{bit, member}
 use Rattle.model.specs.Sets.{setOf}
 use Rattle.model.proofs.Bools.{and-right}
 use Rattle.model.proofs.Digits.{bit-none, without-bit}
@@ -36,7 +36,7 @@ use Rattle.run.specs.Allocation.{AllocationOf, givenTo, isGiven, lentTo}
 -- ---- where nothing is offered nothing is borrowed
 
 pub lent-nothing : (ws : List ℕ) (sk : ℕ → Bool) (o : ℕ → List ℕ) → ((q : ℕ) → o q ≡ []) → (n q : ℕ) → getD (lent ws sk o n) q [] ≡ []
-unfolding memb
+unfolding member
 lent-nothing ws sk o e n q = go (getD (lent ws sk o n) q []) refl
   where
     here : (c : ℕ) (cs : List ℕ) → In c (c ∷ cs)
@@ -45,7 +45,7 @@ lent-nothing ws sk o e n q = go (getD (lent ws sk o n) q []) refl
     go : (l : List ℕ) → getD (lent ws sk o n) q [] ≡ l → l ≡ []
     go [] i = refl
     go (c ∷ cs) i =
-        let f = lent-from ws sk o c n q (ap (memb c) i ∙ here c cs) in
+        let f = lent-from ws sk o c n q (ap (member c) i ∙ here c cs) in
         absurd (not-in-none c (subst (In c) (e (f .0)) (f .2)))
 
 -- so it is under rules 1 to 3

@@ -12,7 +12,7 @@ use lib.Pow.{pow-pos}
 use borrow.Author.Tests.{eq-eqb, eqb-true, lt-ltb, ltb-false, ltb-true, ne-eqb}
 use Rattle.model.specs.Grants.{some}
 use Rattle.model.specs.Row.{byteOf, owner, row}
-use Rattle.model.specs.Search.{bit, memb, upFrom}
+use Rattle.model.specs.Search.{bit, member, upFrom}
 use Rattle.model.specs.Sets.{setOf}
 use Rattle.model.specs.Sizes.{fencedByte, mostCores, mostTasks}
 use Rattle.model.proofs.Bools.{not-true-false, same-test}
@@ -33,14 +33,14 @@ padded (x ∷ xs) k (suc p) = padded xs k p
 
 -- and shows nothing
 no-owner : (c p k : ℕ) → owner c p (map cores (replicate k 0)) ≡ 0
-unfolding owner memb
+unfolding owner member
 no-owner c p zero = refl
 no-owner c p (suc k) = rw cores-none (no-owner c (suc p) k)
 
 same-owner : (c p : ℕ) (sets : List ℕ) (k : ℕ) → owner c p (map cores (sets ++ replicate k 0)) ≡ owner c p (map cores sets)
 unfolding owner
 same-owner c p [] k = no-owner c p k
-same-owner c p (x ∷ sets) k = ap (cond (memb c (cores x)) p) (same-owner c (suc p) sets k)
+same-owner c p (x ∷ sets) k = ap (cond (member c (cores x)) p) (same-owner c (suc p) sets k)
 
 pub same-row : (f m : ℕ) (sets : List ℕ) (k : ℕ) → row f m (map cores (sets ++ replicate k 0)) ≡ row f m (map cores sets)
 unfolding row
@@ -63,9 +63,9 @@ some-append (x ∷ a) b = refl
 owner-in : (c p : ℕ) (gs : List (List ℕ)) (x : ℕ) → owner c p gs ≡ x → 0 < x → (q : ℕ) × (x ≡ p + q) × In c (getD gs q [])
 unfolding owner
 owner-in c p [] x e h = absurd (omega arith)
-owner-in c p (g ∷ gs) x e h = go (memb c g) refl e (λ k. owner-in c (suc p) gs x k h)
+owner-in c p (g ∷ gs) x e h = go (member c g) refl e (λ k. owner-in c (suc p) gs x k h)
   where
-    go : (t : Bool) → memb c g ≡ t → cond t p (owner c (suc p) gs) ≡ x
+    go : (t : Bool) → member c g ≡ t → cond t p (owner c (suc p) gs) ≡ x
         → (owner c (suc p) gs ≡ x → (q : ℕ) × (x ≡ suc p + q) × In c (getD gs q []))
         → (q : ℕ) × (x ≡ p + q) × In c (getD (g ∷ gs) q [])
     go true m k ih = (0, omega arith, m)
@@ -79,7 +79,7 @@ unfolding owner
 owner-of c p [] a q h = absurd (not-in-none c h)
 owner-of c p (g ∷ gs) a zero h = rw h (omega arith)
 owner-of c p (g ∷ gs) a (suc q) h =
-    rw (not-true-false (memb c g) (λ k. a 0 (suc q) (omega arith) k h))
+    rw (not-true-false (member c g) (λ k. a 0 (suc q) (omega arith) k h))
     (owner-of c (suc p) gs (λ i j l. a (suc i) (suc j) (omega arith)) q h ∙ omega arith)
 
 -- ---- the bytes
@@ -94,16 +94,16 @@ module _ (f m : ℕ) (gs : List (List ℕ)) where
       go false e = List·getD-eq-default (row f m gs) 0 (omega (arith, row-length f m gs, ltb-false c m e))
 
   -- a byte is a position exactly if its list has the core
-  pub shown-owned : Showable f m gs → (p c : ℕ) → p < mostTasks → memb c (getD gs p []) ≡ eqb (getD (in64 (row f m gs)) c 0) (suc p)
+  pub shown-owned : Showable f m gs → (p c : ℕ) → p < mostTasks → member c (getD gs p []) ≡ eqb (getD (in64 (row f m gs)) c 0) (suc p)
   shown-owned s p c l = go (ltb c m) refl (bit f c) refl ∙ ap (λ (x : ℕ). eqb x (suc p)) (sym (byte-at c))
     where
-      closed : ((c < m) × (bit f c ≡ false) → ⊥) → memb c (getD gs p []) ≡ false
-      closed n = not-true-false (memb c (getD gs p [])) (λ h. n (s .unfenced-only c p h))
+      closed : ((c < m) × (bit f c ≡ false) → ⊥) → member c (getD gs p []) ≡ false
+      closed n = not-true-false (member c (getD gs p [])) (λ h. n (s .unfenced-only c p h))
 
-      go : (t : Bool) → ltb c m ≡ t → (u : Bool) → bit f c ≡ u → memb c (getD gs p []) ≡ eqb (cond t (cond u fencedByte (owner c 1 gs)) 0) (suc p)
+      go : (t : Bool) → ltb c m ≡ t → (u : Bool) → bit f c ≡ u → member c (getD gs p []) ≡ eqb (cond t (cond u fencedByte (owner c 1 gs)) 0) (suc p)
       go true e true o = closed (λ x. false≢true (sym (x .1) ∙ o)) ∙ sym (ne-eqb fencedByte (suc p) (λ z. omega arith))
       go true e false o =
-          same-test (memb c (getD gs p [])) (eqb (owner c 1 gs) (suc p))
+          same-test (member c (getD gs p [])) (eqb (owner c 1 gs) (suc p))
           (λ h. eq-eqb (owner c 1 gs) (suc p) (owner-of c 1 gs (s .apart c) p h ∙ omega arith))
           (λ h.
           let x = owner-in c 1 gs (suc p) (eqb-true (owner c 1 gs) (suc p) h) (omega arith) in

@@ -35,45 +35,45 @@ pub unknown-decides : (r : Run) (p : ℕ) → Decides (unknownIn r p) (NoSuchPos
 unknown-decides r p = decides-or _ _ _ _ (decides-eq p 0) (decides-lt (r .count) p)
 
 -- THE FIRST NUMBER, where the test t decides whether there is an unknown position
-module _ (r : Run) (t : Bool) (stranger : Type 0) (d : Decides t stranger) where
-  withdraw-14 : runOut r ≡ true → FirstOf (WithdrawApplies r stranger) 14 0
+module _ (r : Run) (t : Bool) (unknown : Type 0) (d : Decides t unknown) where
+  withdraw-14 : runOut r ≡ true → FirstOf (WithdrawApplies r unknown) 14 0
   unfolding place
   withdraw-14 q = (not-a-run (run-decides r .0 q), earlier)
     where
-      earlier : (m i : ℕ) → Earlier m i 14 0 → ¬ WithdrawApplies r stranger m i
+      earlier : (m i : ℕ) → Earlier m i 14 0 → ¬ WithdrawApplies r unknown m i
       earlier m i x (not-a-run h) = not-before-itself 14 0 x
       earlier m i x (twenty-one h) = later 21 0 14 0 (omega arith) x
       earlier m i x (twenty-two h) = later 22 0 14 0 (omega arith) x
 
-  withdraw-21 : runOut r ≡ false → firmIn r ≡ false → FirstOf (WithdrawApplies r stranger) 21 0
+  withdraw-21 : runOut r ≡ false → firmIn r ≡ false → FirstOf (WithdrawApplies r unknown) 21 0
   unfolding place
   withdraw-21 q f = (twenty-one (fails (firmIn r) (FirmRule (runTable r)) (firm-exact (runTable r)) f), earlier)
     where
-      earlier : (m i : ℕ) → Earlier m i 21 0 → ¬ WithdrawApplies r stranger m i
+      earlier : (m i : ℕ) → Earlier m i 21 0 → ¬ WithdrawApplies r unknown m i
       earlier m i x (not-a-run h) = fails (runOut r) (RunOut r) (run-decides r) q h
       earlier m i x (twenty-one h) = not-before-itself 21 0 x
       earlier m i x (twenty-two h) = later 22 0 21 0 (omega arith) x
 
-  withdraw-22 : runOut r ≡ false → firmIn r ≡ true → t ≡ true → FirstOf (WithdrawApplies r stranger) 22 0
+  withdraw-22 : runOut r ≡ false → firmIn r ≡ true → t ≡ true → FirstOf (WithdrawApplies r unknown) 22 0
   withdraw-22 q f g = (twenty-two (d .0 g), earlier)
     where
-      earlier : (m i : ℕ) → Earlier m i 22 0 → ¬ WithdrawApplies r stranger m i
+      earlier : (m i : ℕ) → Earlier m i 22 0 → ¬ WithdrawApplies r unknown m i
       earlier m i x (not-a-run h) = fails (runOut r) (RunOut r) (run-decides r) q h
       earlier m i x (twenty-one h) = h (firm-exact (runTable r) .0 f)
       earlier m i x (twenty-two h) = not-before-itself 22 0 x
 
-  withdraw-none : runOut r ≡ false → firmIn r ≡ true → t ≡ false → NoneOf (WithdrawApplies r stranger)
+  withdraw-none : runOut r ≡ false → firmIn r ≡ true → t ≡ false → NoneOf (WithdrawApplies r unknown)
   withdraw-none q f g m i (not-a-run h) = fails (runOut r) (RunOut r) (run-decides r) q h
   withdraw-none q f g m i (twenty-one h) = h (firm-exact (runTable r) .0 f)
-  withdraw-none q f g m i (twenty-two h) = fails t stranger d g h
+  withdraw-none q f g m i (twenty-two h) = fails t unknown d g h
 
   -- THE LAW OF A WITHDRAWAL
-  withdraw-right : Right (WithdrawApplies r stranger) (withdrawAnswer r t)
+  withdraw-right : Right (WithdrawApplies r unknown) (withdrawAnswer r t)
   unfolding withdrawAnswer
   withdraw-right = go (runOut r) refl (firmIn r) refl t refl
     where
       go : (a : Bool) → runOut r ≡ a → (b : Bool) → firmIn r ≡ b → (c : Bool) → t ≡ c
-          → Right (WithdrawApplies r stranger) (cond a (Refused 14 0) (cond b (cond c (Refused 22 0) Taken) (Refused 21 0)))
+          → Right (WithdrawApplies r unknown) (cond a (Refused 14 0) (cond b (cond c (Refused 22 0) Taken) (Refused 21 0)))
       go true q b f c g = withdraw-14 q
       go false q false f c g = withdraw-21 q f
       go false q true f true g = withdraw-22 q f g
@@ -92,7 +92,7 @@ taken-parts r t e = go (runOut r) (firmIn r) t e
     go false true false q = (refl, refl, refl)
 
 -- the result of a withdrawal of the set x, where there is no unknown position only if x is within the count
-module _ (r : Run) (t : Bool) (stranger : Type 0) (d : Decides t stranger) (x : ℕ) (known : runOut r ≡ false → t ≡ false → pastCount (r .count) x ≡ false) where
+module _ (r : Run) (t : Bool) (unknown : Type 0) (d : Decides t unknown) (x : ℕ) (known : runOut r ≡ false → t ≡ false → pastCount (r .count) x ≡ false) where
   again-passes : answerMeaning (withdrawAnswer r t) ≡ model.taken → ¬ RunOut (byAnswer (withdrawAnswer r t) (withdrawnIn x r) r)
   again-passes e =
       let parts = taken-parts r t e in
@@ -108,10 +108,10 @@ module _ (r : Run) (t : Bool) (stranger : Type 0) (d : Decides t stranger) (x : 
       go Taken = unfold withdrawnIn in refl
       go (Refused n p) = refl
 
-  pub withdrawn-of : WithdrawnOf r stranger x (record { answer = withdrawAnswer r t; run = byAnswer (withdrawAnswer r t) (withdrawnIn x r) r })
+  pub withdrawn-of : WithdrawnOf r unknown x (record { answer = withdrawAnswer r t; run = byAnswer (withdrawAnswer r t) (withdrawnIn x r) r })
   withdrawn-of = record {
-    refused = refused-exact (WithdrawApplies r stranger) (withdrawAnswer r t) (withdraw-right r t stranger d);
-    taken = taken-exact (WithdrawApplies r stranger) (withdrawAnswer r t) (withdraw-right r t stranger d);
+    refused = refused-exact (WithdrawApplies r unknown) (withdrawAnswer r t) (withdraw-right r t unknown d);
+    taken = taken-exact (WithdrawApplies r unknown) (withdrawAnswer r t) (withdraw-right r t unknown d);
     on = by-taken (withdrawAnswer r t) (withdrawnIn x r) r;
     as-given = by-refused (withdrawAnswer r t) (withdrawnIn x r) r;
     passes = again-passes;

@@ -9,7 +9,7 @@ use native.Mathlib.Omega.{arith}
 use lib.Bits.{bitOr, or-zero-r}
 use lib.ListN.{length, replicate}
 use borrow.Author.Tests.{le-ltb, ne-eqb}
-use Rattle.model.specs.Search.{memb}
+use Rattle.model.specs.Search.{member}
 use Rattle.model.specs.Book as model
 use Rattle.model.specs.Book.{singleton}
 use Rattle.model.specs.Firm.{FirmRule}
@@ -133,5 +133,5 @@ withdraw-set-taken r x h = (
 
 -- the empty set: 14, 21, or taken; and the run as given
 pub withdraw-none : (r : Run) → withdrawAllOf r 0 .run ≡ r
-unfolding withdrawEach memb
+unfolding withdrawEach member
 withdraw-none r = as-singles r 0 (λ q e. absurd (true≢false (sym e ∙ bit-none q))) [] (λ q. sym (bit-none q)) .0

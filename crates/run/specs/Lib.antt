@@ -8,6 +8,6 @@ pub mod Row
 pub mod Sets
 pub mod Tick
 pub mod Start
-pub mod Past
+pub mod UnusedPlaces
 pub mod Claims
 pub mod Allocation

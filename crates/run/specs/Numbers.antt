@@ -78,13 +78,13 @@ pub data AdvanceApplies (r : Run) (x e : ℕ) : ℕ → ℕ → Type 0 where
   sixteen : (p : ℕ) → WrongReports r e x p → AdvanceApplies r x e 16 0
 
 -- number n applies to a withdrawal from the run, with position p; `unknownPosition` is the statement that one of its positions is not in the run
-pub data WithdrawApplies (r : Run) (stranger : Type 0) : ℕ → ℕ → Type 0 where
+pub data WithdrawApplies (r : Run) (unknown : Type 0) : ℕ → ℕ → Type 0 where
   -- 14, as of row, sets and advance
-  not-a-run : RunOut r → WithdrawApplies r stranger 14 0
+  not-a-run : RunOut r → WithdrawApplies r unknown 14 0
   -- 21. Withdraw: the run's rule and widths are not firm.
-  twenty-one : ¬ FirmRule (runTable r) → WithdrawApplies r stranger 21 0
+  twenty-one : ¬ FirmRule (runTable r) → WithdrawApplies r unknown 21 0
   -- 22. Withdraw: no such position.
-  twenty-two : stranger → WithdrawApplies r stranger 22 0
+  twenty-two : unknown → WithdrawApplies r unknown 22 0
 
 -- no such position: 0, or past the count (of a set: `PastCount`)
 abbrev pub NoSuchPosition : Run → ℕ → Type 0

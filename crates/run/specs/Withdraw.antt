@@ -19,7 +19,7 @@ use Rattle.run.specs.Numbers.{RunOut, WithdrawApplies, NoSuchPosition, P
 
 -- 14, then 21, then 22 where one of its positions is not in the run; else taken. 15 is not tested
 unfoldable pub withdrawAnswer : Run → Bool → Answer
-withdrawAnswer r stranger = cond (runOut r) (Refused 14 0) (cond (firmIn r) (cond stranger (Refused 22 0) Taken) (Refused 21 0))
+withdrawAnswer r unknown = cond (runOut r) (Refused 14 0) (cond (firmIn r) (cond unknown (Refused 22 0) Taken) (Refused 21 0))
 
 -- the run with position p withdrawn; where refused, the run as given
 unfoldable pub withdrawOf : Run → ℕ → Advanced
@@ -36,10 +36,10 @@ withdrawAllOf r x = record {
 }
 
 -- what a withdrawal of the positions of set x from run r guarantees; `unknownPosition` is the statement that one of them is not in the run
-pub record WithdrawnOf (r : Run) (stranger : Type 0) (x : ℕ) (a : Advanced) : Type 0 where
+pub record WithdrawnOf (r : Run) (unknown : Type 0) (x : ℕ) (a : Advanced) : Type 0 where
   -- refused with n and p exactly if number n applies with position p and no earlier one does; taken exactly if none applies
-  pub refused : (n p : ℕ) → (answerMeaning (a .answer) ≡ model.refused n p) ↔ FirstOf (WithdrawApplies r stranger) n p
-  pub taken : (answerMeaning (a .answer) ≡ model.taken) ↔ NoneOf (WithdrawApplies r stranger)
+  pub refused : (n p : ℕ) → (answerMeaning (a .answer) ≡ model.refused n p) ↔ FirstOf (WithdrawApplies r unknown) n p
+  pub taken : (answerMeaning (a .answer) ≡ model.taken) ↔ NoneOf (WithdrawApplies r unknown)
   -- taken: only the withdrawn set changes
   pub on : answerMeaning (a .answer) ≡ model.taken → a .run ≡ withdrawnIn x r
   -- refused: the run as given

@@ -5,7 +5,7 @@ use mathlib.Core.Path.{_≡_, refl, ap, sym, subst, _∙_}
 use Prim.Native.Nat.{ℕ}
 use Rattle.sentence.specs.Facts.{Facts, Ascending, Expressible, named, factsBy}
 use Rattle.sentence.specs.Sentence.{parts, sentenceHead, sentenceText}
-use Rattle.sentence.specs.Parsed.{parsedBy, nothing, FactsOf}
+use Rattle.sentence.specs.Parsed.{parsedBy, noFacts, FactsOf}
 use Rattle.sentence.specs.Reading.{PartsOf, HeadOf, heading}
 use Rattle.sentence.specs.declared.ParsedFacts.{ParsedFacts}
 use Rattle.sentence.specs.declared.reader.Head.{Head}
@@ -23,7 +23,7 @@ facts-found bs r e h = record {
 }
 
 -- no facts
-pub facts-none : (bs : List ℕ) (r : ParsedFacts) → r ≡ nothing → ((f : Facts) → Expressible f → ¬ (bs ≡ sentenceText f)) → FactsOf bs r
+pub facts-none : (bs : List ℕ) (r : ParsedFacts) → r ≡ noFacts → ((f : Facts) → Expressible f → ¬ (bs ≡ sentenceText f)) → FactsOf bs r
 facts-none bs r e h =
     subst (FactsOf bs) (sym e)
     (record {

@@ -21,11 +21,11 @@ pub record Line : Type 0 where
   pub name : String
   pub words : List ℕ
   pub bytes : ℕ
-  pub says : SentenceOutcome
+  pub result : SentenceOutcome
   pub text : String
 
 abbrev line : String → List ℕ → ℕ → SentenceOutcome → String → Line
-line s ws n a x = record { name = s; words = ws; bytes = n; says = a; text = x }
+line s ws n a x = record { name = s; words = ws; bytes = n; result = a; text = x }
 
 -- a table that misses, with a buffer of 100 bytes, and its sentence
 abbrev misses : String → List ℕ → ℕ → String → Line
@@ -33,11 +33,11 @@ misses s ws n x = line s ws 100 (ofLength n) x
 
 -- what is answered, and what then is at the front of the buffer
 pub record Outcome : Type 0 where
-  pub says : SentenceOutcome
+  pub result : SentenceOutcome
   pub bytes : List ℕ
 
 abbrev pub outcome : SentenceOutcome → List ℕ → Outcome
-outcome a bs = record { says = a; bytes = bs }
+outcome a bs = record { result = a; bytes = bs }
 
 -- F: one core, (0,1,2,1,2), rule 1; A: three cores, rule 2 for A2
 abbrev wordsF : List ℕ
@@ -122,7 +122,7 @@ abbrev pub computed : Line → Outcome
 computed l = outcome (sentenceMeaning (sentenceAnswerOf (l .words) (l .bytes))) (leftIn (sentenceMeaning (sentenceAnswerOf (l .words) (l .bytes))) (factsOf (l .words)) [])
 
 abbrev pub expected : Line → Outcome
-expected l = outcome (l .says) (letters (l .text))
+expected l = outcome (l .result) (letters (l .text))
 
 -- line by line
 each-line : LineByLine computed lines (map expected lines)

@@ -58,14 +58,14 @@ parsedBy true f = facts f
 parsedBy false f = none
 
 -- nothing found: all zeros
-abbrev pub nothing : ParsedFacts
-nothing = record { found = false; facts = record { position = 0; tick = 0; had = 0; length = 0; ran = replicate mostTasks 0 } }
+abbrev pub noFacts : ParsedFacts
+noFacts = record { found = false; facts = record { position = 0; tick = 0; had = 0; length = 0; ran = replicate mostTasks 0 } }
 
 -- the contract of `facts_of` on the bytes
 pub record FactsOf (bs : List ℕ) (r : ParsedFacts) : Type 0 where
   -- its value
   pub value : parsedBy (r .found) (factsBy (r .facts)) ≡ parsed bs
-  pub zeros : r .found ≡ false → r ≡ nothing
+  pub zeros : r .found ≡ false → r ≡ noFacts
   -- it is f exactly if f is expressible and the bytes are f's sentence
   pub exact : (f : Facts) → ((r .found ≡ true) × (factsBy (r .facts) ≡ f)) ↔ (Expressible f × (bs ≡ sentenceText f))
   -- nothing is found exactly if they are the sentence of no expressible facts

@@ -4,7 +4,7 @@ ghost use Prim.Native.Nat.{suc, _≤_};
 ghost use lib.ListN.{length};
 ghost use Rattle.model.specs.Verdict.{FirstMiss};
 ghost use Rattle.judge.specs.Judged.{loadedTable, Fit};
-ghost use Rattle.sentence.specs.Parsed.{nothing, FactsOf};
+ghost use Rattle.sentence.specs.Parsed.{noFacts, FactsOf};
 ghost use Rattle.sentence.specs.Waiting.{factsAt, factsIn};
 ghost use Rattle.sentence.specs.Counting.{LengthsWithin};
 ghost use Rattle.sentence.specs.SentenceAnswer.{byBuffer, byTable, sentenceMeaning, leftIn, SentenceOf};
@@ -43,7 +43,7 @@ pub struct ParsedFacts {
 
 // Nothing is found.
 fn no_facts() -> ParsedFacts
-    ensures { λ r. ⌜ r ≡ nothing ⌝ }
+    ensures { λ r. ⌜ r ≡ noFacts ⌝ }
 {
     let ran = [0u64; MOST_TASKS];
     ParsedFacts {

@@ -22,7 +22,7 @@ use Rattle.text.specs.Format.{isNumber}
 use Rattle.text.specs.Output.{letters, fields, lineOf}
 use Rattle.session.specs.declared.operations.Operation.{Operation}
 use Rattle.session.specs.declared.operations.Operation.the-variants.{Advance, Withdraw, WithdrawAll, Row, Sets, Nothing}
-use Rattle.session.specs.Operation.{wordsIn, numbersOf, numbersAfter, operationBy, operationOf, plain, answerLine, shownLine, setsLine, reply, runAfter}
+use Rattle.session.specs.Operation.{wordsIn, numbersOf, numbersAfter, operationBy, operationOf, wordLine, answerLine, shownLine, setsLine, reply, runAfter}
 use Rattle.session.specs.Transcript.{nothing, lastLine, linesFrom, replies}
 
 -- THE OPERATION OF A LINE
@@ -228,7 +228,7 @@ abbrev expected : TranscriptExample → List ℕ
 expected t = letters (t .output)
 
 each-transcript : LineByLine transcriptText transcripts (map expected transcripts)
-unfolding replies linesFrom lastLine reply runAfter plain answerLine shownLine setsLine operationOf operationBy numbersAfter numbersOf wordsIn isNumber all value lineOf fields
+unfolding replies linesFrom lastLine reply runAfter wordLine answerLine shownLine setsLine operationOf operationBy numbersAfter numbersOf wordsIn isNumber all value lineOf fields
     decimal lastDigits digitCount digitsWithin computing advanceOf advanceAnswer withdrawOf withdrawAllOf withdrawAnswer rowOf rowAnswer bytesIn setsOf setsIn pastCount runOut
     firstLateIn wrongEmptiesIn wrongReportsIn grantsIn lentIn offerIn seeksIn mapFirst moved withdrawnIn
 each-transcript = (refl, (refl, (refl, (refl, (refl, (refl, (refl, (refl, (refl, (refl, (refl, (refl, (refl, (refl, (refl, (refl, (refl, (refl, tt))))))))))))))))))

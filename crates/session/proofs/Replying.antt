@@ -23,14 +23,14 @@ use Rattle.session.specs.declared.Stage.the-variants.{Table, Operations,
 use Rattle.session.specs.declared.Session.{Session}
 use Rattle.session.specs.declared.operations.Operation.{Operation}
 use Rattle.session.specs.declared.operations.Operation.the-variants.{Advance, Withdraw, WithdrawAll, Row, Sets, Nothing}
-use Rattle.session.specs.Operation.{plain, answerLine, shownLine, setsLine, reply, runAfter, isLast}
+use Rattle.session.specs.Operation.{wordLine, answerLine, shownLine, setsLine, reply, runAfter, isLast}
 use Rattle.session.specs.Transcript.{tooMany, isDashes, startLine, opened, replies}
 use Rattle.session.specs.Session.{stageOf, TextWritten, OpenedOf}
 use Rattle.session.proofs.Transcripts.{nil-right, tooLong, opened-long}
 
 -- ANSWERS
 
-pub answer-taken : (w : List ℕ) (a : Answer) → a ≡ Taken → plain w ≡ answerLine w a
+pub answer-taken : (w : List ℕ) (a : Answer) → a ≡ Taken → wordLine w ≡ answerLine w a
 unfolding answerLine
 answer-taken w a e = rw e
 
@@ -111,7 +111,7 @@ run-sets o r e q = rw q
 pub last-sets : (o : Operation) (e : ℕ) → o ≡ Sets e → false ≡ isLast o
 last-sets o e q = rw q
 
-pub reply-none : (o : Operation) (r : Run) → o ≡ Nothing → plain (letters "not an operation") ≡ reply o r
+pub reply-none : (o : Operation) (r : Run) → o ≡ Nothing → wordLine (letters "not an operation") ≡ reply o r
 unfolding reply
 reply-none o r e = rw e
 

@@ -14,7 +14,7 @@ use Rattle.text.specs.Input.{lengthTo, lineLength}
 use Rattle.text.specs.Output.{letters, lineOf}
 use Rattle.run.specs.declared.Run.{Run}
 use Rattle.session.specs.declared.operations.Operation.the-variants.{Nothing}
-use Rattle.session.specs.Operation.{noneLong, operationOf, plain, reply, runAfter, isLast}
+use Rattle.session.specs.Operation.{noneLong, operationOf, wordLine, reply, runAfter, isLast}
 use Rattle.session.specs.Transcript.{tooMany, InputEnd, nothing, unknown, lastLine, linesFrom, replies, opened, isDashes, unclosed, transcriptFrom}
 use Rattle.session.specs.Session.{IsPrefix}
 use Rattle.session.proofs.Asking.{long-none}
@@ -135,7 +135,7 @@ transcript-end d l = refl
 
 -- the reply to a line that is no operation
 abbrev pub noOperation : List ℕ
-noOperation = plain (letters "not an operation")
+noOperation = wordLine (letters "not an operation")
 
 replies-none : (r : Run) (l : List ℕ) (ls : List (List ℕ)) → operationOf l ≡ Nothing → replies r (l ∷ ls) ≡ noOperation
 unfolding replies reply

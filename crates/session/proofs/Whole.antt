@@ -5,7 +5,7 @@ use Prim.Native.Nat.{ℕ}
 use lib.ListN.{take}
 use Rattle.session.specs.declared.Session.{Session}
 use Rattle.session.specs.declared.Stage.the-variants.{Over}
-use Rattle.session.specs.Transcript.{nothing, unknown, transcript, dueTranscript}
+use Rattle.session.specs.Transcript.{nothing, unknown, transcript, transcriptSoFar}
 use Rattle.session.specs.Session.{transcriptOf, stageOf, IsPrefix, LastOf, NewOf, Feeds, none, more}
 use Rattle.session.proofs.Transcripts.{nil-right, begins-with}
 use Rattle.session.proofs.Feeding.{over-transcript, nothing-due}
@@ -40,6 +40,6 @@ due-so-far {s} {s′} (more {chunk = chunk} {after = after} {bs = bs} {text = te
     (transcriptOf (r .session) unknown (bs ++ cs)) (text ++ transcriptOf s′ unknown cs) (w .at-once (bs ++ cs)) (due-so-far f cs))
 
 -- no answer waits: what a new session has written for the bytes bs, in whatever parts they come, begins with all that is due
-pub at-once : (s s′ : Session) (bs text : List ℕ) → NewOf s → Feeds s bs text s′ → IsPrefix (dueTranscript bs) text
+pub at-once : (s s′ : Session) (bs text : List ℕ) → NewOf s → Feeds s bs text s′ → IsPrefix (transcriptSoFar bs) text
 at-once s s′ bs text new f =
     subst₂ IsPrefix (ap (transcriptOf s unknown) (nil-right bs) ∙ new bs .1) (ap (λ (x : List ℕ). text ++ x) (nothing-due s′) ∙ nil-right text) (due-so-far f [])

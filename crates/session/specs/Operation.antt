@@ -108,12 +108,12 @@ operationOf [] = Nothing
 operationOf (letter ∷ l) = operationBy letter (numbersAfter l)
 
 -- a line that is only a word
-unfoldable pub plain : List ℕ → List ℕ
-plain word = word ++ (newline ∷ [])
+unfoldable pub wordLine : List ℕ → List ℕ
+wordLine word = word ++ (newline ∷ [])
 
 -- a refusal is `refused`, number, position; what is taken is the word given
 unfoldable pub answerLine : List ℕ → Answer → List ℕ
-answerLine word Taken = plain word
+answerLine word Taken = wordLine word
 answerLine word (Refused n p) = lineOf (letters "refused") (n ∷ p ∷ [])
 
 -- a row is `row` and the cores' bytes: positions, 0 where idle, 255 where fenced; or its refusal
@@ -133,7 +133,7 @@ reply (Withdraw p) r = answerLine (letters "taken") (withdrawOf r p .answer)
 reply (WithdrawAll x) r = answerLine (letters "taken") (withdrawAllOf r x .answer)
 reply (Row e) r = shownLine (r .cores) (rowOf r e .answer) (rowOf r e .bytes)
 reply (Sets e) r = setsLine (setsOf r e .answer) (setsOf r e .sets)
-reply Nothing r = plain (letters "not an operation")
+reply Nothing r = wordLine (letters "not an operation")
 
 -- the run after it
 unfoldable pub runAfter : Operation → Run → Run

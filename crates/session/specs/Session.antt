@@ -5,7 +5,7 @@ use mathlib.Core.Path.{_≡_}
 use Prim.Native.Nat.{ℕ, _-_, _≤_, _<_}
 use lib.ListN.{length, take, drop}
 use lib.Dec.{leb}
-use Rattle.session.specs.Transcript.{tooMany, InputEnd, nothing, unknown, linesFrom, replies, opened, transcriptFrom, transcript, dueTranscript}
+use Rattle.session.specs.Transcript.{tooMany, InputEnd, nothing, unknown, linesFrom, replies, opened, transcriptFrom, transcript, transcriptSoFar}
 use Rattle.session.specs.declared.Stage.{Stage}
 use Rattle.session.specs.declared.Stage.the-variants.{Table, Operations, Over}
 use Rattle.session.specs.declared.Session.{Session}
@@ -64,7 +64,7 @@ LastOf s before after n = TextWritten (transcriptOf s nothing []) before after n
 
 -- a session whose transcript is what the program prints, and whose due transcript is what the program must have printed
 abbrev pub NewOf : Session → Type 0
-NewOf s = (bs : List ℕ) → (transcriptOf s nothing bs ≡ transcript bs) × (transcriptOf s unknown bs ≡ dueTranscript bs)
+NewOf s = (bs : List ℕ) → (transcriptOf s nothing bs ≡ transcript bs) × (transcriptOf s unknown bs ≡ transcriptSoFar bs)
 
 -- the stage after the table: the operations, or none
 abbrev pub stageAfter : Bool → Stage

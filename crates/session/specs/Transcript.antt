@@ -74,5 +74,5 @@ transcript bs = transcriptFrom nothing [] [] bs
 
 -- what it must have printed once these bytes have come: start's answer once the line `--` has ended, and the answer to each line that has ended since;
 -- or the refusal of a table that is too long
-unfoldable pub dueTranscript : List ℕ → List ℕ
-dueTranscript bs = transcriptFrom unknown [] [] bs
+unfoldable pub transcriptSoFar : List ℕ → List ℕ
+transcriptSoFar bs = transcriptFrom unknown [] [] bs

@@ -7,7 +7,7 @@ ghost use lib.ListN.{length, take};
 ghost use Rattle.text.specs.Decimal.{decimal};
 ghost use Rattle.text.specs.Output.{fields, letters, lineOf, space};
 ghost use Rattle.text.specs.Written.{Put};
-ghost use Rattle.session.specs.Operation.{plain, answerLine, shownLine, setsLine, reply, runAfter, isLast};
+ghost use Rattle.session.specs.Operation.{wordLine, answerLine, shownLine, setsLine, reply, runAfter, isLast};
 ghost use Rattle.session.specs.Session.{TextWritten};
 use crate::REPLY;
 use crate::operations::Operation;
@@ -40,7 +40,7 @@ pub(crate) fn write_refused(number: u32, position: u32, out: &mut [u8; REPLY]) -
 // Writes a word and a newline; returns where they end.
 pub(crate) fn write_word(word: &[u8], out: &mut [u8; REPLY]) -> usize
     requires { ⌜ length (now word) ≤ 16 ⌝ }
-    ensures { λ r. ⌜ TextWritten (plain (now (word .entry))) (now (out .entry)) (now (out .exit)) r ⌝ }
+    ensures { λ r. ⌜ TextWritten (wordLine (now (word .entry))) (now (out .entry)) (now (out .exit)) r ⌝ }
 {
     let end = row::copy(word, 0, word.len(), out, 0);
     out[end] = b'\n';

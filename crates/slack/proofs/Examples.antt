@@ -80,18 +80,18 @@ not-out-of-order = not-under greedy refl (inr refl)
 
 pub record Line : Type 0 where
   pub words : List ℕ
-  pub says : SlackAnswer
+  pub result : SlackAnswer
 
 -- the value by the definitions of a line's words
 abbrev pub worked : Line → Line
-worked l = record { words = l .words; says = slackOf (l .words) }
+worked l = record { words = l .words; result = slackOf (l .words) }
 
 -- these numbers are given, with zeros past them; the words are turned down by a number, with its position
 abbrev givenLine : List ℕ → List ℕ → Line
-givenLine ws xs = record { words = ws; says = answers.givenSlack (xs ++ replicate (mostTasks - length xs) 0) }
+givenLine ws xs = record { words = ws; result = answers.givenSlack (xs ++ replicate (mostTasks - length xs) 0) }
 
 abbrev refuses : List ℕ → ℕ → ℕ → Line
-refuses ws n p = record { words = ws; says = noSlack n p }
+refuses ws n p = record { words = ws; result = noSlack n p }
 
 -- a header with an empty fence, and a record's seven words, with widths v and w and with both widths v
 abbrev header : ℕ → ℕ → ℕ → List ℕ

@@ -18,11 +18,11 @@ use Rattle.table.specs.declared.Answer.the-variants.{Passed, Refused}
 use Rattle.table.specs.Words.{head, coreCount, rule, fence, taskAt, tableOf}
 use Rattle.table.specs.Limits.{CoresOut, RuleOut, FenceOut, WidthOut, TimesOut, HorizonOut, coresOut, ruleOut, fenceOut, widthOut, timesOut, taskNumber, taskOut, horizonOut, mostHorizon}
 use Rattle.table.specs.Numbers.{WordsOut, Position, Applies, one, two, three, nineteen, four, five, six, seven, eight, nine, place, Earlier, First, NoneApplies}
-use Rattle.table.specs.Answer.{wordsOut, headerNumber, pastAt, againAt, lastStep, firstOut, byHorizon, byTasks, endingOf, byEnding, byWalk, answerOf}
+use Rattle.table.specs.Answer.{wordsOut, headerNumber, outOfRangeAt, repeatedAt, lastStep, firstOut, byHorizon, byTasks, endingOf, byEnding, byWalk, answerOf}
 use Rattle.table.proofs.Decide.{Decides, holds, fails, decides-lt}
 use Rattle.table.proofs.Tests.{words-decides, cores-decides, rule-decides, fence-decides, width-decides, times-decides, task-decides}
 use Rattle.table.proofs.Walk.{five-decides, six-decides}
-use Rattle.table.proofs.Order.{shared, numberAt, placed, first-only}
+use Rattle.table.proofs.Order.{shared, numberAt, applies-ordered, first-only}
 use Rattle.table.proofs.Tasks.{table-length, table-at}
 use Rattle.table.proofs.FirstOut.{out-found, out-lowest}
 
@@ -31,7 +31,7 @@ abbrev Below : List ℕ → ℕ → Type 0
 Below ws k = (m q : ℕ) → place m < k → ¬ Applies ws m q
 
 below-one : (ws : List ℕ) → Below ws 1
-below-one ws m q l a = omega (arith, placed ws m q a .from)
+below-one ws m q l a = omega (arith, applies-ordered ws m q a .from)
 
 -- at this place or before it
 at-or-before : (ws : List ℕ) (k m : ℕ) → place m < suc k → (place m ≡ k) ⊎ (place m < k)
@@ -40,14 +40,14 @@ at-or-before ws k m l = eq-or-lt-of-le (omega arith)
 below-more : (ws : List ℕ) (k : ℕ) → (k ≡ shared → ⊥) → Below ws k → ((q : ℕ) → ¬ Applies ws (numberAt k) q) → Below ws (suc k)
 below-more ws k other b never m q l a =
     ⊎-elim
-    (λ (e : place m ≡ k). let only : m ≡ numberAt k = placed ws m q a .alone (λ x. other (sym e ∙ x)) ∙ ap numberAt e in never q (subst (λ (x : ℕ). Applies ws x q) only a))
+    (λ (e : place m ≡ k). let only : m ≡ numberAt k = applies-ordered ws m q a .alone (λ x. other (sym e ∙ x)) ∙ ap numberAt e in never q (subst (λ (x : ℕ). Applies ws x q) only a))
     (λ (e : place m < k). b m q e a) (at-or-before ws k m l)
 
 below-tasks : (ws : List ℕ) → Below ws shared → ((q : ℕ) → ¬ Applies ws 7 q) → ((q : ℕ) → ¬ Applies ws 8 q) → Below ws (suc shared)
 below-tasks ws b s e m q l a =
     ⊎-elim
     (λ (x : place m ≡ shared).
-    ⊎-elim (λ y. s q (subst (λ (n : ℕ). Applies ws n q) y a)) (λ y. e q (subst (λ (n : ℕ). Applies ws n q) y a)) (placed ws m q a .pair x))
+    ⊎-elim (λ y. s q (subst (λ (n : ℕ). Applies ws n q) y a)) (λ y. e q (subst (λ (n : ℕ). Applies ws n q) y a)) (applies-ordered ws m q a .pair x))
     (λ (x : place m < shared). b m q x a) (at-or-before ws shared m l)
 
 not-one : (ws : List ℕ) → ¬ WordsOut ws → (q : ℕ) → ¬ Applies ws 1 q
@@ -92,7 +92,7 @@ first-other ws n other a b = (a, earlier)
     earlier m q (inl l) x = b m q l x
     earlier m q (inr (e, inl l)) x = omega arith
     earlier m q (inr (e, inr (z, l))) x =
-        let same : m ≡ n = placed ws m q x .alone (λ y. other (sym e ∙ y)) ∙ (ap numberAt e ∙ sym (placed ws n 0 a .alone other)) in
+        let same : m ≡ n = applies-ordered ws m q x .alone (λ y. other (sym e ∙ y)) ∙ (ap numberAt e ∙ sym (applies-ordered ws n 0 a .alone other)) in
         omega (arith, same)
 
 -- the meaning of an answer for the words
@@ -109,7 +109,7 @@ horizon-right ws b = go (horizonOut (horizon (tableOf ws))) refl
     far = decides-lt mostHorizon (horizon (tableOf ws))
 
     none : ¬ HorizonOut (horizon (tableOf ws)) → NoneApplies ws
-    none never n p a = below-more ws 9 (λ x. omega arith) b (not-nine ws never) n p (placed ws n p a .most) a
+    none never n p a = below-more ws 9 (λ x. omega arith) b (not-nine ws never) n p (applies-ordered ws n p a .most) a
 
     go : (t : Bool) → horizonOut (horizon (tableOf ws)) ≡ t → Right ws (cond t (Refused 9 0) Passed)
     go true e = first-other ws 9 (λ x. omega arith) (nine (far .0 e)) b
@@ -141,12 +141,12 @@ first-task ws n i s a b f low = (a, earlier)
     same m q m78 (inr l) x =
         let less = l .1 in
         ⊎-elim (λ e. low (omega arith) (subst (Applies ws 7) (l .0) (subst (λ (k : ℕ). Applies ws k q) e x)))
-        (λ e. ⊎-elim (λ (y : n ≡ 7). absurd (omega arith)) (λ (y : n ≡ 8). absurd (omega arith)) (placed ws n (suc i) a .pair s))
+        (λ e. ⊎-elim (λ (y : n ≡ 7). absurd (omega arith)) (λ (y : n ≡ 8). absurd (omega arith)) (applies-ordered ws n (suc i) a .pair s))
         m78
 
     earlier : (m q : ℕ) → Earlier m q n (suc i) → ¬ Applies ws m q
     earlier m q (inl l) x = b m q (omega (arith, s)) x
-    earlier m q (inr (e, l)) x = same m q (placed ws m q x .pair (e ∙ s)) l x
+    earlier m q (inr (e, l)) x = same m q (applies-ordered ws m q x .pair (e ∙ s)) l x
 
 -- 7 or 8, or by the horizon
 tasks-right : (ws : List ℕ) → Below ws shared → Right ws (byTasks (tableOf ws))
@@ -199,15 +199,15 @@ tasks-right ws b = go (ltb out many) refl
 -- 5 or 6, or by the tasks
 walk-right : (ws : List ℕ) → Below ws 6 → Right ws (byWalk ws)
 unfolding byWalk endingOf place
-walk-right ws b = go (pastAt ws (lastStep ws)) refl (againAt ws (lastStep ws)) refl
+walk-right ws b = go (outOfRangeAt ws (lastStep ws)) refl (repeatedAt ws (lastStep ws)) refl
   where
-    six-left : pastAt ws (lastStep ws) ≡ false → Below ws 7
-    six-left e = below-more ws 6 (λ x. omega arith) b (not-five ws (fails (pastAt ws (lastStep ws)) (Applies ws 5 0) (five-decides ws) e))
+    six-left : outOfRangeAt ws (lastStep ws) ≡ false → Below ws 7
+    six-left e = below-more ws 6 (λ x. omega arith) b (not-five ws (fails (outOfRangeAt ws (lastStep ws)) (Applies ws 5 0) (five-decides ws) e))
 
-    seven-left : pastAt ws (lastStep ws) ≡ false → againAt ws (lastStep ws) ≡ false → Below ws shared
-    seven-left e f = below-more ws 7 (λ x. omega arith) (six-left e) (not-six ws (fails (againAt ws (lastStep ws)) (Applies ws 6 0) (six-decides ws) f))
+    seven-left : outOfRangeAt ws (lastStep ws) ≡ false → repeatedAt ws (lastStep ws) ≡ false → Below ws shared
+    seven-left e f = below-more ws 7 (λ x. omega arith) (six-left e) (not-six ws (fails (repeatedAt ws (lastStep ws)) (Applies ws 6 0) (six-decides ws) f))
 
-    go : (t : Bool) → pastAt ws (lastStep ws) ≡ t → (u : Bool) → againAt ws (lastStep ws) ≡ u → Right ws (byEnding (cond t Past (cond u Again Whole)) (tableOf ws))
+    go : (t : Bool) → outOfRangeAt ws (lastStep ws) ≡ t → (u : Bool) → repeatedAt ws (lastStep ws) ≡ u → Right ws (byEnding (cond t Past (cond u Again Whole)) (tableOf ws))
     go true e u f = first-other ws 5 (λ x. omega arith) (five-decides ws .0 e) b
     go false e true f = first-other ws 6 (λ x. omega arith) (six-decides ws .0 f) (six-left e)
     go false e false f = tasks-right ws (seven-left e f)

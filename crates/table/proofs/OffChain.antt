@@ -17,7 +17,7 @@ use Rattle.table.specs.declared.chain.Ending.the-variants.{Past, Again, 
 use Rattle.table.specs.Words.{headerWords, recordWords, coreCount, rule, fenceOf, records, field, next, visited, count, taskOfRecord, tableOf}
 use Rattle.table.specs.Limits.{InRange}
 use Rattle.table.specs.Numbers.{EndAt, Reaches}
-use Rattle.table.specs.Answer.{headerNumber, pastAt, againAt, stopsAt, lastStep, endingOf, byTasks, answerOf}
+use Rattle.table.specs.Answer.{headerNumber, outOfRangeAt, repeatedAt, stopsAt, lastStep, endingOf, byTasks, answerOf}
 use Rattle.table.specs.Load.{passing, refusal, loadedBy, loadOf}
 use Rattle.table.specs.OffChain.{SameOnChain}
 use Rattle.table.proofs.Walk.{last-reached, last-stops, last-ends, stops-there, ends-there, five-decides, six-decides}
@@ -28,15 +28,15 @@ use Rattle.table.proofs.Loads.{load-header, load-past, load-again, load
 
 -- how the walk ends, by what it meets last
 module _ (ws : List ℕ) where
-  ending-past : pastAt ws (lastStep ws) ≡ true → endingOf ws ≡ Past
+  ending-past : outOfRangeAt ws (lastStep ws) ≡ true → endingOf ws ≡ Past
   unfolding endingOf
   ending-past p = rw p
 
-  ending-again : pastAt ws (lastStep ws) ≡ false → againAt ws (lastStep ws) ≡ true → endingOf ws ≡ Again
+  ending-again : outOfRangeAt ws (lastStep ws) ≡ false → repeatedAt ws (lastStep ws) ≡ true → endingOf ws ≡ Again
   unfolding endingOf
   ending-again p a = rw (p, a)
 
-  ending-whole : pastAt ws (lastStep ws) ≡ false → againAt ws (lastStep ws) ≡ false → endingOf ws ≡ Whole
+  ending-whole : outOfRangeAt ws (lastStep ws) ≡ false → repeatedAt ws (lastStep ws) ≡ false → endingOf ws ≡ Whole
   unfolding endingOf
   ending-whole p a = rw (p, a)
 
@@ -65,10 +65,10 @@ module _ (ws us : List ℕ) (s : SameOnChain ws us) where
       let d = reaches-down k (suc k) (omega arith) c in
       s .on-chain k 0 d (record-visited k c) (omega arith) ∙ ap (next us) (same-visited k d)
 
-  same-past : (k : ℕ) → Reaches ws k → pastAt ws k ≡ pastAt us k
+  same-past : (k : ℕ) → Reaches ws k → outOfRangeAt ws k ≡ outOfRangeAt us k
   same-past k c = ap (λ (n : ℕ). ltb n (visited ws k)) same-records ∙ ap (ltb (records us)) (same-visited k c)
 
-  same-again : (k : ℕ) → Reaches ws k → againAt ws k ≡ againAt us k
+  same-again : (k : ℕ) → Reaches ws k → repeatedAt ws k ≡ repeatedAt us k
   same-again k c =
       any-same k (λ j. eqb (visited ws j) (visited ws k)) (λ j. eqb (visited us j) (visited us k))
       (λ j l. ap (λ (n : ℕ). eqb n (visited ws k)) (same-visited j (reaches-down j k (omega arith) c)) ∙ ap (eqb (visited us j)) (same-visited k c))
@@ -96,7 +96,7 @@ module _ (ws us : List ℕ) (s : SameOnChain ws us) where
   same-ending = rw (same-last, same-past (lastStep ws) (last-reached ws), same-again (lastStep ws) (last-reached ws))
 
   -- and where it ends at the zero, the tasks are the same
-  module _ (p : pastAt ws (lastStep ws) ≡ false) (a : againAt ws (lastStep ws) ≡ false) where
+  module _ (p : outOfRangeAt ws (lastStep ws) ≡ false) (a : repeatedAt ws (lastStep ws) ≡ false) where
     ends : EndAt ws (lastStep ws)
     ends = last-ends ws p a
 
@@ -141,7 +141,7 @@ module _ (ws us : List ℕ) (s : SameOnChain ws us) where
         λ i. record { tasks = τs i; cores = m i; fence = fenceOf (low i) (high i); rule = r i }
 
   -- by how the walk ends
-  by-ending : (t : Bool) → pastAt ws (lastStep ws) ≡ t → (u : Bool) → againAt ws (lastStep ws) ≡ u → headerNumber ws ≡ 0 → loadOf ws ≡ loadOf us
+  by-ending : (t : Bool) → outOfRangeAt ws (lastStep ws) ≡ t → (u : Bool) → repeatedAt ws (lastStep ws) ≡ u → headerNumber ws ≡ 0 → loadOf ws ≡ loadOf us
   by-ending true p u a h =
       let e = ending-past ws p in
       load-past ws h e ∙ sym (load-past us (sym same-header ∙ h) (sym same-ending ∙ e))
@@ -156,7 +156,7 @@ module _ (ws us : List ℕ) (s : SameOnChain ws us) where
       ∙ sym (load-tasks us (sym same-header ∙ h) (sym same-ending ∙ e))
 
   by-header : (t : Bool) → eqb (headerNumber ws) 0 ≡ t → loadOf ws ≡ loadOf us
-  by-header true e = by-ending (pastAt ws (lastStep ws)) refl (againAt ws (lastStep ws)) refl (eqb-true (headerNumber ws) 0 e)
+  by-header true e = by-ending (outOfRangeAt ws (lastStep ws)) refl (repeatedAt ws (lastStep ws)) refl (eqb-true (headerNumber ws) 0 e)
   by-header false e =
       let n = eqb-false (headerNumber ws) 0 e in
       load-header ws n ∙ ap (λ (h : ℕ). refusal h 0) same-header ∙ sym (load-header us (λ z. n (same-header ∙ z)))
@@ -174,5 +174,5 @@ module _ (ws us : List ℕ) (s : SameOnChain ws us) where
   off-chain-table e =
       let none = passed-exact ws .0 e in
       same-table
-      (not-true-false (pastAt ws (lastStep ws)) (λ x. none 5 0 (five-decides ws .0 x)))
-      (not-true-false (againAt ws (lastStep ws)) (λ x. none 6 0 (six-decides ws .0 x)))
+      (not-true-false (outOfRangeAt ws (lastStep ws)) (λ x. none 5 0 (five-decides ws .0 x)))
+      (not-true-false (repeatedAt ws (lastStep ws)) (λ x. none 6 0 (six-decides ws .0 x)))

@@ -27,18 +27,18 @@ pub record Placed (n : ℕ) : Type 0 where
 placed-alone : (n : ℕ) → 1 ≤ place n → place n < 10 → (place n ≡ shared → ⊥) → n ≡ numberAt (place n) → Placed n
 placed-alone n a b c d = record { from = a; most = b; alone = λ x. d; pair = λ x. absurd (c x) }
 
-pub placed : (ws : List ℕ) (n p : ℕ) → Applies ws n p → Placed n
+pub applies-ordered : (ws : List ℕ) (n p : ℕ) → Applies ws n p → Placed n
 unfolding place
-placed ws n p (one h) = placed-alone 1 (omega arith) (omega arith) (λ x. omega arith) refl
-placed ws n p (two h) = placed-alone 2 (omega arith) (omega arith) (λ x. omega arith) refl
-placed ws n p (three h) = placed-alone 3 (omega arith) (omega arith) (λ x. omega arith) refl
-placed ws n p (nineteen h) = placed-alone 19 (omega arith) (omega arith) (λ x. omega arith) refl
-placed ws n p (four h) = placed-alone 4 (omega arith) (omega arith) (λ x. omega arith) refl
-placed ws n p (five k c h) = placed-alone 5 (omega arith) (omega arith) (λ x. omega arith) refl
-placed ws n p (six k c h) = placed-alone 6 (omega arith) (omega arith) (λ x. omega arith) refl
-placed ws n p (seven q o h) = record { from = omega arith; most = omega arith; alone = λ x. absurd (x refl); pair = λ x. inl refl }
-placed ws n p (eight q o h) = record { from = omega arith; most = omega arith; alone = λ x. absurd (x refl); pair = λ x. inr refl }
-placed ws n p (nine h) = placed-alone 9 (omega arith) (omega arith) (λ x. omega arith) refl
+applies-ordered ws n p (one h) = placed-alone 1 (omega arith) (omega arith) (λ x. omega arith) refl
+applies-ordered ws n p (two h) = placed-alone 2 (omega arith) (omega arith) (λ x. omega arith) refl
+applies-ordered ws n p (three h) = placed-alone 3 (omega arith) (omega arith) (λ x. omega arith) refl
+applies-ordered ws n p (nineteen h) = placed-alone 19 (omega arith) (omega arith) (λ x. omega arith) refl
+applies-ordered ws n p (four h) = placed-alone 4 (omega arith) (omega arith) (λ x. omega arith) refl
+applies-ordered ws n p (five k c h) = placed-alone 5 (omega arith) (omega arith) (λ x. omega arith) refl
+applies-ordered ws n p (six k c h) = placed-alone 6 (omega arith) (omega arith) (λ x. omega arith) refl
+applies-ordered ws n p (seven q o h) = record { from = omega arith; most = omega arith; alone = λ x. absurd (x refl); pair = λ x. inl refl }
+applies-ordered ws n p (eight q o h) = record { from = omega arith; most = omega arith; alone = λ x. absurd (x refl); pair = λ x. inr refl }
+applies-ordered ws n p (nine h) = placed-alone 9 (omega arith) (omega arith) (λ x. omega arith) refl
 
 -- of two numbers one is lower, or they are the same
 order : (a b : ℕ) → (a < b) ⊎ ((b < a) ⊎ (a ≡ b))
@@ -59,7 +59,7 @@ later m q n p l (inl h) = omega arith
 later m q n p l (inr (e, h)) = omega arith
 
 pub number-most : (ws : List ℕ) (n p : ℕ) → Applies ws n p → place n < 10
-number-most ws n p a = placed ws n p a .most
+number-most ws n p a = applies-ordered ws n p a .most
 
 -- .. and of two numbers with their positions one is checked before the other, or they are the same
 ordered : (n p m q : ℕ) → Earlier n p m q ⊎ (Earlier m q n p ⊎ ((n ≡ m) × (p ≡ q)))

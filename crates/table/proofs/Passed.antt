@@ -15,7 +15,7 @@ use Rattle.table.specs.declared.chain.Ending.the-variants.{Past, Again, 
 use Rattle.table.specs.Words.{head, coreCount, rule, fence, visited, count, taskAt, tableOf}
 use Rattle.table.specs.Limits.{InRange, inRange, FenceOut, mostHorizon}
 use Rattle.table.specs.Numbers.{WordsOut, EndAt, Reaches, one, two, three, nineteen, four, seven, eight, nine, NoneApplies}
-use Rattle.table.specs.Answer.{headerNumber, pastAt, againAt, lastStep, endingOf}
+use Rattle.table.specs.Answer.{headerNumber, outOfRangeAt, repeatedAt, lastStep, endingOf}
 use Rattle.table.proofs.Decide.{stable}
 use Rattle.table.proofs.Tests.{from-decides}
 use Rattle.table.proofs.Walk.{last-reached, last-ends, reaches-short, ends-there, five-decides, six-decides}
@@ -26,7 +26,7 @@ use Rattle.table.proofs.Inside.{Inside, inside, inside-valid}
 -- THE COUNT
 
 -- a chain that ends at the zero and has a head has 1 to 32 records, of at most 32
-count-from : (ws : List ℕ) → ¬ WordsOut ws → ¬ (head ws ≡ 0) → pastAt ws (lastStep ws) ≡ false → againAt ws (lastStep ws) ≡ false → InRange 1 mostTasks (count ws)
+count-from : (ws : List ℕ) → ¬ WordsOut ws → ¬ (head ws ≡ 0) → outOfRangeAt ws (lastStep ws) ≡ false → repeatedAt ws (lastStep ws) ≡ false → InRange 1 mostTasks (count ws)
 unfolding visited
 count-from ws w headed p a =
     let few = words-few ws w in
@@ -37,9 +37,9 @@ count-from ws w headed p a =
 
 pub whole-count : (ws : List ℕ) → headerNumber ws ≡ 0 → endingOf ws ≡ Whole → InRange 1 mostTasks (count ws)
 unfolding endingOf
-whole-count ws h = go (pastAt ws (lastStep ws)) refl (againAt ws (lastStep ws)) refl
+whole-count ws h = go (outOfRangeAt ws (lastStep ws)) refl (repeatedAt ws (lastStep ws)) refl
   where
-    go : (t : Bool) → pastAt ws (lastStep ws) ≡ t → (u : Bool) → againAt ws (lastStep ws) ≡ u → cond t Past (cond u Again Whole) ≡ Whole → InRange 1 mostTasks (count ws)
+    go : (t : Bool) → outOfRangeAt ws (lastStep ws) ≡ t → (u : Bool) → repeatedAt ws (lastStep ws) ≡ u → cond t Past (cond u Again Whole) ≡ Whole → InRange 1 mostTasks (count ws)
     go true p u a e = let z : _≡_ {A = ℕ} 0 1 = cc in absurd (omega arith)
     go false p true a e = let z : _≡_ {A = ℕ} 0 1 = cc in absurd (omega arith)
     go false p false a e = let fine = header-passes ws h in count-from ws (fine .words-in) (fine .headed) p a
@@ -52,8 +52,8 @@ module _ (ws : List ℕ) (none : NoneApplies ws) where
   passed-count =
       let n = table-length ws in
       rw n (count-from ws (λ h. none 1 0 (one h)) (λ h. none 4 0 (four h))
-      (not-true-false (pastAt ws (lastStep ws)) (λ e. none 5 0 (five-decides ws .0 e)))
-      (not-true-false (againAt ws (lastStep ws)) (λ e. none 6 0 (six-decides ws .0 e))))
+      (not-true-false (outOfRangeAt ws (lastStep ws)) (λ e. none 5 0 (five-decides ws .0 e)))
+      (not-true-false (repeatedAt ws (lastStep ws)) (λ e. none 6 0 (six-decides ws .0 e))))
 
   -- the walk comes to the end of the chain, and meets another record at each of its places
   pub passed-reached : Reaches ws (count ws)
@@ -62,8 +62,8 @@ module _ (ws : List ℕ) (none : NoneApplies ws) where
       (sym
       (ends-there ws (lastStep ws) (last-reached ws)
       (last-ends ws
-      (not-true-false (pastAt ws (lastStep ws)) (λ e. none 5 0 (five-decides ws .0 e)))
-      (not-true-false (againAt ws (lastStep ws)) (λ e. none 6 0 (six-decides ws .0 e))))))
+      (not-true-false (outOfRangeAt ws (lastStep ws)) (λ e. none 5 0 (five-decides ws .0 e)))
+      (not-true-false (repeatedAt ws (lastStep ws)) (λ e. none 6 0 (six-decides ws .0 e))))))
       (last-reached ws)
 
   -- 1 to 64 cores

@@ -16,8 +16,8 @@ use Rattle.model.specs.Task.{Task}
 use Rattle.model.specs.Sizes.{mostCores, mostTasks}
 use Rattle.table.specs.Words.{headerWords, recordWords, records, visited}
 use Rattle.table.specs.Limits.{InRange, inRange, CoresOut, coresOut, RuleOut, ruleOut, FenceOut, fenceOut, OneOut, oneOut, WidthOut, widthOut, TimesOut, timesOut, taskOut, mostTime}
-use Rattle.table.specs.Numbers.{WordsOut, EndAt, PastAt, AgainAt}
-use Rattle.table.specs.Answer.{wordsOut, pastAt, againAt, stopsAt}
+use Rattle.table.specs.Numbers.{WordsOut, EndAt, OutOfRangeAt, RepeatedAt}
+use Rattle.table.specs.Answer.{wordsOut, outOfRangeAt, repeatedAt, stopsAt}
 use Rattle.model.proofs.Digits.{bit-zero, bit-suc, bit-past, odd-half, below-pow, lowest-of}
 use Rattle.table.proofs.Decide.{Decides, decides-le, decides-lt, decides-eq, decides-not, decides-and, decides-or, decides-any}
 
@@ -102,11 +102,11 @@ task-out-is false false = refl
 pub task-decides : (m : ℕ) (τ : Task) → Decides (taskOut m τ) (WidthOut m τ ⊎ TimesOut τ)
 task-decides m τ = rw (task-out-is (widthOut m τ) (timesOut τ)) (decides-or (widthOut m τ) (timesOut τ) (WidthOut m τ) (TimesOut τ) (width-decides m τ) (times-decides τ))
 
-pub past-decides : (ws : List ℕ) (k : ℕ) → Decides (pastAt ws k) (PastAt ws k)
+pub past-decides : (ws : List ℕ) (k : ℕ) → Decides (outOfRangeAt ws k) (OutOfRangeAt ws k)
 past-decides ws k = decides-lt (records ws) (visited ws k)
 
-pub again-decides : (ws : List ℕ) (k : ℕ) → Decides (againAt ws k) (AgainAt ws k)
+pub again-decides : (ws : List ℕ) (k : ℕ) → Decides (repeatedAt ws k) (RepeatedAt ws k)
 again-decides ws k = decides-any k (λ j. eqb (visited ws j) (visited ws k)) (λ j. visited ws j ≡ visited ws k) (λ j. decides-eq (visited ws j) (visited ws k))
 
-pub stops-decides : (ws : List ℕ) (k : ℕ) → Decides (stopsAt ws k) (EndAt ws k ⊎ (PastAt ws k ⊎ AgainAt ws k))
+pub stops-decides : (ws : List ℕ) (k : ℕ) → Decides (stopsAt ws k) (EndAt ws k ⊎ (OutOfRangeAt ws k ⊎ RepeatedAt ws k))
 stops-decides ws k = decides-or _ _ _ _ (decides-eq (visited ws k) 0) (decides-or _ _ _ _ (past-decides ws k) (again-decides ws k))

@@ -14,7 +14,7 @@ use lib.Seq.{getD-append-add, getD-drop}
 use borrow.Author.Tests.{eqb-true, eqb-false, leb-true, lt-ltb}
 use Rattle.model.specs.Fence.{unfencedTable, unfencedCount, unfenced}
 use Rattle.model.specs.Horizon.{horizon}
-use Rattle.model.specs.Search.{bit, least, memb, upFrom}
+use Rattle.model.specs.Search.{bit, least, member, upFrom}
 use Rattle.model.specs.Sizes.{mostCores, mostTasks}
 use Rattle.model.specs.Task.{Task, ruleOf}
 use Rattle.model.proofs.Fence.{unfenced-count}
@@ -90,7 +90,7 @@ module _ (ws : List ℕ) (long : headerWords ≤ length ws) where
 
 -- where not all cores are fenced, some are open, and no more than there are
 some-open : (f m : ℕ) → ¬ FenceOut m f → 1 ≤ unfencedCount f m
-unfolding memb
+unfolding member
 some-open f m n = go (eqb (unfencedCount f m) 0) refl
   where
     none : unfencedCount f m ≡ 0 → unfenced f m ≡ []
@@ -107,7 +107,7 @@ some-open f m n = go (eqb (unfencedCount f m) 0) refl
     all : unfencedCount f m ≡ 0 → (c : ℕ) → c < m → bit f c ≡ true
     all e c l =
         fenced (bit f c)
-        (ap (memb c) (sym (none e)) ∙ (memb-open f m c ∙ ap (λ (t : Bool). t && not (bit f c)) (lt-ltb c m l)))
+        (ap (member c) (sym (none e)) ∙ (memb-open f m c ∙ ap (λ (t : Bool). t && not (bit f c)) (lt-ltb c m l)))
 
     go : (t : Bool) → eqb (unfencedCount f m) 0 ≡ t → 1 ≤ unfencedCount f m
     go true e = absurd (n (inr (all (eqb-true (unfencedCount f m) 0 e))))

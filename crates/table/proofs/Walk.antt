@@ -12,26 +12,26 @@ use Rattle.model.specs.Search.{any}
 use Rattle.model.proofs.Bools.{not-true-false, not-false-true}
 use Rattle.model.proofs.Search.{least-any, least-lowest, none-at, least-is}
 use Rattle.table.specs.Words.{records, visited, count}
-use Rattle.table.specs.Numbers.{EndAt, PastAt, AgainAt, Reaches, Applies, five, six}
-use Rattle.table.specs.Answer.{pastAt, againAt, stopsAt, lastStep}
+use Rattle.table.specs.Numbers.{EndAt, OutOfRangeAt, RepeatedAt, Reaches, Applies, five, six}
+use Rattle.table.specs.Answer.{outOfRangeAt, repeatedAt, stopsAt, lastStep}
 use Rattle.table.proofs.Decide.{Decides, fails}
 use Rattle.table.proofs.Tests.{past-decides, again-decides, stops-decides}
 use Rattle.table.proofs.Pigeonhole.{pigeonhole}
 
 -- what is at a step where the walk goes on
-pub goes-on : (ws : List ℕ) (j : ℕ) → stopsAt ws j ≡ false → (¬ EndAt ws j) × (¬ PastAt ws j) × (¬ AgainAt ws j)
+pub goes-on : (ws : List ℕ) (j : ℕ) → stopsAt ws j ≡ false → (¬ EndAt ws j) × (¬ OutOfRangeAt ws j) × (¬ RepeatedAt ws j)
 goes-on ws j e =
     let never = fails (stopsAt ws j) _ (stops-decides ws j) e in
     (λ x. never (inl x), λ x. never (inr (inl x)), λ x. never (inr (inr x)))
 
-pub goes-on-test : (ws : List ℕ) (j : ℕ) → (¬ EndAt ws j) × (¬ PastAt ws j) × (¬ AgainAt ws j) → stopsAt ws j ≡ false
+pub goes-on-test : (ws : List ℕ) (j : ℕ) → (¬ EndAt ws j) × (¬ OutOfRangeAt ws j) × (¬ RepeatedAt ws j) → stopsAt ws j ≡ false
 goes-on-test ws j n =
     not-true-false (stopsAt ws j) (λ e. ⊎-elim (λ x. n .0 x) (λ y. ⊎-elim (λ x. n .1 x) (λ x. n .2 x) y) (stops-decides ws j .0 e))
 
 -- where it goes on at step k, it comes to the next
-pub reaches-more : (ws : List ℕ) (k : ℕ) → Reaches ws k → (¬ EndAt ws k) × (¬ PastAt ws k) × (¬ AgainAt ws k) → Reaches ws (suc k)
+pub reaches-more : (ws : List ℕ) (k : ℕ) → Reaches ws k → (¬ EndAt ws k) × (¬ OutOfRangeAt ws k) × (¬ RepeatedAt ws k) → Reaches ws (suc k)
 reaches-more ws k c n j l =
-    ⊎-elim (λ (e : j ≡ k). subst (λ (i : ℕ). (¬ EndAt ws i) × (¬ PastAt ws i) × (¬ AgainAt ws i)) (sym e) n) (λ (h : j < k). c j h) (eq-or-lt-of-le (omega arith))
+    ⊎-elim (λ (e : j ≡ k). subst (λ (i : ℕ). (¬ EndAt ws i) × (¬ OutOfRangeAt ws i) × (¬ RepeatedAt ws i)) (sym e) n) (λ (h : j < k). c j h) (eq-or-lt-of-le (omega arith))
 
 -- as many steps as it comes to, at most as many records: those met differ
 pub reaches-short : (ws : List ℕ) (k : ℕ) → Reaches ws k → k ≤ records ws
@@ -62,24 +62,24 @@ last-stops ws = least-any (suc (records ws)) (stopsAt ws) (not-false-true (any (
         omega arith
 
 -- at its last step the walk decides 5 and 6
-pub five-decides : (ws : List ℕ) → Decides (pastAt ws (lastStep ws)) (Applies ws 5 0)
+pub five-decides : (ws : List ℕ) → Decides (outOfRangeAt ws (lastStep ws)) (Applies ws 5 0)
 five-decides ws = (λ e. five (lastStep ws) (last-reached ws) (past-decides ws (lastStep ws) .0 e), back)
   where
-    back : Applies ws 5 0 → pastAt ws (lastStep ws) ≡ true
+    back : Applies ws 5 0 → outOfRangeAt ws (lastStep ws) ≡ true
     back (five k c h) =
         let there = stops-there ws k c (stops-decides ws k .1 (inr (inl h))) in
         rw there (past-decides ws k .1 h)
 
-pub six-decides : (ws : List ℕ) → Decides (againAt ws (lastStep ws)) (Applies ws 6 0)
+pub six-decides : (ws : List ℕ) → Decides (repeatedAt ws (lastStep ws)) (Applies ws 6 0)
 six-decides ws = (λ e. six (lastStep ws) (last-reached ws) (again-decides ws (lastStep ws) .0 e), back)
   where
-    back : Applies ws 6 0 → againAt ws (lastStep ws) ≡ true
+    back : Applies ws 6 0 → repeatedAt ws (lastStep ws) ≡ true
     back (six k c h) =
         let there = stops-there ws k c (stops-decides ws k .1 (inr (inr h))) in
         rw there (again-decides ws k .1 h)
 
 -- else it ends at the zero
-pub last-ends : (ws : List ℕ) → pastAt ws (lastStep ws) ≡ false → againAt ws (lastStep ws) ≡ false → EndAt ws (lastStep ws)
+pub last-ends : (ws : List ℕ) → outOfRangeAt ws (lastStep ws) ≡ false → repeatedAt ws (lastStep ws) ≡ false → EndAt ws (lastStep ws)
 last-ends ws p a =
     ⊎-elim (λ x. x)
     (λ y. ⊎-elim (λ x. absurd (fails _ _ (past-decides ws (lastStep ws)) p x)) (λ x. absurd (fails _ _ (again-decides ws (lastStep ws)) a x)) y)

@@ -18,8 +18,8 @@ use Rattle.table.specs.declared.Task.{Task}
 use Rattle.table.specs.declared.chain.Ending.the-variants.{Past, Again, Whole}
 use Rattle.table.specs.Task.{noTask}
 use Rattle.table.specs.Words.{head, records, next, visited, count, chain, taskOfRecord, tableOf}
-use Rattle.table.specs.Numbers.{EndAt, AgainAt, Reaches}
-use Rattle.table.specs.Answer.{pastAt, againAt, stopsAt, endingOf}
+use Rattle.table.specs.Numbers.{EndAt, RepeatedAt, Reaches}
+use Rattle.table.specs.Answer.{outOfRangeAt, repeatedAt, stopsAt, endingOf}
 use Rattle.table.specs.Load.{codeTask, codeTasks, WalkOf}
 use Rattle.table.proofs.Decide.{fails}
 use Rattle.table.proofs.Tests.{past-decides, again-decides, stops-decides}
@@ -68,19 +68,19 @@ again-not-whole e = let z : _≡_ {A = ℕ} 0 1 = cc in omega arith
 module _ (ws : List ℕ) (tasks : List Task) (seen : List Bool) (k at : ℕ) (w : Walking ws tasks seen k at) where
   module _ (some : at ≡ 0 → ⊥) (inside : at ≤ records ws) (few : records ws ≤ mostTasks) where
     -- the mark of the record met is set exactly if it is met again
-    mark : getD seen (at - 1) false ≡ againAt ws k
+    mark : getD seen (at - 1) false ≡ repeatedAt ws k
     mark =
         let e : suc (at - 1) ≡ visited ws k = (let h = w .here in omega arith) in
         w .marked (at - 1) (omega arith) ∙ ap (λ (n : ℕ). any k (λ j. eqb (visited ws j) n)) e
 
-    pub walking-again : getD seen (at - 1) false ≡ true → AgainAt ws k
+    pub walking-again : getD seen (at - 1) false ≡ true → RepeatedAt ws k
     walking-again e = again-decides ws k .0 (sym mark ∙ e)
 
     module _ (new : getD seen (at - 1) false ≡ false) where
       goes : Reaches ws (suc k)
       goes =
           let h = w .here in
-          reaches-more ws k (w .reached) (λ e. some (h ∙ e), λ e. omega arith, fails (againAt ws k) (AgainAt ws k) (again-decides ws k) (sym mark ∙ new))
+          reaches-more ws k (w .reached) (λ e. some (h ∙ e), λ e. omega arith, fails (repeatedAt ws k) (RepeatedAt ws k) (again-decides ws k) (sym mark ∙ new))
 
       -- there is a place for its task
       pub walking-room : k < records ws
@@ -134,7 +134,7 @@ module _ (ws : List ℕ) (tasks : List Task) (seen : List Bool) (k at : ℕ) (w 
       }
 
   -- the three ends
-  walk-of : stopsAt ws k ≡ true → endingOf ws ≡ cond (pastAt ws k) Past (cond (againAt ws k) Again Whole)
+  walk-of : stopsAt ws k ≡ true → endingOf ws ≡ cond (outOfRangeAt ws k) Past (cond (repeatedAt ws k) Again Whole)
   unfolding endingOf
   walk-of e = rw (stops-there ws k (w .reached) e)
 
@@ -148,10 +148,10 @@ module _ (ws : List ℕ) (tasks : List Task) (seen : List Bool) (k at : ℕ) (w 
         placed = λ e. absurd (past-not-whole e);
       }
 
-  pub walked-again : AgainAt ws k → at ≤ records ws → WalkOf ws (record { ending = Again; count = k; tasks = tasks })
+  pub walked-again : RepeatedAt ws k → at ≤ records ws → WalkOf ws (record { ending = Again; count = k; tasks = tasks })
   walked-again a l =
       let h = w .here in
-      let p : pastAt ws k ≡ false = le-ltb (records ws) (visited ws k) (omega arith) in
+      let p : outOfRangeAt ws k ≡ false = le-ltb (records ws) (visited ws k) (omega arith) in
       record {
         ending = sym (walk-of (stops-decides ws k .1 (inr (inr a))) ∙ rw (p, again-decides ws k .1 a));
         counted = λ e. absurd (again-not-whole e);
@@ -161,8 +161,8 @@ module _ (ws : List ℕ) (tasks : List Task) (seen : List Bool) (k at : ℕ) (w 
   pub walked-whole : at ≡ 0 → WalkOf ws (record { ending = Whole; count = k; tasks = tasks })
   walked-whole z =
       let h : EndAt ws k = sym (w .here) ∙ z in
-      let p : pastAt ws k ≡ false = le-ltb (records ws) (visited ws k) (omega arith) in
-      let a : againAt ws k ≡ false = none-any k (λ j. eqb (visited ws j) (visited ws k)) (λ j l. ne-eqb (visited ws j) (visited ws k) (λ e. w .reached j l .0 (e ∙ h))) in
+      let p : outOfRangeAt ws k ≡ false = le-ltb (records ws) (visited ws k) (omega arith) in
+      let a : repeatedAt ws k ≡ false = none-any k (λ j. eqb (visited ws j) (visited ws k)) (λ j l. ne-eqb (visited ws j) (visited ws k) (λ e. w .reached j l .0 (e ∙ h))) in
       let c : count ws ≡ k = ends-there ws k (w .reached) h in
       record {
         ending = sym (walk-of (stops-decides ws k .1 (inl h)) ∙ rw (p, a));

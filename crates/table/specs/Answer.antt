@@ -31,14 +31,14 @@ headerNumber ws =
     (cond (eqb (head ws) 0) 4 0))))
 
 -- what the walk meets at step k, as tests: a number past the last record, a record again, or one of these or the zero
-abbrev pub pastAt : List ℕ → ℕ → Bool
-pastAt ws k = ltb (records ws) (visited ws k)
+abbrev pub outOfRangeAt : List ℕ → ℕ → Bool
+outOfRangeAt ws k = ltb (records ws) (visited ws k)
 
-abbrev pub againAt : List ℕ → ℕ → Bool
-againAt ws k = any k (λ j. eqb (visited ws j) (visited ws k))
+abbrev pub repeatedAt : List ℕ → ℕ → Bool
+repeatedAt ws k = any k (λ j. eqb (visited ws j) (visited ws k))
 
 abbrev pub stopsAt : List ℕ → ℕ → Bool
-stopsAt ws k = eqb (visited ws k) 0 || (pastAt ws k || againAt ws k)
+stopsAt ws k = eqb (visited ws k) 0 || (outOfRangeAt ws k || repeatedAt ws k)
 
 -- the step at which the walk stops: it reaches at most as many as there are records (`reaches-short`)
 unfoldable pub lastStep : List ℕ → ℕ
@@ -65,7 +65,7 @@ byTasks s =
 
 -- how the walk ends: past the last record, at a record again, or at the zero
 unfoldable pub endingOf : List ℕ → Ending
-endingOf ws = cond (pastAt ws (lastStep ws)) Past (cond (againAt ws (lastStep ws)) Again Whole)
+endingOf ws = cond (outOfRangeAt ws (lastStep ws)) Past (cond (repeatedAt ws (lastStep ws)) Again Whole)
 
 -- 5 or 6, else by the tasks
 abbrev pub byEnding : Ending → Table → Answer

@@ -20,15 +20,15 @@ WordsOut ws = (length ws < headerWords) ⊎ (((length ws - headerWords) % record
 abbrev pub EndAt : List ℕ → ℕ → Type 0
 EndAt ws k = visited ws k ≡ 0
 
-abbrev pub PastAt : List ℕ → ℕ → Type 0
-PastAt ws k = records ws < visited ws k
+abbrev pub OutOfRangeAt : List ℕ → ℕ → Type 0
+OutOfRangeAt ws k = records ws < visited ws k
 
-abbrev pub AgainAt : List ℕ → ℕ → Type 0
-AgainAt ws k = (j : ℕ) × (j < k) × (visited ws j ≡ visited ws k)
+abbrev pub RepeatedAt : List ℕ → ℕ → Type 0
+RepeatedAt ws k = (j : ℕ) × (j < k) × (visited ws j ≡ visited ws k)
 
 -- the walk reaches step k: at no earlier step it met one of these
 abbrev pub Reaches : List ℕ → ℕ → Type 0
-Reaches ws k = (j : ℕ) → j < k → (¬ EndAt ws j) × (¬ PastAt ws j) × (¬ AgainAt ws j)
+Reaches ws k = (j : ℕ) → j < k → (¬ EndAt ws j) × (¬ OutOfRangeAt ws j) × (¬ RepeatedAt ws j)
 
 -- p is a position on the chain
 abbrev pub Position : List ℕ → ℕ → Type 0
@@ -47,9 +47,9 @@ pub data Applies (ws : List ℕ) : ℕ → ℕ → Type 0 where
   -- 4. The head is zero.
   four : head ws ≡ 0 → Applies ws 4 0
   -- 5. Walking the chain, a number past the last record is met.
-  five : (k : ℕ) → Reaches ws k → PastAt ws k → Applies ws 5 0
+  five : (k : ℕ) → Reaches ws k → OutOfRangeAt ws k → Applies ws 5 0
   -- 6. Walking the chain, a record is met again (5 and 6: whichever the walk meets first).
-  six : (k : ℕ) → Reaches ws k → AgainAt ws k → Applies ws 6 0
+  six : (k : ℕ) → Reaches ws k → RepeatedAt ws k → Applies ws 6 0
   -- 7. A width of a task, that of its odd jobs or that of its even ones, is 0 or above the number of unfenced cores.
   seven : (p : ℕ) → Position ws p → WidthOut (unfencedCount (fence ws) (coreCount ws)) (taskAt ws p) → Applies ws 7 p
   -- 8. A task's O, C, T or D is outside its limits.

@@ -30,7 +30,7 @@ coreCount ws = word ws 1
 abbrev pub rule : List ℕ → ℕ
 rule ws = word ws 2
 
--- words 3 and 4 the fence (request 102), a set of cores as one 64-bit number, low word first
+-- words 3 and 4 the fence (request 102; the field: reserved processors), a set of cores as one 64-bit number, low word first
 abbrev pub fenceOf : ℕ → ℕ → ℕ
 fenceOf low high = low + high * 2 ^ 32
 

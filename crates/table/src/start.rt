@@ -7,7 +7,7 @@ ghost use Rattle.table.specs.Task.{taskOf, TimesWithin};
 use crate::Task;
 
 // Above every offset, and above every tick that is passed.
-const FAR: u32 = 67_108_864;
+const BIAS: u32 = 67_108_864;
 
 // The first release of the task that is not before t: its offset where t is earlier.
 pub(crate) fn release_from(task: Task, t: u32) -> u32
@@ -16,9 +16,9 @@ pub(crate) fn release_from(task: Task, t: u32) -> u32
 {
     let offset = task.offset;
     let period = task.period;
-    let ahead = t + FAR - offset;
+    let ahead = t + BIAS - offset;
     // 1 where t has reached the offset, 0 before it
-    let reached = ahead / FAR;
-    let since = ahead % FAR * reached;
+    let reached = ahead / BIAS;
+    let since = ahead % BIAS * reached;
     offset + (since + (period - 1)) / period * period
 }

@@ -5,7 +5,7 @@ use Prim.Native.Nat.{ℕ, suc, _≤_, _<_}
 use native.Mathlib.Omega.{arith}
 use lib.ListN.{length, getD}
 use Rattle.text.specs.Decimal.{decimal}
-use Rattle.text.specs.Format.{largest, mostNumbers, Number, words, wordsOf, Lines, none, line, textOf}
+use Rattle.text.specs.Format.{largest, mostNumbers, Number, readWords, wordsOf, Lines, none, line, textOf}
 use Rattle.text.proofs.Decimals.{decimal-some, decimal-most, decimal-digits, decimal-value}
 use Rattle.text.proofs.Exact.{text-exact}
 
@@ -23,5 +23,5 @@ lines-text (w ∷ ws) h =
     (line (number-of w (h 0 (omega arith))) (lines-text ws (λ i l. h (suc i) (omega arith))))
 
 -- at most 229 numbers, each up to 4,294,967,295, are read back from their text
-pub text-read : (ws : List ℕ) → length ws ≤ mostNumbers → ((i : ℕ) → i < length ws → getD ws i 0 ≤ largest) → wordsOf (textOf ws) ≡ words ws
+pub text-read : (ws : List ℕ) → length ws ≤ mostNumbers → ((i : ℕ) → i < length ws → getD ws i 0 ≤ largest) → wordsOf (textOf ws) ≡ readWords ws
 text-read ws m h = text-exact (textOf ws) ws .1 (record { lines = lines-text ws h; most = m })

@@ -12,7 +12,7 @@ use lib.Dec.{leb}
 use borrow.Author.Tests.{leb-true, leb-false, le-leb}
 use Rattle.model.proofs.Bools.{and-left, and-right, and-both}
 use Rattle.text.specs.Decimal.{all, value}
-use Rattle.text.specs.Format.{newline, mostNumbers, mostBytes, enoughBytes, lines, Number, isNumber, Words, words, noText, wordsOf, Lines, none, last, line, IsText}
+use Rattle.text.specs.Format.{newline, mostNumbers, mostBytes, enoughBytes, lines, Number, isNumber, Words, readWords, noText, wordsOf, Lines, none, last, line, IsText}
 use Rattle.text.specs.Input.{lineLength}
 use Rattle.text.specs.Output.{output, outputOf}
 use Rattle.text.proofs.Lines.{line-within, line-split, lines-first, lines-line, lines-last}
@@ -70,12 +70,12 @@ lines-of (line {l} {bs} {ws} n t) =
     rw (lines-line l bs (n .digits)) (and-both (isNumber l) (all isNumber (lines bs)) (number-exact l .1 n) (ih .0), ap (λ (vs : List ℕ). value l ∷ vs) (ih .1))
 
 -- exact: the numbers that `wordsOf` finds are those of the text ..
-pub text-exact : (bs ws : List ℕ) → (wordsOf bs ≡ words ws) ↔ IsText bs ws
+pub text-exact : (bs ws : List ℕ) → (wordsOf bs ≡ readWords ws) ↔ IsText bs ws
 unfolding wordsOf
 text-exact bs ws = (to (all isNumber (lines bs)) refl (leb (length (lines bs)) mostNumbers) refl, from)
   where
     to : (t : Bool) → all isNumber (lines bs) ≡ t → (u : Bool) → leb (length (lines bs)) mostNumbers ≡ u →
-        cond (t && u) (words (map value (lines bs))) noText ≡ words ws → IsText bs ws
+        cond (t && u) (readWords (map value (lines bs))) noText ≡ readWords ws → IsText bs ws
     to true p true q e =
         let w : map value (lines bs) ≡ ws = cc in
         let m : length (lines bs) ≤ mostNumbers = leb-true (length (lines bs)) mostNumbers q in
@@ -86,7 +86,7 @@ text-exact bs ws = (to (all isNumber (lines bs)) refl (leb (length (lines bs)) m
     to true p false q e = let z : _≡_ {A = ℕ} 0 1 = cc in absurd (omega arith)
     to false p u q e = let z : _≡_ {A = ℕ} 0 1 = cc in absurd (omega arith)
 
-    from : IsText bs ws → cond (all isNumber (lines bs) && leb (length (lines bs)) mostNumbers) (words (map value (lines bs))) noText ≡ words ws
+    from : IsText bs ws → cond (all isNumber (lines bs) && leb (length (lines bs)) mostNumbers) (readWords (map value (lines bs))) noText ≡ readWords ws
     from x =
         let o = lines-of (x .lines) in
         let n : length (lines bs) ≤ mostNumbers = rw (← o .1, length-map) at (x .most) in
@@ -96,11 +96,11 @@ text-exact bs ws = (to (all isNumber (lines bs)) refl (leb (length (lines bs)) m
 pub no-text-exact : (bs : List ℕ) → (wordsOf bs ≡ noText) ↔ ((ws : List ℕ) → ¬ IsText bs ws)
 no-text-exact bs = (λ e ws x. different ws (sym (text-exact bs ws .1 x) ∙ e), λ h. go (wordsOf bs) refl h)
   where
-    different : (ws : List ℕ) → words ws ≡ noText → ⊥
+    different : (ws : List ℕ) → readWords ws ≡ noText → ⊥
     different ws e = let z : _≡_ {A = ℕ} 0 1 = cc in omega arith
 
     go : (w : Words) → wordsOf bs ≡ w → ((ws : List ℕ) → ¬ IsText bs ws) → w ≡ noText
-    go (words ws) e h = absurd (h ws (text-exact bs ws .0 e))
+    go (readWords ws) e h = absurd (h ws (text-exact bs ws .0 e))
     go noText e h = refl
 
 -- the longest text: 229 lines of ten digits and a newline

@@ -9,7 +9,7 @@ use Rattle.model.proofs.Computing.{computing}
 use Rattle.model.proofs.LineByLine.{LineByLine, by-line}
 use Rattle.model.proofs.Examples.{A, fencedOn, on, t, t₂}
 use Rattle.text.specs.Decimal.{all, value, decimal, lastDigits, digitCount, digitsWithin}
-use Rattle.text.specs.Format.{Words, words, noText, wordsOf, lines, isNumber, textOf}
+use Rattle.text.specs.Format.{Words, readWords, noText, wordsOf, lines, isNumber, textOf}
 use Rattle.judge.specs.JudgeAnswer.{refused}
 use Rattle.text.specs.Output.{letters, fields, lineOf, firstLine, rowLine, rowLines, printed}
 
@@ -23,16 +23,16 @@ case s w = record { text = s; reads = w }
 
 abbrev pub cases : List Case
 cases =
-    case "3\n12\n0\n" (words (3 ∷ 12 ∷ 0 ∷ []))
+    case "3\n12\n0\n" (readWords (3 ∷ 12 ∷ 0 ∷ []))
     -- the last line may lack its newline
-    ∷ case "3\n12" (words (3 ∷ 12 ∷ []))
+    ∷ case "3\n12" (readWords (3 ∷ 12 ∷ []))
     -- no line is no number
-    ∷ case "" (words [])
+    ∷ case "" (readWords [])
     -- zeros in front count as digits
-    ∷ case "007" (words (7 ∷ []))
-    ∷ case "0000000007" (words (7 ∷ []))
+    ∷ case "007" (readWords (7 ∷ []))
+    ∷ case "0000000007" (readWords (7 ∷ []))
     ∷ case "00000000007" noText
-    ∷ case "4294967295" (words (4294967295 ∷ []))
+    ∷ case "4294967295" (readWords (4294967295 ∷ []))
     ∷ case "4294967296" noText
     -- empty lines and other characters
     ∷ case "\n" noText
@@ -54,7 +54,7 @@ pub texts : map (λ c. case (c .text) (wordsOf (letters (c .text)))) cases ≡ c
 texts = by-line read cases cases each-text
 
 -- H: the numbers of 32 records are read, those of 33 are not
-pub most-read : wordsOf (textOf (replicate 229 0)) ≡ words (replicate 229 0)
+pub most-read : wordsOf (textOf (replicate 229 0)) ≡ readWords (replicate 229 0)
 unfolding wordsOf lines isNumber all value textOf decimal lastDigits digitCount digitsWithin
 most-read = refl
 

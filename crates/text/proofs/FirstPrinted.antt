@@ -14,7 +14,7 @@ use Rattle.table.specs.Answer.{answerOf, headerNumber}
 use Rattle.judge.specs.Judged.{judgedBy, verdictOf}
 use Rattle.judge.specs.JudgeAnswer.{judged, verdictMeaning, verdictCase}
 use Rattle.judge.proofs.Contract.{meaning-case}
-use Rattle.text.specs.Format.{enoughBytes, Words, words, noText, wordsOf, numbersIn}
+use Rattle.text.specs.Format.{enoughBytes, Words, readWords, noText, wordsOf, numbersIn}
 use Rattle.text.specs.Output.{firstLine, rowLines, rowsPrinted, printed, printedBy, outputOf, output}
 use Rattle.text.specs.FirstLine.{firstFor}
 use Rattle.text.proofs.Exact.{first-enough}
@@ -36,7 +36,7 @@ unfolding output firstFor verdictOf
 first-printed bs = go (wordsOf bs)
   where
     go : (w : Words) → (rows : List ℕ) × (outputOf w ≡ firstLine (verdictMeaning (verdictOf (numbersIn w))) ++ rows)
-    go (words ws) = first-of (answerOf ws) (tableOf ws)
+    go (readWords ws) = first-of (answerOf ws) (tableOf ws)
     go noText = first-none
 
 -- so the first 2,520 bytes of an input decide it

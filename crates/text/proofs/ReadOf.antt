@@ -6,17 +6,17 @@ use Prim.Native.Nat.{ℕ, _-_}
 use native.Mathlib.Omega.{arith}
 use lib.ListN.{length, take, replicate}
 use lib.Seq.{take-append-seam, drop-append-seam}
-use Rattle.text.specs.Format.{mostNumbers, Words, words, noText, wordsOf, numbersIn}
+use Rattle.text.specs.Format.{mostNumbers, Words, readWords, noText, wordsOf, numbersIn}
 use Rattle.text.specs.Input.{padNumbers, inputOf, ReadOf}
 use Rattle.text.specs.declared.Input.{Input}
 use Rattle.text.proofs.Exact.{text-exact, no-text-exact}
 
 -- of a text's numbers
-accepted : (bs ws : List ℕ) → wordsOf bs ≡ words ws → ReadOf bs (inputOf (words ws))
+accepted : (bs ws : List ℕ) → wordsOf bs ≡ readWords ws → ReadOf bs (inputOf (readWords ws))
 accepted bs ws e =
     record {
       value = ap inputOf (sym e);
-      text = λ vs. (λ h. text-exact bs vs .0 (e ∙ ap words (sym numbers ∙ h .1)), λ x. (refl, numbers ∙ same vs (sym e ∙ text-exact bs vs .1 x)));
+      text = λ vs. (λ h. text-exact bs vs .0 (e ∙ ap readWords (sym numbers ∙ h .1)), λ x. (refl, numbers ∙ same vs (sym e ∙ text-exact bs vs .1 x)));
       noText = (λ f. absurd (true≢false f), λ h. absurd (h ws (text-exact bs ws .0 e)));
       most = text-exact bs ws .0 e .most;
       past = drop-append-seam ws (replicate (mostNumbers - length ws) 0);
@@ -25,7 +25,7 @@ accepted bs ws e =
     numbers : take (length ws) (padNumbers ws) ≡ ws
     numbers = take-append-seam ws (replicate (mostNumbers - length ws) 0)
 
-    same : (vs : List ℕ) → words ws ≡ words vs → ws ≡ vs
+    same : (vs : List ℕ) → readWords ws ≡ readWords vs → ws ≡ vs
     same vs q = cc
 
 -- of other bytes
@@ -43,7 +43,7 @@ pub read-of : (bs : List ℕ) (r : Input) → r ≡ inputOf (wordsOf bs) → Rea
 read-of bs r e = subst⁻¹ (ReadOf bs) e (go (wordsOf bs) refl)
   where
     go : (w : Words) → wordsOf bs ≡ w → ReadOf bs (inputOf w)
-    go (words ws) q = accepted bs ws q
+    go (readWords ws) q = accepted bs ws q
     go noText q = refused-text bs q
 
 -- the numbers that were read
@@ -51,5 +51,5 @@ pub numbers-read : (r : Input) (bs : List ℕ) → r ≡ inputOf (wordsOf bs) �
 numbers-read r bs e = ap (λ (i : Input). take (i .count) (i .words)) e ∙ go (wordsOf bs)
   where
     go : (w : Words) → take (inputOf w .count) (inputOf w .words) ≡ numbersIn w
-    go (words ws) = take-append-seam ws _
+    go (readWords ws) = take-append-seam ws _
     go noText = refl

@@ -9,14 +9,14 @@ use lib.Seq.{append-snoc, drop-cons, drop-drop, set-append-seam}
 use lib.Dec.{leb}
 use borrow.Author.Tests.{le-leb, lt-leb}
 use Rattle.text.specs.Decimal.{all, value}
-use Rattle.text.specs.Format.{Words, words, noText, wordsOf, isNumber, lines, mostNumbers}
+use Rattle.text.specs.Format.{Words, readWords, noText, wordsOf, isNumber, lines, mostNumbers}
 use Rattle.text.specs.Input.{lineLength, padNumbers, inputOf}
 use Rattle.text.specs.declared.Input.{Input}
 use Rattle.text.proofs.Lines.{lines-first}
 
 -- the answer where ws have been read and the lines ls are left
 unfoldable pub wordsFrom : List ℕ → List (List ℕ) → Words
-wordsFrom ws ls = cond (all isNumber ls && leb (length ws + length ls) mostNumbers) (words (ws ++ map value ls)) noText
+wordsFrom ws ls = cond (all isNumber ls && leb (length ws + length ls) mostNumbers) (readWords (ws ++ map value ls)) noText
 
 -- at the start
 pub from-start : (bs : List ℕ) → wordsFrom [] (lines bs) ≡ wordsOf bs
@@ -24,7 +24,7 @@ unfolding wordsFrom wordsOf
 from-start bs = let e : 0 + length (lines bs) ≡ length (lines bs) = omega arith in rw e
 
 -- no line is left
-pub from-end : (ws : List ℕ) → length ws ≤ mostNumbers → wordsFrom ws [] ≡ words ws
+pub from-end : (ws : List ℕ) → length ws ≤ mostNumbers → wordsFrom ws [] ≡ readWords ws
 unfolding wordsFrom all
 from-end ws m = rw (le-leb (length ws + 0) mostNumbers (omega arith), append-nil ws)
 
@@ -39,7 +39,7 @@ module _ (ws l : List ℕ) (ls : List (List ℕ)) where
   unfolding wordsFrom
   from-full e = rw (lt-leb (length ws + suc (length ls)) mostNumbers (omega arith)) (go (all isNumber (l ∷ ls)))
     where
-      go : (t : Bool) → cond (t && false) (words (ws ++ map value (l ∷ ls))) noText ≡ noText
+      go : (t : Bool) → cond (t && false) (readWords (ws ++ map value (l ∷ ls))) noText ≡ noText
       go true = refl
       go false = refl
 
@@ -71,5 +71,5 @@ placed-more ws w l =
     rw (n, k) (set-append-seam ws 0 (replicate (mostNumbers - suc (length ws)) 0) w ∙ sym (append-snoc ws w (replicate (mostNumbers - suc (length ws)) 0)))
 
 -- the numbers in their places and their count are the whole answer
-pub input-of : (ws places : List ℕ) (count : ℕ) → places ≡ padNumbers ws → count ≡ length ws → _≡_ {A = Input} (record { accepted = true; count = count; words = places }) (inputOf (words ws))
+pub input-of : (ws places : List ℕ) (count : ℕ) → places ≡ padNumbers ws → count ≡ length ws → _≡_ {A = Input} (record { accepted = true; count = count; words = places }) (inputOf (readWords ws))
 input-of ws places count p q = λ i. record { accepted = true; count = q i; words = p i }

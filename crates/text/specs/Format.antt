@@ -56,17 +56,17 @@ isNumber l = leb 1 (length l) && (leb (length l) mostDigits && (all isDigit l &&
 
 -- the numbers of a text, or that it is no table's text
 pub data Words : Type 0 where
-  words : List ℕ → Words
+  readWords : List ℕ → Words
   noText : Words
 
 -- the numbers of a text; what is no table's text has none, which are turned down with `refused 1 0`
 abbrev pub numbersIn : Words → List ℕ
-numbersIn (words ws) = ws
+numbersIn (readWords ws) = ws
 numbersIn noText = []
 
 -- every line represents a number, and there are at most 229: the numbers of the lines
 unfoldable pub wordsOf : List ℕ → Words
-wordsOf bs = cond (all isNumber (lines bs) && leb (length (lines bs)) mostNumbers) (words (map value (lines bs))) noText
+wordsOf bs = cond (all isNumber (lines bs) && leb (length (lines bs)) mostNumbers) (readWords (map value (lines bs))) noText
 
 -- the bytes are these numbers, one to a line; each line ends with a newline, which the last may lack
 pub data Lines : List ℕ → List ℕ → Type 0 where

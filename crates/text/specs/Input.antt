@@ -7,7 +7,7 @@ use Prim.Native.Nat.{ℕ, suc, _-_, _≤_}
 use lib.ListN.{length, take, drop, replicate}
 use lib.Dec.{eqb}
 use Rattle.text.specs.Decimal.{value}
-use Rattle.text.specs.Format.{newline, mostNumbers, isNumber, Words, words, noText, wordsOf, IsText}
+use Rattle.text.specs.Format.{newline, mostNumbers, isNumber, Words, readWords, noText, wordsOf, IsText}
 use Rattle.text.specs.declared.Input.{Input}
 use Rattle.text.specs.declared.line.ParsedNumber.{ParsedNumber}
 use Rattle.text.specs.declared.line.ParsedNumber.the-variants.{Value, Nothing}
@@ -31,7 +31,7 @@ padNumbers ws = ws ++ replicate (mostNumbers - length ws) 0
 
 -- a text is accepted, with its numbers and their count; of other bytes all is zero
 abbrev pub inputOf : Words → Input
-inputOf (words ws) = record { accepted = true; count = length ws; words = padNumbers ws }
+inputOf (readWords ws) = record { accepted = true; count = length ws; words = padNumbers ws }
 inputOf noText = record { accepted = false; count = 0; words = replicate mostNumbers 0 }
 
 -- the contract of `read` on the bytes

@@ -14,7 +14,7 @@ use Rattle.table.specs.Words.{tableOf}
 use Rattle.table.specs.Answer.{answerOf}
 use Rattle.judge.specs.JudgeAnswer.{JudgeAnswer, judged, refused}
 use Rattle.text.specs.Decimal.{decimal}
-use Rattle.text.specs.Format.{newline, mostDigits, Words, words, noText, wordsOf}
+use Rattle.text.specs.Format.{newline, mostDigits, Words, readWords, noText, wordsOf}
 
 -- the bytes of a word of plain letters; as `letters` in stream/specs/Sent
 abbrev pub letters : String → List ℕ
@@ -75,7 +75,7 @@ printedBy (Refused n p) s = firstLine (refused n p)
 
 -- all that is printed for the numbers of a text; what is no table's text prints `refused 1 0`
 abbrev pub outputOf : Words → List ℕ
-outputOf (words ws) = printedBy (answerOf ws) (tableOf ws)
+outputOf (readWords ws) = printedBy (answerOf ws) (tableOf ws)
 outputOf noText = firstLine (refused 1 0)
 
 -- everything that the program prints for the bytes that it reads

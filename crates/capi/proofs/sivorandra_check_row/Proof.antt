@@ -15,7 +15,7 @@ entry-from-then1 c = c .before .before .before .before
 abbrev entry-from-else1 : tie.Else1 → tie.Start
 entry-from-else1 c = c .before .before .before .before
 
--- the state after `take`
+-- the state after `check_row`
 abbrev take-from-of-taken : tie.After-of-taken → tie.After-take
 take-from-of-taken c = c .before .before .before
 

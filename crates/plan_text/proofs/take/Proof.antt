@@ -1,4 +1,4 @@
--- `plan_text::take` meets its contract: where the extent of the plan is known, `enter` gives what `take` does.
+-- `plan_text::take` meets its contract: where the extent of the plan is known, `enter` gives what `check_row` does.
 -- Assumes nothing.
 use borrow.Author.Needs.{needs}
 use mathlib.Core.Bool.{false≢true}
@@ -12,11 +12,11 @@ enter-requires c κs = c .before .before .pre (c .if1 .taken)
 returns : tie.Need-returns
 returns c = search needs
 
-take-requires : tie.Need-take-requires
-take-requires c κs = search needs
+check-row-requires : tie.Need-check-row-requires
+check-row-requires c κs = search needs
 
 returns-2 : tie.Need-returns-2
-returns-2 c = (c .take .ensures .value, λ e. absurd (false≢true (sym (c .before .if1 .left) ∙ e)))
+returns-2 c = (c .check-row .ensures .value, λ e. absurd (false≢true (sym (c .before .if1 .left) ∙ e)))
 
-pub take-spec : {M : Type 1} → statement M
-take-spec = tie.close (tie.spec enter-requires returns take-requires returns-2)
+pub check-row-spec : {M : Type 1} → statement M
+check-row-spec = tie.close (tie.spec enter-requires returns check-row-requires returns-2)

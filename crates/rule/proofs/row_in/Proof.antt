@@ -11,7 +11,7 @@ use Rattle.model.specs.Search.{upFrom}
 use Rattle.model.specs.Sizes.{fencedByte}
 use Rattle.cores.specs.Cores.{cores}
 use Rattle.cores.proofs.Unfenced.{memb-fenced, open-of}
-use Rattle.rule.specs.Marked.{marked, shown}
+use Rattle.rule.specs.Marked.{marked, shownBytes}
 use Rattle.rule.proofs.Rows.{shown-row}
 use Rattle.rule.proofs.row_in.Statement.{statement}
 use Rattle.rule.proofs.row_in.Tie as tie
@@ -45,7 +45,7 @@ returns c =
     w .difference .ensures ∙ ap (outside free) (w .before .first-cores .ensures ∙ ap (upFrom 0) all) in
     let gs = map cores (take (a .count) (a .sets .now)) in
     c .row-of .ensures
-    ∙ (ap (λ (start : List ℕ). shown start 1 gs) (p .mark .ensures ∙ ap (marked (replicate 64 0) fencedByte) fenced)
+    ∙ (ap (λ (start : List ℕ). shownBytes start 1 gs) (p .mark .ensures ∙ ap (marked (replicate 64 0) fencedByte) fenced)
     ∙ shown-row 64 (a .cores) (a .fence) (outside free (upFrom 0 (a .cores))) (omega arith)
     (λ x l. memb-fenced free (a .fence) (a .cores) x l opened) gs (s .pre .1 .apart) (s .pre .1 .unfenced-only))
 

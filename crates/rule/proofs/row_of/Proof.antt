@@ -10,13 +10,13 @@ use Prim.Native.Nat.{ℕ, suc, _+_, _-_, _≤_}
 use lib.ListN.{length, getD, take, drop, length-take}
 use lib.Seq.{getD-take}
 use Rattle.cores.specs.Cores.{cores}
-use Rattle.rule.specs.Marked.{shown}
+use Rattle.rule.specs.Marked.{shownBytes}
 use Rattle.rule.proofs.Rows.{shown-next, shown-end}
 use Rattle.rule.proofs.row_of.Statement.{statement}
 use Rattle.rule.proofs.row_of.Tie as tie
 
 abbrev Inv-loop : tie.InvT-loop
-Inv-loop first sets count out₀ i₀ out i = (i ≤ count) × (shown out (first + i) (map cores (drop i (take count sets))) ≡ shown out₀ first (map cores (take count sets)))
+Inv-loop first sets count out₀ i₀ out i = (i ≤ count) × (shownBytes out (first + i) (map cores (drop i (take count sets))) ≡ shownBytes out₀ first (map cores (take count sets)))
 
 abbrev μ-loop : tie.MeasureT-loop
 μ-loop first sets count out₀ i₀ out i = count - i
@@ -26,7 +26,7 @@ abbrev loop : tie.After-mark Inv-loop μ-loop → tie.At-loop Inv-loop μ-loop
 loop c = c .before .before .before
 
 loop-holds : tie.Need-loop-holds Inv-loop μ-loop
-loop-holds c = (search needs, ap (λ (p : ℕ). shown (c .args .start) p (map cores (take (c .args .count) (c .args .sets .now)))) (add-zero (c .args .first)))
+loop-holds c = (search needs, ap (λ (p : ℕ). shownBytes (c .args .start) p (map cores (take (c .args .count) (c .args .sets .now)))) (add-zero (c .args .first)))
 
 mul-mark : tie.Need-mul-mark Inv-loop μ-loop
 mul-mark c = omega arith
@@ -57,7 +57,7 @@ loop-again c =
     let ss = take (a .count) (a .sets .now) in
     let w : getD ss (l .i) 0 ≡ getD (a .sets .now) (l .i) 0 = getD-take (a .count) (a .sets .now) (l .i) 0 (omega arith) in
     let p : a .first + (l .i + 1) ≡ suc (a .first + l .i) = omega arith in
-    let next : shown (l .out) (a .first + l .i) (map cores (drop (l .i) ss)) ≡ shown (c .mark .result) (a .first + (l .i + 1)) (map cores (drop (l .i + 1) ss)) =
+    let next : shownBytes (l .out) (a .first + l .i) (map cores (drop (l .i) ss)) ≡ shownBytes (c .mark .result) (a .first + (l .i + 1)) (map cores (drop (l .i + 1) ss)) =
     shown-next (l .out) (a .first + l .i) (l .i) ss ∙ cc (w, p, add-one (l .i), c .mark .ensures) in
     (omega arith, sym next ∙ l .inv .1)
 

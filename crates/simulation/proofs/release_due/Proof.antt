@@ -15,12 +15,12 @@ use Rattle.simulation.proofs.release_due.Statement.{statement}
 use Rattle.simulation.proofs.release_due.Tie as tie
 
 abbrev Inv-loop : tie.InvT-loop
-Inv-loop tick count claiming times places₀ set₀ bell₀ i₀ places set nextEvent i =
+Inv-loop tick count claiming times places₀ set₀ nextEvent₀ i₀ places set nextEvent i =
     (i ≤ count) × (machineOf places set ≡ releasedDue tick (segment 0 times) (segment 32 times) (segment 64 times) i (machineOf places₀ claiming))
     × (nextEvent ≡ earliest i (segment 32 places))
 
 abbrev μ-loop : tie.MeasureT-loop
-μ-loop tick count claiming times places₀ set₀ bell₀ i₀ places set nextEvent i = count - i
+μ-loop tick count claiming times places₀ set₀ nextEvent₀ i₀ places set nextEvent i = count - i
 
 -- the state at the head of the loop
 abbrev loop-from-joined1 : tie.Joined1 Inv-loop μ-loop → tie.At-loop Inv-loop μ-loop

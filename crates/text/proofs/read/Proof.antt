@@ -6,7 +6,7 @@ use Prim.Native.Nat.{ℕ, _+_, _-_, _≤_}
 use native.Mathlib.Omega.{arith}
 use borrow.Author.Needs.{needs}
 use lib.ListN.{length, take, drop, set, length-drop, length-append}
-use Rattle.text.specs.Format.{words, wordsOf, lines, mostNumbers}
+use Rattle.text.specs.Format.{readWords, wordsOf, lines, mostNumbers}
 use Rattle.text.specs.Input.{lineLength, parseNumber, padNumbers, inputOf}
 use Rattle.text.proofs.Lines.{line-within}
 use Rattle.text.proofs.Numbers.{nothing-found, value-found}
@@ -154,7 +154,7 @@ returns-3 : tie.Need-returns-3 Inv-loop μ-loop
 returns-3 c =
     let l = c .before .loop in
     let bytes = entry-from-past-loop c .args .bytes .now in
-    let e : words (l .inv .0) ≡ wordsOf bytes =
+    let e : readWords (l .inv .0) ≡ wordsOf bytes =
     sym (from-end (l .inv .0) (l .inv .3)) ∙ ap (wordsFrom (l .inv .0)) (sym (lines-past bytes (l .at) (omega arith))) ∙ l .inv .4 in
     read-of bytes _ (input-of (l .inv .0) (l .words) (l .count) (l .inv .1) (l .inv .2) ∙ ap inputOf e)
 

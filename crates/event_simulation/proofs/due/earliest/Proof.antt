@@ -11,10 +11,10 @@ use Rattle.event_simulation.proofs.due.earliest.Statement.{statement}
 use Rattle.event_simulation.proofs.due.earliest.Tie as tie
 
 abbrev Inv-loop : tie.InvT-loop
-Inv-loop count places bell₀ i₀ nextEvent i = (i ≤ count) × (nextEvent ≡ earliestOf i (segment 32 places))
+Inv-loop count places nextEvent₀ i₀ nextEvent i = (i ≤ count) × (nextEvent ≡ earliestOf i (segment 32 places))
 
 abbrev μ-loop : tie.MeasureT-loop
-μ-loop count places bell₀ i₀ nextEvent i = count - i
+μ-loop count places nextEvent₀ i₀ nextEvent i = count - i
 
 -- the state at the call
 abbrev entry-from-in-loop : tie.In-loop Inv-loop μ-loop → tie.Start Inv-loop μ-loop

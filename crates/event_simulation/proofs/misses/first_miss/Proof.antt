@@ -46,46 +46,46 @@ abbrev μ-loop : tie.MeasureT-loop
 abbrev Inv-jumps : tie.InvT-jumps
 Inv-jumps end setting widths times registers₀ places₀ registers places = (t : Loaded) → Run t setting widths times registers₀ places₀ → Jumped t (eventStateOf registers places)
 
-abbrev μ-leaps : tie.MeasureT-jumps
-μ-leaps end setting widths times registers₀ places₀ registers places = end - registers .tick
+abbrev μ-jumps : tie.MeasureT-jumps
+μ-jumps end setting widths times registers₀ places₀ registers places = end - registers .tick
 
 -- the state past the loop
-abbrev past-loop : tie.After-places2 Inv-loop μ-loop Inv-jumps μ-leaps → tie.After-loop Inv-loop μ-loop Inv-jumps μ-leaps
+abbrev past-loop : tie.After-places2 Inv-loop μ-loop Inv-jumps μ-jumps → tie.After-loop Inv-loop μ-loop Inv-jumps μ-jumps
 past-loop c = c .before .before .before
 
 -- the state where the test `if1` fails
-abbrev else1-from-past-loop : tie.After-loop Inv-loop μ-loop Inv-jumps μ-leaps → tie.Else1 Inv-loop μ-loop Inv-jumps μ-leaps
+abbrev else1-from-past-loop : tie.After-loop Inv-loop μ-loop Inv-jumps μ-jumps → tie.Else1 Inv-loop μ-loop Inv-jumps μ-jumps
 else1-from-past-loop c = c .before .before .before
 
-abbrev else1-from-in-loop : tie.In-loop Inv-loop μ-loop Inv-jumps μ-leaps → tie.Else1 Inv-loop μ-loop Inv-jumps μ-leaps
+abbrev else1-from-in-loop : tie.In-loop Inv-loop μ-loop Inv-jumps μ-jumps → tie.Else1 Inv-loop μ-loop Inv-jumps μ-jumps
 else1-from-in-loop c = c .before .before .before
 
 -- the state at the head of the loop `jumps`
-abbrev at-jumps-from-struct-known2 : tie.After-struct-known2 Inv-loop μ-loop Inv-jumps μ-leaps → tie.At-jumps Inv-loop μ-loop Inv-jumps μ-leaps
+abbrev at-jumps-from-struct-known2 : tie.After-struct-known2 Inv-loop μ-loop Inv-jumps μ-jumps → tie.At-jumps Inv-loop μ-loop Inv-jumps μ-jumps
 at-jumps-from-struct-known2 c = c .before .before .before
 
-abbrev at-jumps-from-loop : tie.At-loop Inv-loop μ-loop Inv-jumps μ-leaps → tie.At-jumps Inv-loop μ-loop Inv-jumps μ-leaps
+abbrev at-jumps-from-loop : tie.At-loop Inv-loop μ-loop Inv-jumps μ-jumps → tie.At-jumps Inv-loop μ-loop Inv-jumps μ-jumps
 at-jumps-from-loop c = c .before .before .before .before
 
 -- the state after `columns-of`
-abbrev columns-of-from-start : tie.After-start Inv-loop μ-loop Inv-jumps μ-leaps → tie.After-columns-of Inv-loop μ-loop Inv-jumps μ-leaps
+abbrev columns-of-from-start : tie.After-start Inv-loop μ-loop Inv-jumps μ-jumps → tie.After-columns-of Inv-loop μ-loop Inv-jumps μ-jumps
 columns-of-from-start c = c .before .before .before .before
 
-abbrev columns-of-from-places : tie.After-places Inv-loop μ-loop Inv-jumps μ-leaps → tie.After-columns-of Inv-loop μ-loop Inv-jumps μ-leaps
+abbrev columns-of-from-places : tie.After-places Inv-loop μ-loop Inv-jumps μ-jumps → tie.After-columns-of Inv-loop μ-loop Inv-jumps μ-jumps
 columns-of-from-places c = columns-of-from-start (c .before .before)
 
 -- THE PLACES. The table, and that the run begins as its own does
-abbrev table-of : tie.After-places Inv-loop μ-loop Inv-jumps μ-leaps → Loaded
+abbrev table-of : tie.After-places Inv-loop μ-loop Inv-jumps μ-jumps → Loaded
 table-of p = columns-of-from-places p .before .args .table
 
 -- the run begins as that of table t does
-abbrev Of : tie.After-places Inv-loop μ-loop Inv-jumps μ-leaps → Loaded → Type 0
+abbrev Of : tie.After-places Inv-loop μ-loop Inv-jumps μ-jumps → Loaded → Type 0
 Of p t =
     let co = columns-of-from-places p in
     Run t (co .columns-of .result .setting) (co .columns-of .result .widths)
     (co .columns-of .result .times) (p .before .before .start .result .registers) (p .before .before .start .result .places)
 
-own : (p : tie.After-places Inv-loop μ-loop Inv-jumps μ-leaps) → Of p (table-of p)
+own : (p : tie.After-places Inv-loop μ-loop Inv-jumps μ-jumps) → Of p (table-of p)
 own p = record {
   fit = columns-of-from-places p .before .pre .0;
   numbers = columns-of-from-places p .columns-of .ensures;
@@ -93,34 +93,34 @@ own p = record {
 }
 
 -- the table's numbers, and the run at an event
-abbrev nums : tie.After-places Inv-loop μ-loop Inv-jumps μ-leaps → Numbers
+abbrev nums : tie.After-places Inv-loop μ-loop Inv-jumps μ-jumps → Numbers
 nums p =
     let co = columns-of-from-places p in
     numbersBy (co .columns-of .result .setting) (co .columns-of .result .widths)
     (co .columns-of .result .times)
 
-abbrev state-of : tie.At-jumps Inv-loop μ-loop Inv-jumps μ-leaps → EventState
+abbrev state-of : tie.At-jumps Inv-loop μ-loop Inv-jumps μ-jumps → EventState
 state-of k = eventStateOf (k .jumps .registers) (k .jumps .places)
 
-stands : (k : tie.At-jumps Inv-loop μ-loop Inv-jumps μ-leaps) (t : Loaded) → Of (k .before) t → StateRepresents t (state-of k)
+stands : (k : tie.At-jumps Inv-loop μ-loop Inv-jumps μ-jumps) (t : Loaded) → Of (k .before) t → StateRepresents t (state-of k)
 stands k t b = let x = k .jumps .inv t b in subst (StateRepresents t) (sym (x .2)) (jumps-represent t (b .fit) (x .0) (x .1))
 
 -- in the walk: the lowest place that is left is one of 32
-inside : (c : tie.In-loop Inv-loop μ-loop Inv-jumps μ-leaps) → lowest (c .before .loop .rest) < 32
+inside : (c : tie.In-loop Inv-loop μ-loop Inv-jumps μ-jumps) → lowest (c .before .loop .rest) < 32
 inside c = at-lowest _ _ (c .before .loop .rest) (c .before .loop .inv) (c .loop-test .taken) .below
 
-left-at : (c : tie.In-loop Inv-loop μ-loop Inv-jumps μ-leaps) (xs : List ℕ) → getD (segment 0 xs) (lowest (c .before .loop .rest)) 0 ≡ getD xs (lowest (c .before .loop .rest)) 0
+left-at : (c : tie.In-loop Inv-loop μ-loop Inv-jumps μ-jumps) (xs : List ℕ) → getD (segment 0 xs) (lowest (c .before .loop .rest)) 0 ≡ getD xs (lowest (c .before .loop .rest)) 0
 left-at c xs = front-at xs (lowest (c .before .loop .rest)) (inside c)
 
 -- where the walk has ended no deadline of the tick is missed
-met : (c : tie.After-loop Inv-loop μ-loop Inv-jumps μ-leaps) (t : Loaded) → Of (at-jumps-from-loop (c .before) .before) t
+met : (c : tie.After-loop Inv-loop μ-loop Inv-jumps μ-jumps) (t : Loaded) → Of (at-jumps-from-loop (c .before) .before) t
     → (q : ℕ) → ¬ Missed (loadedTable t) q (at-jumps-from-loop (c .before) .jumps .registers .tick)
 met c t b =
     let k = at-jumps-from-loop (c .before) in
     walk-ends t (b .fit) (state-of k) (stands k t b) (c .before .loop .rest) (c .before .loop .inv) (c .loop-test .left)
 
 -- so a jump may begin
-begins : (c : tie.After-loop Inv-loop μ-loop Inv-jumps μ-leaps) → JumpStarts (table-of (at-jumps-from-loop (c .before) .before))
+begins : (c : tie.After-loop Inv-loop μ-loop Inv-jumps μ-jumps) → JumpStarts (table-of (at-jumps-from-loop (c .before) .before))
     (nums (at-jumps-from-loop (c .before) .before)) (state-of (at-jumps-from-loop (c .before)))
 begins c =
     let e = else1-from-past-loop c in
@@ -136,57 +136,57 @@ begins c =
     }
 
 -- THE ANSWERS
-columns-of-requires : tie.Need-columns-of-requires Inv-loop μ-loop Inv-jumps μ-leaps
+columns-of-requires : tie.Need-columns-of-requires Inv-loop μ-loop Inv-jumps μ-jumps
 columns-of-requires c κs = search needs
 
-start-requires : tie.Need-start-requires Inv-loop μ-loop Inv-jumps μ-leaps
+start-requires : tie.Need-start-requires Inv-loop μ-loop Inv-jumps μ-jumps
 start-requires c κs = search needs
 
-jumps-holds : tie.Need-jumps-holds Inv-loop μ-loop Inv-jumps μ-leaps
+jumps-holds : tie.Need-jumps-holds Inv-loop μ-loop Inv-jumps μ-jumps
 unfolding jumps
 jumps-holds c = λ t b. (0, (λ i p l. absurd (not-suc-le-zero l)), b .state-start)
 
-loop-holds : tie.Need-loop-holds Inv-loop μ-loop Inv-jumps μ-leaps
+loop-holds : tie.Need-loop-holds Inv-loop μ-loop Inv-jumps μ-jumps
 loop-holds c =
     let k = at-jumps-from-struct-known2 c in
     walk-begins (table-of (k .before)) (own (k .before) .fit) (state-of k) (stands k (table-of (k .before)) (own (k .before)))
 
-cast-if2 : tie.Need-cast-if2 Inv-loop μ-loop Inv-jumps μ-leaps
+cast-if2 : tie.Need-cast-if2 Inv-loop μ-loop Inv-jumps μ-jumps
 cast-if2 c = omega (arith, inside c)
 
-mul-if2 : tie.Need-mul-if2 Inv-loop μ-loop Inv-jumps μ-leaps
+mul-if2 : tie.Need-mul-if2 Inv-loop μ-loop Inv-jumps μ-jumps
 mul-if2 c = omega (arith, inside c)
 
-array-read-if2 : tie.Need-array-read-if2 Inv-loop μ-loop Inv-jumps μ-leaps
+array-read-if2 : tie.Need-array-read-if2 Inv-loop μ-loop Inv-jumps μ-jumps
 array-read-if2 c = omega (arith, inside c)
 
-add-t20 : tie.Need-add-t20 Inv-loop μ-loop Inv-jumps μ-leaps
+add-t20 : tie.Need-add-t20 Inv-loop μ-loop Inv-jumps μ-jumps
 add-t20 c = omega (arith, inside (c .before))
 
-sub-rest : tie.Need-sub-rest Inv-loop μ-loop Inv-jumps μ-leaps
+sub-rest : tie.Need-sub-rest Inv-loop μ-loop Inv-jumps μ-jumps
 sub-rest c = omega (arith, c .before .loop-test .taken)
 
-loop-less : tie.Need-loop-less Inv-loop μ-loop Inv-jumps μ-leaps
+loop-less : tie.Need-loop-less Inv-loop μ-loop Inv-jumps μ-jumps
 loop-less c = at-lowest _ _ (c .before .before .loop .rest) (c .before .before .loop .inv) (c .before .loop-test .taken) .falls
 
-loop-again : tie.Need-loop-again Inv-loop μ-loop Inv-jumps μ-leaps
+loop-again : tie.Need-loop-again Inv-loop μ-loop Inv-jumps μ-jumps
 loop-again c =
     let n = c .before in
     let k = at-jumps-from-loop (n .before) in
     walk-passes _ _ (n .before .loop .rest) (n .before .loop .inv) (n .loop-test .taken) (omega (arith, left-at n (k .jumps .places), c .if2 .left))
 
-jump-requires : tie.Need-jump-requires Inv-loop μ-loop Inv-jumps μ-leaps
+jump-requires : tie.Need-jump-requires Inv-loop μ-loop Inv-jumps μ-jumps
 jump-requires c κs =
     let a = past-loop c in
     (table-of (at-jumps-from-loop (a .before) .before), begins a)
 
-jumps-less : tie.Need-jumps-less Inv-loop μ-loop Inv-jumps μ-leaps
+jumps-less : tie.Need-jumps-less Inv-loop μ-loop Inv-jumps μ-jumps
 jumps-less c =
     let a = past-loop (c .before) in
     let e = else1-from-past-loop a in
     omega (arith, e .if1 .left, c .jump .ensures .lands _ (begins a) .next .after)
 
-jumps-again : tie.Need-jumps-again Inv-loop μ-loop Inv-jumps μ-leaps
+jumps-again : tie.Need-jumps-again Inv-loop μ-loop Inv-jumps μ-jumps
 unfolding jumps
 jumps-again c =
     let a = past-loop (c .before) in
@@ -200,14 +200,14 @@ jumps-again c =
       c .jump .ensures .value ∙ (ap (λ (n : Numbers). jumped n (state-of k)) (b .numbers) ∙ ap (jumped (loadedNumbers t)) (x .2)),
     )
 
-returns : tie.Need-returns Inv-loop μ-loop Inv-jumps μ-leaps
+returns : tie.Need-returns Inv-loop μ-loop Inv-jumps μ-jumps
 returns c =
     let k = c .before .before in
     let t = table-of (k .before) in
     let b = own (k .before) in
     by-none (loadedTable t) (b .fit .valid) _ (λ q u h. stands k t b .met q u (omega (arith, c .if1 .taken)))
 
-returns-2 : tie.Need-returns-2 Inv-loop μ-loop Inv-jumps μ-leaps
+returns-2 : tie.Need-returns-2 Inv-loop μ-loop Inv-jumps μ-jumps
 returns-2 c =
     let n = c .before in
     let e = else1-from-in-loop n in
@@ -225,7 +225,7 @@ first-miss-spec =
     Inv-loop
     μ-loop
     Inv-jumps
-    μ-leaps
+    μ-jumps
     columns-of-requires
     start-requires
     jumps-holds

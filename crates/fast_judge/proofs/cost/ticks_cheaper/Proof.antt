@@ -28,10 +28,10 @@ unfolding sumTo
 summed-more f most ts n i k s x = (omega (arith, s .0, x .1), rw (add-one i) (ap₂ (λ (a b : ℕ). a + b) (s .1) (x .0)))
 
 abbrev Inv-loop : tie.InvT-loop
-Inv-loop tasks work₀ leaps₀ i₀ work leaps i = (i ≤ mostTasks) × Summed tickCost 4294967296000000 tasks work i × Summed eventCost 36000000 tasks leaps i
+Inv-loop tasks work₀ events₀ i₀ work events i = (i ≤ mostTasks) × Summed tickCost 4294967296000000 tasks work i × Summed eventCost 36000000 tasks events i
 
 abbrev μ-loop : tie.MeasureT-loop
-μ-loop tasks work₀ leaps₀ i₀ work leaps i = mostTasks - i
+μ-loop tasks work₀ events₀ i₀ work events i = mostTasks - i
 
 -- the state at the head of the loop
 abbrev loop : tie.After-tick-cost Inv-loop μ-loop → tie.At-loop Inv-loop μ-loop

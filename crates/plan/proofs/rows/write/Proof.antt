@@ -16,7 +16,7 @@ use Rattle.simulation.proofs.Steps.{tick-on, chosen-on, even-on}
 use Rattle.judge.specs.Judged.{loadedTable, Fit}
 use Rattle.judge.proofs.Refines.{RefinesTick, refines-start, looked, steppable, refines-on}
 use Rattle.plan.proofs.Late.{all-met}
-use Rattle.plan.specs.Plan.{over}
+use Rattle.plan.specs.Plan.{withRows}
 use Rattle.plan.proofs.Writing.{RowBy, RowFor, Filled, filled-start, filled-pass, filled-room, filled-more, none-changed, row-bytes}
 use Rattle.plan.proofs.rows.write.Statement.{statement}
 use Rattle.plan.proofs.rows.write.Tie as tie
@@ -285,7 +285,7 @@ returns c =
     let k = c .before .before in
     let p = k .before in
     let e : k .loop .registers .tick ≡ last-of p = omega (arith, k .loop .inv .2, c .if1 .left) in
-    k .loop .inv .3 .bytes ∙ ap (λ (n : ℕ). over (loadedTable (table-of p)) (first-of p) n (found-of p)) e
+    k .loop .inv .3 .bytes ∙ ap (λ (n : ℕ). withRows (loadedTable (table-of p)) (first-of p) n (found-of p)) e
 
 pub write-spec : {M : Type 1} → statement M
 write-spec =

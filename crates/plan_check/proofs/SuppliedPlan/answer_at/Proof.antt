@@ -3,7 +3,7 @@
 use mathlib.Core.Path.{sym, _∙_}
 use borrow.Author.Needs.{needs}
 use borrow.Author.Tests.{eq-eqb, ne-eqb}
-use Rattle.plan_check.specs.Take.{answerAt}
+use Rattle.plan_check.specs.CheckRow.{answerAt}
 use Rattle.plan_check.proofs.SuppliedPlan.answer_at.Statement.{statement}
 use Rattle.plan_check.proofs.SuppliedPlan.answer_at.Tie as tie
 

@@ -1,7 +1,7 @@
 -- `plan_check::SuppliedPlan::final_answer` meets its contract: the branches are the tests of the definition, in its order.
 -- Assumes nothing.
 use borrow.Author.Needs.{needs}
-use Rattle.plan_check.specs.Take.{finalAnswer}
+use Rattle.plan_check.specs.CheckRow.{finalAnswer}
 use Rattle.plan_check.proofs.SuppliedPlan.final_answer.Statement.{statement}
 use Rattle.plan_check.proofs.SuppliedPlan.final_answer.Tie as tie
 

@@ -14,7 +14,7 @@ use Rattle.plan_check.specs.Row.{faulty}
 use Rattle.plan_check.specs.RowAnswer.{stateByAnswer}
 use Rattle.plan_check.specs.Shown.{workedWith}
 use Rattle.plan_check.specs.State.{stateAt, horizonIn}
-use Rattle.plan_check.specs.Take.{answerAt}
+use Rattle.plan_check.specs.CheckRow.{answerAt}
 use Rattle.plan_check.specs.declared.Answer.{Answer}
 use Rattle.plan_check.specs.declared.Entered.{Entered}
 use Rattle.plan_check.specs.declared.SuppliedPlan.{SuppliedPlan}

@@ -3,7 +3,7 @@
 use borrow.Author.Needs.{needs}
 use mathlib.Core.Path.{refl}
 use Rattle.session.specs.Session.{transcriptOf, transcriptIn}
-use Rattle.session.specs.Transcript.{transcript, dueTranscript, transcriptFrom}
+use Rattle.session.specs.Transcript.{transcript, transcriptSoFar, transcriptFrom}
 use Rattle.session.proofs.Session.new.Statement.{statement}
 use Rattle.session.proofs.Session.new.Tie as tie
 
@@ -14,7 +14,7 @@ start-requires : tie.Need-start-requires
 start-requires c κs = search needs
 
 returns : tie.Need-returns
-unfolding transcriptOf transcript dueTranscript transcriptIn transcriptFrom
+unfolding transcriptOf transcript transcriptSoFar transcriptIn transcriptFrom
 returns c = λ bs. (refl, refl)
 
 pub new-spec : {M : Type 1} → statement M

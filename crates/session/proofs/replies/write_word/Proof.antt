@@ -9,7 +9,7 @@ use lib.ListN.{length, take, drop, set}
 use lib.Seq.{take-length}
 use Rattle.text.specs.Written.{Put}
 use Rattle.text.proofs.Writing.{put-one, put-then, put-length}
-use Rattle.session.specs.Operation.{longestReply, plain}
+use Rattle.session.specs.Operation.{longestReply, wordLine}
 use Rattle.session.specs.Session.{TextWritten}
 use Rattle.session.proofs.TextWritten.{text-put}
 use Rattle.session.proofs.replies.write_word.Statement.{statement}
@@ -24,8 +24,8 @@ ends word before after n p = let q = subst (λ (x : List ℕ). Put before 0 x af
 
 word-text :
     (word before after : List ℕ) (n : ℕ) → length before ≡ longestReply → length word ≤ 16 → Put before 0 (take (length word) (drop 0 word)) after n
-    → TextWritten (plain word) before (set after n 10) (n + 1)
-unfolding plain
+    → TextWritten (wordLine word) before (set after n 10) (n + 1)
+unfolding wordLine
 word-text word before after n w h p =
     let q : Put before 0 word after n = subst (λ (x : List ℕ). Put before 0 x after n) (take-length word) p in
     let k : length after ≡ length before = put-length q (omega (arith, q .ends, w, h)) in

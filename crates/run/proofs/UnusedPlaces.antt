@@ -32,7 +32,7 @@ use Rattle.run.specs.Withdraw.{withdrawAnswer, withdrawOf, withdrawAllOf
 use Rattle.run.specs.Advance.{advanceAnswer, advanceOf}
 use Rattle.run.specs.Row.{rowAnswer, bytesIn, rowOf}
 use Rattle.run.specs.Sets.{setsIn, setsOf}
-use Rattle.run.specs.Past.{SameBelow, TailUnread}
+use Rattle.run.specs.UnusedPlaces.{SameBelow, TailUnread}
 use Rattle.run.proofs.Lent.{past-offer}
 use Rattle.run.proofs.Places.{drop-mapFirst, take-mapFirst}
 
@@ -78,9 +78,9 @@ module _ (rule cores fence withdrawn count : ℕ) (ts us : List Task) (same : ta
           same-and (ltb p count) (ltb p count) (released (phaseAt one p)) (released (phaseAt other p)) refl
           (λ l. ap (λ (t : Task). released (t .phase)) (same-at p (ltb-true p count l)))
 
-  same-withdraw : (stranger : Bool) → withdrawAnswer one stranger ≡ withdrawAnswer other stranger
+  same-withdraw : (unknown : Bool) → withdrawAnswer one unknown ≡ withdrawAnswer other unknown
   unfolding withdrawAnswer
-  same-withdraw stranger = rw (same-out, same)
+  same-withdraw unknown = rw (same-out, same)
 
   -- with the empty jobs e
   module _ (e : ℕ) where

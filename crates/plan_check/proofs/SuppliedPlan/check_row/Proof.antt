@@ -1,12 +1,12 @@
--- `plan_check::SuppliedPlan::take` meets its contract: 14 and 9 for any row (`take-refused`), then the row; the value has the whole contract (`take-of`).
+-- `plan_check::SuppliedPlan::check_row` meets its contract: 14 and 9 for any row (`take-refused`), then the row; the value has the whole contract (`take-of`).
 -- Assumes nothing.
 use mathlib.Core.Path.{ap, sym, _∙_}
 use Prim.Native.Nat.{ℕ}
 use borrow.Author.Needs.{needs}
 use Rattle.plan_check.proofs.Cases.{refusal, take-refused}
 use Rattle.plan_check.proofs.Taking.{take-of}
-use Rattle.plan_check.proofs.SuppliedPlan.take.Statement.{statement}
-use Rattle.plan_check.proofs.SuppliedPlan.take.Tie as tie
+use Rattle.plan_check.proofs.SuppliedPlan.check_row.Statement.{statement}
+use Rattle.plan_check.proofs.SuppliedPlan.check_row.Tie as tie
 
 extent-requires : tie.Need-extent-requires
 extent-requires c κs = search needs
@@ -32,5 +32,5 @@ returns-2 c =
     let s = c .before .before .before .before .before in
     take-of (s .args .self) (s .args .row .now) (c .enter .result) (c .enter .ensures .0)
 
-pub take-spec : {M : Type 1} → statement M
-take-spec = tie.close (tie.spec extent-requires refused-requires returns enter-requires returns-2)
+pub check-row-spec : {M : Type 1} → statement M
+check-row-spec = tie.close (tie.spec extent-requires refused-requires returns enter-requires returns-2)

@@ -10,7 +10,7 @@ use Rattle.model.specs.Sets.{setsAsked}
 use Rattle.model.specs.Task.{Table, lending}
 
 -- the claims about a list xs, whose jobs have lengths from zero up, and some of whose tasks may be withdrawn
-pub record FirmKept (s : Table) (xs : List Entry) : Type 0 where
+pub record FirmGuarantee (s : Table) (xs : List Entry) : Type 0 where
   -- under rules 1 to 3, of two lists at one tick, if no job is longer in the first, the first is behind on no job (not so under rule 4:
   -- `lending-not-sustainable`)
   pub sustainable : ¬ (s .rule ≡ lending) → (ys : List Entry) → Sustainable s xs ys

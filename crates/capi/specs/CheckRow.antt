@@ -9,7 +9,7 @@ use Rattle.plan_check.specs.declared.Answer.the-variants.{Taken, Accepted, Refu
 use Rattle.plan_check.specs.declared.SuppliedPlan.{SuppliedPlan}
 use Rattle.plan_check.specs.Begin.{beginOf}
 use Rattle.plan_check.specs.State.{startIn}
-use Rattle.plan_check.specs.Take.{takeOf}
+use Rattle.plan_check.specs.CheckRow.{checkRowOf}
 use Rattle.capi.specs.declared.answer_words.AnswerWords.{AnswerWords}
 use Rattle.capi.specs.AnswerWords.{answerWords, ofGiven, answerWritten}
 use Rattle.capi.specs.Calls.{CallResult, byRoom, answerFits}
@@ -34,7 +34,7 @@ ofTaken Accepted = answerWords 6 0 0
 ofTaken (Refused n t) = answerWords 3 n t
 
 -- a row's answer, and the buffer afterwards
-pub record RowTaken : Type 0 where
+pub record RowChecked : Type 0 where
   pub answer : Answer
   pub buffer : List ℕ
 
@@ -45,15 +45,15 @@ byTaken Accepted a b = a
 byTaken (Refused n t) a b = b
 
 -- the plan that a row returns, with the places below its count, and those notes where it arrives at the last S; a refusal leaves the buffer as found
-abbrev pub keptPlan : Answer → SuppliedPlan → List ℕ → RowTaken
+abbrev pub keptPlan : Answer → SuppliedPlan → List ℕ → RowChecked
 keptPlan a w ws = record { answer = a; buffer = byTaken a (planOver (eqb (w .tick) (startIn (w .run))) (w .run .count) w ws) ws }
 
 -- a row taken by the plan that a buffer holds; 14 where it holds none
-abbrev pub takeFrom : BufferPlan → List ℕ → List ℕ → RowTaken
-takeFrom (plan w) row ws = keptPlan (takeOf w row .answer) (takeOf w row .plan) ws
-takeFrom none row ws = record { answer = Refused 14 0; buffer = ws }
+abbrev pub checkRowFrom : BufferPlan → List ℕ → List ℕ → RowChecked
+checkRowFrom (plan w) row ws = keptPlan (checkRowOf w row .answer) (checkRowOf w row .plan) ws
+checkRowFrom none row ws = record { answer = Refused 14 0; buffer = ws }
 
-unfoldable pub takeCall : List ℕ → List ℕ → List ℕ → CallResult
-takeCall buffer row answer =
-    let a = takeFrom (decodePlan buffer) row buffer in
+unfoldable pub checkRowCall : List ℕ → List ℕ → List ℕ → CallResult
+checkRowCall buffer row answer =
+    let a = checkRowFrom (decodePlan buffer) row buffer in
     byRoom (answerFits answer) (a .buffer ∷ (answerWritten (ofTaken (a .answer)) answer ∷ [])) (buffer ∷ (answer ∷ []))

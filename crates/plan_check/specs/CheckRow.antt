@@ -27,8 +27,8 @@ unfoldable pub answerAt : SuppliedPlan → Answer
 answerAt w = cond (eqb (w .tick) (horizonIn (w .run))) (finalAnswer w) Taken
 
 -- 14, 9, 10 and 11, then 25 and 24 in this tick; else by the state after the row
-unfoldable pub takeAnswer : SuppliedPlan → List ℕ → Answer
-takeAnswer w row =
+unfoldable pub checkRowAnswer : SuppliedPlan → List ℕ → Answer
+checkRowAnswer w row =
     cond (stateOut (w .run)) (Refused 14 0)
     (cond (horizonOut (horizonIn (w .run))) (Refused 9 0)
     (cond (leb (horizonIn (w .run)) (w .tick)) (Refused 10 0)
@@ -38,13 +38,13 @@ takeAnswer w row =
     (answerAt (afterRow w row)))))))
 
 -- the answer, and the state one tick on; where refused, the state as given
-unfoldable pub takeOf : SuppliedPlan → List ℕ → Entered
-takeOf w row = record { answer = takeAnswer w row; plan = stateByAnswer (takeAnswer w row) (afterRow w row) w }
+unfoldable pub checkRowOf : SuppliedPlan → List ℕ → Entered
+checkRowOf w row = record { answer = checkRowAnswer w row; plan = stateByAnswer (checkRowAnswer w row) (afterRow w row) w }
 
 -- the contract of a row taken from state w
-pub record TakeOf (w : SuppliedPlan) (row : List ℕ) (e : Entered) : Type 0 where
+pub record CheckRowOf (w : SuppliedPlan) (row : List ℕ) (e : Entered) : Type 0 where
   -- its value
-  pub value : e ≡ takeOf w row
+  pub value : e ≡ checkRowOf w row
   -- refused with n and t exactly if number n applies with tick t and no earlier one does
   pub refused : (n t : ℕ) → (rowAnswerMeaning (e .answer) ≡ meaning.refused n t) ↔ First w row n t
   -- taken or accepted exactly if none applies: accepted as the last row, taken before it

@@ -12,12 +12,12 @@ use Rattle.run.specs.declared.Run.{Run}
 use Rattle.run.specs.Answer.{byAnswer}
 use Rattle.model.specs.Book.{Entry}
 use Rattle.refinement.specs.Entries.{entryOf}
-use Rattle.run.specs.Past.{TailUnread}
-use Rattle.run.proofs.Past.{past-unread}
+use Rattle.run.specs.UnusedPlaces.{TailUnread}
+use Rattle.run.proofs.UnusedPlaces.{past-unread}
 use Rattle.phase.specs.Task.{unused}
 use Rattle.capi.specs.Encoding.{headWords, eachWords, places, wordsTo, placesWords, encodeTo, overwritten, placesIn, arePlaces, countIn, holdsRun, padded, runIn, BufferRun, run, none, decode, cleared}
 use Rattle.capi.specs.Runs.{rowFrom, setsFrom, entryFrom}
-use Rattle.capi.specs.Past.{usedIn, SameUsed, WordsUnread}
+use Rattle.capi.specs.UnusedPlaces.{usedIn, SameUsed, WordsUnread}
 use Rattle.table.specs.Words.{fenceOf}
 use Rattle.capi.proofs.Places.{length-words, length-read, held-by, by-held, held-few, held-places}
 use Rattle.capi.proofs.Inverse.{length-to, held-run, places-are, places-back, places-encode}

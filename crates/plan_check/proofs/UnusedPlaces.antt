@@ -21,12 +21,12 @@ use Rattle.run.specs.declared.Run.{Run}
 use Rattle.plan_check.specs.Extent.{extentOf, firstNumber}
 use Rattle.plan_check.specs.Checked.{rowAnswersFrom}
 use Rattle.plan_check.specs.Numbers.{afterRow, unreachablePhase, differs, missed, samePhase, stateOut}
-use Rattle.plan_check.specs.Past.{SamePlan, PlanTailUnread}
+use Rattle.plan_check.specs.UnusedPlaces.{SamePlan, PlanTailUnread}
 use Rattle.plan_check.specs.Plan.{cellCount}
 use Rattle.plan_check.specs.Row.{faulty, shownInRow, anyUnknownByte, workedRow, workedAt, wrongAt}
 use Rattle.plan_check.specs.RowAnswer.{RowAnswer, stateByAnswer, rowAnswerMeaning}
 use Rattle.plan_check.specs.State.{horizonIn, noteOf, notedAt, noting, pastNote, startIn}
-use Rattle.plan_check.specs.Take.{answerAt, finalAnswer, takeAnswer, takeOf}
+use Rattle.plan_check.specs.CheckRow.{answerAt, finalAnswer, checkRowAnswer, checkRowOf}
 use Rattle.plan_check.specs.declared.Answer.{Answer}
 use Rattle.plan_check.specs.declared.Answer.the-variants.{Accepted, Refused, Taken}
 use Rattle.plan_check.specs.declared.Note.{Note}
@@ -138,8 +138,8 @@ module _
 front : (n : ℕ) (ts : List Task) (ns : List Note) → n ≤ length ts → take n (map noteOf (take n ts) ++ drop n ns) ≡ map noteOf (take n ts)
 front n ts ns h = take-at (map noteOf (take n ts)) (drop n ns) n (length-map (take n ts) noteOf ∙ length-take-le n ts h)
 
-out-answer : (w : SuppliedPlan) (row : List ℕ) → stateOut (w .run) ≡ true → takeAnswer w row ≡ Refused 14 0
-unfolding takeAnswer
+out-answer : (w : SuppliedPlan) (row : List ℕ) → stateOut (w .run) ≡ true → checkRowAnswer w row ≡ Refused 14 0
+unfolding checkRowAnswer
 out-answer w row e = rw e
 
 -- A ROW taken from them
@@ -193,8 +193,8 @@ module _
     unfolding workedRow
     same-after = as-given (afterRow w row) us′ (afterRow x row .noted) same-worked notes-after
 
-    passed-answer : takeAnswer w row ≡ takeAnswer x row
-    unfolding takeAnswer
+    passed-answer : checkRowAnswer w row ≡ checkRowAnswer x row
+    unfolding checkRowAnswer
     passed-answer = λ i.
         cond (same-out-2 i) (Refused 14 0)
         (cond (horizonOut (same-horizon w us ms same same-notes i)) (Refused 9 0)
@@ -203,18 +203,18 @@ module _
         (cond (same-missed w us ms same same-notes i) (Refused 25 (w .tick))
         (cond (same-faulty w us ms same same-notes row i) (Refused 24 (w .tick)) (answer-after i))))))
 
-  same-answer : takeAnswer w row ≡ takeAnswer x row
+  same-answer : checkRowAnswer w row ≡ checkRowAnswer x row
   same-answer = go (stateOut (w .run)) refl
     where
-      go : (b : Bool) → stateOut (w .run) ≡ b → takeAnswer w row ≡ takeAnswer x row
+      go : (b : Bool) → stateOut (w .run) ≡ b → checkRowAnswer w row ≡ checkRowAnswer x row
       go true e = out-answer w row e ∙ sym (out-answer x row (sym same-out-2 ∙ e))
       go false e = passed-answer e
 
   abbrev Both : Answer → Answer → Type 0
   Both a b = SamePlan (stateByAnswer a (afterRow w row) w) (stateByAnswer b (afterRow x row) x)
 
-  same-plan : Both (takeAnswer w row) (takeAnswer x row)
-  same-plan = subst (Both (takeAnswer w row)) same-answer (go (stateOut (w .run)) refl)
+  same-plan : Both (checkRowAnswer w row) (checkRowAnswer x row)
+  same-plan = subst (Both (checkRowAnswer w row)) same-answer (go (stateOut (w .run)) refl)
     where
       given : SamePlan w x
       given = as-given w us ms same same-notes
@@ -224,9 +224,9 @@ module _
       by e Accepted = same-after e
       by e (Refused m t) = given
 
-      go : (b : Bool) → stateOut (w .run) ≡ b → Both (takeAnswer w row) (takeAnswer w row)
+      go : (b : Bool) → stateOut (w .run) ≡ b → Both (checkRowAnswer w row) (checkRowAnswer w row)
       go true e = subst⁻¹ (λ (a : Answer). Both a a) (out-answer w row e) given
-      go false e = by e (takeAnswer w row)
+      go false e = by e (checkRowAnswer w row)
 
 -- THE LAW, of any two states that are equal up to the count
 
@@ -256,15 +256,15 @@ module _ (w v : SuppliedPlan) (h : SamePlan w v) where
   unread-extent =
       subst (λ (x : SuppliedPlan). extentOf (w .run) ≡ extentOf (x .run)) (put w v h) (same-extent w (v .run .tasks) (v .noted) places notes)
 
-  unread-answer : (row : List ℕ) → takeOf w row .answer ≡ takeOf v row .answer
-  unfolding takeOf
+  unread-answer : (row : List ℕ) → checkRowOf w row .answer ≡ checkRowOf v row .answer
+  unfolding checkRowOf
   unread-answer row =
-      subst (λ (x : SuppliedPlan). takeAnswer w row ≡ takeAnswer x row) (put w v h) (same-answer w (v .run .tasks) (v .noted) places notes row)
+      subst (λ (x : SuppliedPlan). checkRowAnswer w row ≡ checkRowAnswer x row) (put w v h) (same-answer w (v .run .tasks) (v .noted) places notes row)
 
-  unread-plan : (row : List ℕ) → SamePlan (takeOf w row .plan) (takeOf v row .plan)
-  unfolding takeOf
+  unread-plan : (row : List ℕ) → SamePlan (checkRowOf w row .plan) (checkRowOf v row .plan)
+  unfolding checkRowOf
   unread-plan row =
-      subst (λ (x : SuppliedPlan). SamePlan (stateByAnswer (takeAnswer w row) (afterRow w row) w) (stateByAnswer (takeAnswer x row) (afterRow x row) x)) (put w v h)
+      subst (λ (x : SuppliedPlan). SamePlan (stateByAnswer (checkRowAnswer w row) (afterRow w row) w) (stateByAnswer (checkRowAnswer x row) (afterRow x row) x)) (put w v h)
       (same-plan w (v .run .tasks) (v .noted) places notes row)
 
 unread-answers : (rows : List (List ℕ)) (w v : SuppliedPlan) → SamePlan w v → rowAnswersFrom w rows ≡ rowAnswersFrom v rows
@@ -272,7 +272,7 @@ unfolding rowAnswersFrom
 unread-answers [] w v h = refl
 unread-answers (row ∷ rows) w v h =
     ap₂ (λ (a : Answer) (l : List RowAnswer). rowAnswerMeaning a ∷ l) (unread-answer w v h row)
-    (unread-answers rows (takeOf w row .plan) (takeOf v row .plan) (unread-plan w v h row))
+    (unread-answers rows (checkRowOf w row .plan) (checkRowOf v row .plan) (unread-plan w v h row))
 
 pub past-unread : (w v : SuppliedPlan) → SamePlan w v → PlanTailUnread w v
 past-unread w v h = record {
