@@ -1,8 +1,8 @@
 # Completion of sivorandra for bash: the options that can still be added, and file names.
 _sivorandra() {
     local word=${COMP_WORDS[COMP_CWORD]} before=${COMP_WORDS[COMP_CWORD - 1]} given option other without=''
-    local options='--verdict --why --longest --spare --clash --picture --report --from --to --replay --check --help --version'
-    local alone='--verdict --why --longest --spare --check --help --version'
+    local options='--verdict --why --longest --bounds --spare --clash --picture --report --from --to --replay --check --help --version'
+    local alone='--verdict --why --longest --bounds --spare --check --help --version'
     COMPREPLY=()
     case $before in
     --from | --to) return ;;
@@ -14,7 +14,7 @@ _sivorandra() {
         [[ $given == *" $option "* ]] || continue
         without+=" $alone $option"
         case $option in
-        --verdict | --why | --longest | --spare | --check) without+=" $options" ;;
+        --verdict | --why | --longest | --bounds | --spare | --check) without+=" $options" ;;
         --clash) without+=' --report --replay' ;;
         --picture) without+=' --report' ;;
         --report) without+=' --picture --clash' ;;
