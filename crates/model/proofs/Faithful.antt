@@ -17,8 +17,8 @@ use Rattle.model.proofs.Runs.{early-book, full-tick, missed-at}
 use Rattle.model.proofs.Search.{any-of, any-some}
 use Rattle.model.proofs.Starts.{Periods, S-release, hyperperiod-cycles, hyperperiod-least, hyperperiod-pos, release-first, release-from}
 use Rattle.model.specs.Jobs.{Book, Job}
-use Rattle.model.specs.Claims.{advanced, claims}
-use Rattle.model.specs.Advance.{Entry, advance, afterTaken}
+use Rattle.model.specs.Claims.{claims}
+use Rattle.model.specs.Advance.{step, advanced, Entry, advance, afterTaken}
 use Rattle.model.specs.Refusals.{Answer, answer}
 use Rattle.model.specs.Lists.{AllTaken, Missed, answersFrom, book, bookFrom}
 use Rattle.model.specs.Jobs.{emptied, emptyBook, emptyIn, endedWith}
@@ -26,7 +26,7 @@ use Rattle.model.specs.Claims.{jobClaims}
 use Rattle.model.specs.Advance.{singleton}
 use Rattle.model.specs.Refusals.{emptiable, late, wrongEmpties, wrongReports, refused}
 use Rattle.model.specs.Lists.{enter, entered, full, keep}
-use Rattle.model.specs.Claims.{step, taskClaims}
+use Rattle.model.specs.Claims.{taskClaims}
 use Rattle.model.specs.Advance.{withdraw, withdrawAll, withWithdrawn}
 use Rattle.model.specs.Refusals.{reportable, unknownPositions, taken}
 use Rattle.model.specs.Lists.{takenFrom, takenIn, takenOf, ticksOf}

@@ -15,14 +15,14 @@ use Rattle.model.proofs.Renumbered.{at-map, grants-map, lent-map, owner
 use Rattle.model.proofs.Search.{any-same}
 use Rattle.model.specs.Jobs.{Book}
 use Rattle.model.specs.Claims.{borrowed, borrowing, borrows}
-use Rattle.model.specs.Advance.{Entry, advance, afterTaken}
+use Rattle.model.specs.Advance.{step, work, workLent, Entry, advance, afterTaken}
 use Rattle.model.specs.Refusals.{Answer, answer}
 use Rattle.model.specs.Lists.{answersFrom, book, bookFrom}
 use Rattle.model.specs.Jobs.{emptied, emptyBook, emptyIn}
 use Rattle.model.specs.Claims.{grantsOf, inRow, lentOf, newestEnded}
 use Rattle.model.specs.Refusals.{emptiable, late, wrongEmpties, wrongReports}
 use Rattle.model.specs.Lists.{enter, full}
-use Rattle.model.specs.Claims.{offer, bookRow, seeks, served, shownOf, step, taskClaims, widths, work, workLent}
+use Rattle.model.specs.Claims.{offer, bookRow, seeks, served, shownOf, taskClaims, widths}
 use Rattle.model.specs.Advance.{withdraw, withdrawAll}
 use Rattle.model.specs.Refusals.{reportable, unknownPositions}
 use Rattle.model.specs.Lists.{noPlaces}

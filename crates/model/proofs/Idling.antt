@@ -14,10 +14,10 @@ use Rattle.model.proofs.SameClaims.{same-claims-asked, same-claimants}
 use Rattle.model.proofs.Runs.{full-claimed, full-offer, full-shown, full-withdrawn, still-emptied}
 use Rattle.model.specs.Jobs.{Book, emptied}
 use Rattle.model.specs.Claims.{borrowing, claims, grantsOf, jobClaims}
-use Rattle.model.specs.Advance.{Entry}
+use Rattle.model.specs.Advance.{step, work, workLent, Entry}
 use Rattle.model.specs.Refusals.{asked, firstLate, late}
 use Rattle.model.specs.Lists.{book, bookFrom, full}
-use Rattle.model.specs.Claims.{bookRow, served, step, taskClaims, widths, work, workLent}
+use Rattle.model.specs.Claims.{bookRow, served, taskClaims, widths}
 use Rattle.model.specs.Refusals.{wrongEmpties, rowRefused, shown}
 use Rattle.model.specs.Lists.{noPlaces, noReports}
 use Rattle.model.specs.Firm.{firm}

@@ -20,7 +20,7 @@ use Rattle.model.proofs.Runs.{full-offer}
 use Rattle.model.proofs.Search.{none-at}
 use Rattle.model.specs.Jobs.{Book, Job, emptied, emptyBook}
 use Rattle.model.specs.Claims.{borrowed, borrowing}
-use Rattle.model.specs.Advance.{Entry, advance, afterTaken}
+use Rattle.model.specs.Advance.{step, Entry, advance, afterTaken}
 use Rattle.model.specs.Refusals.{Answer, answer}
 use Rattle.model.specs.Lists.{book, bookFrom}
 use Rattle.model.specs.Jobs.{emptyIn}
@@ -28,7 +28,7 @@ use Rattle.model.specs.Claims.{grantsOf, jobClaims, newestEnded, offer, 
 use Rattle.model.specs.Advance.{singleton}
 use Rattle.model.specs.Refusals.{refused}
 use Rattle.model.specs.Lists.{enter, entered, full, keep, noPlaces, noReports}
-use Rattle.model.specs.Claims.{served, step, taskClaims, widths}
+use Rattle.model.specs.Claims.{served, taskClaims, widths}
 use Rattle.model.specs.Advance.{withdraw, withdrawAll, withWithdrawn}
 use Rattle.model.specs.Refusals.{taken}
 use Rattle.model.specs.Lists.{takenFrom, takenOf}

@@ -13,8 +13,8 @@ use Rattle.model.proofs.Jobs.{Reserving, idle-claims, start-claimed, st
 use Rattle.model.proofs.Runs.{BookBounds, Move, book-run, book-tick, full-claimed, full-had, full-run, bounds-emptied, bounds-start, bounds-step}
 use Rattle.model.proofs.Runs.{lines, moved, movesOf, run, stillMove}
 use Rattle.model.specs.Jobs.{Book, emptied, emptyBook, releasedNow}
-use Rattle.model.specs.Claims.{borrowing, jobClaims, served, step, taskClaims, widths}
-use Rattle.model.specs.Advance.{Entry}
+use Rattle.model.specs.Claims.{borrowing, jobClaims, served, taskClaims, widths}
+use Rattle.model.specs.Advance.{step, Entry}
 use Rattle.model.specs.Lists.{book, full}
 use Rattle.model.specs.Compare.{Behind, NoneBehind}
 use Rattle.model.specs.Grants.{claimants}

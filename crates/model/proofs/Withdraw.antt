@@ -15,10 +15,9 @@ use Rattle.model.proofs.Digits.{bit-power, or-bit, same-set}
 use Rattle.model.proofs.Faithful.{unknown-positions-exact}
 use Rattle.model.proofs.Verdict.{firm-exact}
 use Rattle.model.specs.Jobs.{Book, emptied}
-use Rattle.model.specs.Advance.{Entry, advance, afterTaken, singleton}
+use Rattle.model.specs.Advance.{step, Entry, advance, afterTaken, singleton}
 use Rattle.model.specs.Refusals.{Answer, answer, refused}
 use Rattle.model.specs.Lists.{bookFrom, enter, entered}
-use Rattle.model.specs.Claims.{step}
 use Rattle.model.specs.Advance.{withdraw, withdrawAll, withWithdrawn}
 use Rattle.model.specs.Refusals.{taken, unknownPosition, unknownPositions, withdrawing}
 use Rattle.model.specs.Firm.{FirmRule, firm}

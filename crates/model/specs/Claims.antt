@@ -1,7 +1,7 @@
 -- The claims of a tick and the cores that they get (scope, section 'The book of a run'): the jobs that claim, what the rule grants, what is lent, the row.
-use mathlib.Core.Bool.{Bool, true, false, not, _&&_, _||_, cond}
+use mathlib.Core.Bool.{Bool, false, not, _&&_, _||_, cond}
 use mathlib.Core.List.{List, [], map}
-use Prim.Native.Nat.{ℕ, suc}
+use Prim.Native.Nat.{ℕ}
 use lib.ListN.{length, getD}
 use lib.Dec.{leb, ltb}
 use Rattle.model.specs.Task.{Task, Rule, greedy, limited, idling, lending, Table, task, release, due, newest, widthOf}
@@ -9,7 +9,7 @@ use Rattle.model.specs.Fence.{unfencedCores}
 use Rattle.model.specs.Grants.{claimants, grants, some}
 use Rattle.model.specs.Lending.{lends, lent, shownCores}
 use Rattle.model.specs.Row.{row}
-use Rattle.model.specs.Jobs.{Job, Book, emptied}
+use Rattle.model.specs.Jobs.{Job, Book}
 
 -- rules 3 and 4: a job that ended still claims while it has claimed fewer than C ticks
 abbrev pub holds : Rule → Task → Job → Bool
@@ -83,33 +83,3 @@ shownOf s b = shownCores (grantsOf s b) (lentOf s b)
 -- .. and so the row
 abbrev pub bookRow : Table → Book → List ℕ
 bookRow s b = row (s .fence) (s .cores) (shownOf s b)
-
--- AN ADVANCE THAT IS TAKEN (scope: advance; the field: a step of one tick with its reports)
-
--- a job that is given cores has claimed one tick more and, if not ended, has had one more; such a job ends if its bit is set or it has had C
-unfoldable pub work : ℕ → Bool → Job → Job
-work C report j =
-    cond (j .ended)
-    (record { had = j .had; claimed = suc (j .claimed); ended = true })
-    (record { had = suc (j .had); claimed = suc (j .claimed); ended = report || leb C (suc (j .had)) })
-
--- a job that borrows cores has had one tick more and claimed none; it ends as the others do
-unfoldable pub workLent : ℕ → Bool → Job → Job
-workLent C report j =
-    cond (j .ended) j
-    (record { had = suc (j .had); claimed = j .claimed; ended = report || leb C (suc (j .had)) })
-
--- one advance with the reports f (scope: report; the field: early completion), without a test whether it is refused; t goes up by one
-unfoldable pub step : Table → (ℕ → Bool) → Book → Book
-step s f b = record {
-  tick = suc (b .tick);
-  job = λ p k.
-      cond (served s b p k)
-      (work (task s p .length) (f p) (b .job p k))
-      (cond (borrowing s b p k) (workLent (task s p .length) (f p) (b .job p k)) (b .job p k));
-  withdrawn = b .withdrawn;
-}
-
--- an advance with the reports f and the empty jobs e: these are ended before the claims of the tick are taken
-abbrev pub advanced : Table → (ℕ → Bool) → (ℕ → Bool) → Book → Book
-advanced s f e b = step s f (emptied s e b)

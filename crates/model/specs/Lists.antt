@@ -6,8 +6,7 @@ use Prim.Native.Nat.{ℕ, zero, suc, _+_, _<_}
 use lib.ListN.{length, replicate}
 use Rattle.model.specs.Task.{Table, task, due}
 use Rattle.model.specs.Jobs.{Book, emptyBook}
-use Rattle.model.specs.Claims.{step}
-use Rattle.model.specs.Advance.{Entry, advance, withdraw, withdrawAll, emptiesOf, afterTaken}
+use Rattle.model.specs.Advance.{step, Entry, advance, withdraw, withdrawAll, emptiesOf, afterTaken}
 use Rattle.model.specs.Refusals.{Answer, taken, refused, answer, Asked, asked}
 
 -- a refused entry changes nothing in the book

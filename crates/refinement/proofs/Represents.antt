@@ -10,8 +10,8 @@ use Rattle.model.specs.Search.{any, bit}
 use Rattle.model.specs.Firm.{firm}
 use Rattle.model.specs.Task.{AllValid, Table}
 use Rattle.model.specs.Jobs.{Book, emptied, emptyIn}
-use Rattle.model.specs.Claims.{bookRow, advanced}
-use Rattle.model.specs.Advance.{Entry, advance, withdraw, withdrawAll, withWithdrawn, singleton, afterTaken}
+use Rattle.model.specs.Claims.{bookRow}
+use Rattle.model.specs.Advance.{advanced, Entry, advance, withdraw, withdrawAll, withWithdrawn, singleton, afterTaken}
 use Rattle.model.specs.Refusals.{Answer, taken, refused}
 use Rattle.model.specs.Refusals.{firstLate, wrongEmpties, wrongReports, unknownPositions, withdrawing, answer, shown, rowRefused, asked}
 use Rattle.model.specs.Lists.{entered, enter, bookFrom, answersFrom}

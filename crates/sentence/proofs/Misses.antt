@@ -12,7 +12,8 @@ use borrow.Author.Tests.{leb-true, leb-false, not-true}
 use Rattle.model.specs.Search.{upFrom}
 use Rattle.model.specs.Task.{Table, AllValid, task, release}
 use Rattle.model.specs.Jobs.{Book, Job}
-use Rattle.model.specs.Claims.{work, served, jobClaims, inRow}
+use Rattle.model.specs.Claims.{served, jobClaims, inRow}
+use Rattle.model.specs.Advance.{work}
 use Rattle.model.specs.Lists.{full}
 use Rattle.model.specs.Verdict.{FirstMiss}
 use Rattle.model.proofs.Bools.{and-left, and-right, not-true-false}

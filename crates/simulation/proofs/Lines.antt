@@ -5,7 +5,8 @@ use Prim.Native.Nat.{ℕ, suc}
 use lib.Dec.{leb}
 use Rattle.model.specs.Task.{Task, Rule}
 use Rattle.model.specs.Jobs.{Job}
-use Rattle.model.specs.Claims.{claims, work}
+use Rattle.model.specs.Claims.{claims}
+use Rattle.model.specs.Advance.{work}
 use Rattle.model.proofs.Jobs.{mk}
 
 -- a line after a tick in which its task had cores or not, with no report
