@@ -383,7 +383,7 @@ pub fn version() -> u32 {
     unsafe { sivorandra_version() }
 }
 
-/// The verdict on a table's words, event by event or tick by tick, whichever is faster for the table's periods.
+/// The verdict on a table's words: by the interference test where the table passes it, else event by event or tick by tick, whichever is faster.
 ///
 /// ```
 /// use sivorandra::{judge, Refusal, Verdict};
