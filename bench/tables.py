@@ -34,7 +34,7 @@ def divisors(whole, least, most):
 
 
 def task(rng, period, count, early, offset=0):
-    """A task (O, v, C, D, T, w) of one width; `count` of them load about a third of the cores."""
+    """A task (O, v, C, D, T, w) of one width; `count` of them load the cores to a third."""
     width = rng.randint(1, 12)
     length = max(1, int(period * CORES * LOAD / count / width * rng.uniform(0.4, 0.9)))
     deadline = rng.randint(-(-3 * period // 4), period) if early else period
