@@ -85,7 +85,7 @@ def fence_leaving(rng, usable, cores):
 
 
 def cores_and_fence(rng, usable):
-    """A core count and a fence that leaves `usable` cores, or some of all 64: in every second table none is fenced."""
+    """A core count and a fence that leaves `usable` cores, or some of all 64: every second table has no fence."""
     if rng.random() < 0.5:
         return usable, 0
     cores = rng.choice([usable, min(64, usable + rng.randint(1, 4)), rng.randint(usable, 64), 64])
