@@ -210,7 +210,7 @@ impl Run {
         Ok(Tick { granted, working, served })
     }
 
-    /// The tasks that borrow. Each holder, by priority, lends to waiting tasks below it that fit in what it has left. `each` gets the two places, in this order.
+    /// The tasks that borrow. Each holder, by priority, lends to waiting tasks below it that fit in what it has left. `each` gets the holder and the borrower.
     fn lend(&self, mut holders: u32, mut waiting: u32, mut each: impl FnMut(usize, usize)) -> u32 {
         let mut served = 0;
         while holders != 0 && waiting != 0 {

@@ -16,7 +16,7 @@ fn code(answer: &Answer<()>) -> u32 {
     answer.map_or_else(|refusal| refusal.number() * 256 + refusal.position(), |()| 0)
 }
 
-/// Rows to ask for and a buffer's length: mostly enough for them.
+/// Rows to ask for and a buffer's length, mostly valid.
 fn asked(rng: &mut Rng, known: &Answer<Known>) -> (u32, u32, usize) {
     let (cores, horizon, miss) = match known {
         Ok(known) => match known.verdict() {

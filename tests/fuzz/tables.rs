@@ -62,7 +62,7 @@ fn all_of(cores: u32) -> u64 {
     if cores < 64 { (1 << cores) - 1 } else { u64::MAX }
 }
 
-/// A core count and a fence that leaves `left` cores: none in every second table.
+/// A core count and a fence that leaves `left` cores; every second table has no fence.
 fn among(rng: &mut Rng, left: u32) -> (u32, u64) {
     if left == 64 || rng.once_in(2) {
         return (left, 0);
