@@ -1,11 +1,11 @@
-// Nanoseconds an advance at 1, 8 and 32 tasks: the proved library beside the simulator's book and beside straight Rust of the same step, by value and in place.
-// All of them get the same table and entries in one run, their answers and last rows must be equal, and the best of several times counts.
+// Nanoseconds an advance at 1, 8 and 32 tasks: the proved library beside the simulator's book and beside plain Rust of the same step, by value and in place.
+// All get the same table and entries in one run. Their answers and last rows must be equal. The best of several times counts.
 //
 // The library's advance is timed inside `sivorandra_replay`, which moves a run by value through the list. Its row is timed through `sivorandra_row`, which reads
-// the run from its words first; so the sum is an upper bound of what an advance with its row costs.
+// the run from its words first. So the sum is an upper bound for an advance with its row.
 //
-// The simulator knows no fence, no second width, no empty jobs, no withdrawals and no lending, and reads three header words and records of six: it gets the same tasks, whose widths are equal, on
-// just the unfenced cores, where every answer is the same, and the entries are advances without empty jobs. It has no times under rule 4, which has lines of its own.
+// The simulator has no fence, no second width, no empty jobs, no withdrawals and no lending, and reads three header words and records of six. It gets the same tasks, whose widths are equal, on
+// just the unfenced cores, where every answer is the same. The entries are advances without empty jobs. It is not timed under rule 4, which has lines of its own.
 
 use std::hint::black_box;
 
@@ -48,7 +48,7 @@ mod simulator {
     }
 }
 
-// Straight Rust of the run in the cab: the same records, the same numbers 14, 15, 20 and 16, the same moves.
+// Plain Rust of the run in the cab: the same records, the same numbers 14, 15, 20 and 16, the same moves.
 
 /// Ticks left; since the release, had and reserved; since the release and reserved; since the release.
 #[derive(Clone, Copy)]
@@ -82,7 +82,7 @@ struct Run {
     tasks: [Task; 32],
 }
 
-/// Who has cores reserved in a tick, who has work to do, and who borrows.
+/// The tasks that have cores reserved, have work, and borrow.
 struct Tick {
     granted: u32,
     working: u32,
@@ -155,7 +155,7 @@ impl Run {
         run
     }
 
-    /// 14, 15 and 20, else who has cores and who borrows some.
+    /// 14, 15 and 20, else which tasks have cores or borrow.
     fn tick(&self, empties: u32) -> Result<Tick, u32> {
         if !(1..=32).contains(&self.count) || !(1..=64).contains(&self.cores) || !(1..=LENDING).contains(&self.rule) {
             return Err(14 * 256);
@@ -210,7 +210,7 @@ impl Run {
         Ok(Tick { granted, working, served })
     }
 
-    /// Who borrows: each holder, by priority, lends to those below it that wait and fit in what it has left; `each` is told who borrows from whom, in this order.
+    /// The tasks that borrow. Each holder, by priority, lends to waiting tasks below it that fit in what it has left. `each` gets the holder and the borrower.
     fn lend(&self, mut holders: u32, mut waiting: u32, mut each: impl FnMut(usize, usize)) -> u32 {
         let mut served = 0;
         while holders != 0 && waiting != 0 {
@@ -359,7 +359,7 @@ fn for_simulator(words: &[u32]) -> Vec<u32> {
     [words[0], words[1] - fenced, words[2]].iter().chain(records).copied().collect()
 }
 
-/// Entries that are taken: now and then a job that works in the tick ends early.
+/// Accepted entries: now and then a job that works in the tick ends early.
 fn entries(words: &[u32]) -> Vec<Entry> {
     let (mut rng, mut run) = (Rng(1), Run::start(words));
     let mut list = Vec::with_capacity(TICKS);
@@ -372,7 +372,7 @@ fn entries(words: &[u32]) -> Vec<Entry> {
     list
 }
 
-/// The least time of several, in nanoseconds of this thread for each tick.
+/// The least of several times, in nanoseconds of this thread per tick.
 fn best(mut work: impl FnMut()) -> f64 {
     let now = || unsafe {
         let mut time = [0; 2];
@@ -382,7 +382,7 @@ fn best(mut work: impl FnMut()) -> f64 {
     (0..RUNS).map(|_| (now(), work(), now())).map(|(from, (), to)| to - from).fold(f64::MAX, f64::min) / TICKS as f64
 }
 
-/// Times of one table: advances without rows and with them, by the library, the simulator, where it knows the rule, and Rust by value and in place; last the library's advance on a run kept in words.
+/// Times of one table: advances without rows and with them, by the library, the simulator, where it has the rule, and Rust by value and in place. Last: the library's advance on a run kept in words.
 fn times(words: &[u32], list: &[Entry]) -> [f64; 9] {
     let mut answer = [0; 3];
     let (mut numbers, mut row, mut others) = (vec![1; TICKS], [0; 64], vec![1; TICKS]);
@@ -449,7 +449,7 @@ fn times(words: &[u32], list: &[Entry]) -> [f64; 9] {
     [ours, simulator, value, place, ours_row, simulator_row, value_row, place_row, words_alone]
 }
 
-/// The lines of one table size: the mean over some rules.
+/// The lines of one table size: the mean over rules.
 fn lines(name: &str, count: u32, fence: u64, rules: &[u32]) {
     let mut mean = [0.0; 9];
     for &rule in rules {

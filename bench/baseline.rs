@@ -1,7 +1,7 @@
-// A fast baseline: a plain Rust judge written for speed by the judges' own methods, to be measured beside them. Not proved; bench/verdict holds its verdicts to the simulator's.
+// A fast baseline: a plain Rust judge written for speed by the judges' own methods, to be measured beside them. Not proved; bench/verdict checks it against the simulator.
 //
-// The full-length run tick by tick on sets of 32 bits: releases and deadlines are looked at only at the next event, and the choice is kept while the claimants and their widths are unchanged.
-// With the word `jump` it goes from event to event instead: while nobody is due and nobody ends, every tick is as the one before. The deadline of a job that has ended it passes over.
+// The full-length run tick by tick on sets of 32 bits. Releases and deadlines are handled only at the next event. The choice is kept while the claimants and their widths are unchanged.
+// With the word `jump` it simulates event by event: while no job is due and none ends, every tick is as the one before. It skips the deadline of a job that has ended.
 
 use std::io::Read;
 
@@ -25,7 +25,7 @@ impl Task {
         self.width.min(self.second)
     }
 
-    /// The ticks after which its releases and their widths are as before.
+    /// The ticks after which its releases and widths repeat.
     fn cycle(&self) -> u64 {
         u64::from(self.period) << u32::from(self.width != self.second)
     }
@@ -209,7 +209,7 @@ pub fn first_miss<const JUMP: bool>(table: &Table) -> Option<(u32, usize)> {
     }
 }
 
-/// The verdict's line, tick by tick or from event to event.
+/// The verdict's line, tick by tick or event by event.
 pub fn verdict(table: &Table, jump: bool) -> String {
     let miss = if jump { first_miss::<true>(table) } else { first_miss::<false>(table) };
     let firm = table.rule != 1 || table.tasks.windows(2).all(|pair| pair[0].widest() <= pair[1].narrowest());

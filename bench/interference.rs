@@ -1,13 +1,13 @@
 //! Times the interference test of the library and its verdict in one process and by turns, on tables that are not refused: `interference RUNS < tables`, a line of words for each.
-//! For each table a line: 1 where it passes the test, else 0; the verdict's case; and in nanoseconds of processor time, best of so many runs, the test and the verdict. A verdict that takes
-//! some seconds is asked once.
+//! For each table a line: 1 if it passes the test, else 0; the verdict's case; and in nanoseconds of processor time, best of RUNS, the test and the verdict. A verdict that takes
+//! some seconds runs once.
 extern "C" {
     fn sivorandra_judge(words: *const u32, words_len: usize, answer: *mut u32, answer_len: usize) -> u32;
     fn sivorandra_bounds(words: *const u32, words_len: usize, figures: *mut u32, figures_len: usize, answer: *mut u32, answer_len: usize) -> u32;
     fn clock_gettime(clock: i32, time: *mut [i64; 2]) -> i32;
 }
 
-/// Nanoseconds after which the judge is not asked again.
+/// Nanoseconds after which the judge does not run again.
 const ENOUGH: u64 = 500_000_000;
 const THREAD_TIME: i32 = 3;
 

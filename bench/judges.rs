@@ -1,13 +1,13 @@
 //! Times the library's two judges and the baseline (bench/baseline.rs) in one process and by turns, on tables that are not refused: `judges RUNS TABLE..`.
-//! For each table a line: its name, the ticks up to the horizon or the miss, the events among them, and in nanoseconds of processor time, best of so many runs,
-//! the faster of the two judges, the judge that goes tick by tick, which runs no more once it has taken some seconds, the event-driven baseline, and the response times.
+//! For each table a line: its name, the ticks up to the horizon or the miss, the events among them, and in nanoseconds of processor time, best of RUNS,
+//! the faster of the two judges, the tick judge, which does not run again once it has taken some seconds, the event-driven baseline, and the response times.
 #[path = "baseline.rs"]
 #[allow(dead_code)]
 mod baseline;
 
 use baseline::Table;
 
-/// Nanoseconds after which the judge that goes tick by tick is not asked again.
+/// Nanoseconds after which the tick judge does not run again.
 const ENOUGH: u64 = 4_000_000_000;
 const THREAD_TIME: i32 = 3;
 
@@ -32,7 +32,7 @@ fn library(judge: Judge, words: &[u32]) -> String {
     format!("{} {} {}", ["firm", "full", "miss", "refused"][answer[0] as usize], answer[1], answer[2])
 }
 
-/// The response times, and the verdict that they go with: 13 for a miss.
+/// The response times, and their verdict: 13 for a miss.
 fn response_times(words: &[u32], verdict: &str) -> String {
     let (mut figures, mut answer) = ([0; 32], [0; 3]);
     let value = unsafe { sivorandra_response_times(words.as_ptr(), words.len(), figures.as_mut_ptr(), figures.len(), answer.as_mut_ptr(), answer.len()) };
@@ -40,7 +40,7 @@ fn response_times(words: &[u32], verdict: &str) -> String {
     verdict.into()
 }
 
-/// How many ticks after 0 and before `end`, or on it, are events: some job is released, is due, ended or not, or ends.
+/// The number of ticks in 1..=`end` that are events: a job is released, is due, ended or not, or ends.
 fn events(table: &Table, end: u32) -> u64 {
     let count = table.tasks.len();
     let mut width = [0; 32];

@@ -34,7 +34,7 @@ def library():
 
 @contextlib.contextmanager
 def heavy(*parts):
-    """The simulator and the baseline, and the paths of the heavy tables, in a folder that goes away; in folders beside them the tables of other parts. `three` says where the simulator's own form of one is."""
+    """The simulator and the baseline, and the paths of the heavy tables, in a temporary folder; in folders beside them the tables of other parts. `three` gives the path of the simulator's own form of one."""
     with tempfile.TemporaryDirectory() as work:
         gangsim, baseline = rust(HERE / "simulator.rs", work), rust(HERE / "baseline.rs", work)
         tables = pathlib.Path(work) / "tables"
@@ -43,12 +43,12 @@ def heavy(*parts):
 
 
 def three(path):
-    """The table of the same tasks on just the unfenced cores, with three header words and records of six: what the simulator reads, and what was read before there was a fence."""
+    """The table of the same tasks on just the unfenced cores, with three header words and records of six: what the simulator reads, and the format before there was a fence."""
     return path.parent / "three" / path.name
 
 
 def six(path):
-    """The same table with records of six words, as they were before there were second widths."""
+    """The same table with records of six words, the format before second widths."""
     return path.parent / "six" / path.name
 
 
@@ -66,7 +66,7 @@ def run(command, path, out):
 
 
 def best(runs, command, path, out=subprocess.DEVNULL):
-    """The least processor time of a command on a table, and what it said."""
+    """The least processor time of a command on a table, and its output."""
     return min((run(command, path, out) for _ in range(runs)), key=lambda pair: pair[0])
 
 

@@ -1,13 +1,13 @@
 #!/usr/bin/env python3
-"""Tables for measuring, all of which fit.
+"""Tables for measuring, all accepted.
 
     bench/tables.py DIR GANGSIM BASELINE [pairs box longer more]
 
-DIR/RULE-KIND.txt: heavy ones of 32 tasks, 64 cores and a horizon of up to 10,000,000, for each rule with short, long and mixed periods and with slow ones, of 10,000 ticks and more; where a name says early,
-deadlines come before the period's end; where it says fenced, 10 of the cores are. Their tasks have one width. The reference simulator picks one that fits. It reads tables of three header words and records of six,
-as they were before there was a fence: it has the same tasks on just the unfenced cores, in DIR/three/. In DIR/six/ they stand as they were before there were second widths.
+DIR/RULE-KIND.txt: heavy ones of 32 tasks, 64 cores and a horizon of up to 10,000,000, for each rule with short, long and mixed periods and with slow ones, of 10,000 ticks and more. 'early' in a name:
+deadlines come before the period's end. 'fenced': 10 of the cores are. Their tasks have one width. The reference simulator picks one that fits. It reads tables of three header words and records of six,
+from before there was a fence: it has the same tasks on just the unfenced cores, in DIR/three/. DIR/six/ has their form from before second widths.
 
-The other folders are made where they are named. DIR/pairs/: the same with a second width for every third task, so with twice the horizon, which the baseline picks. DIR/box/: 30 tasks with periods of 500 to 20,000 ticks and a horizon near 1,000,000,000, which the baseline picks.
+The other folders are made if they are named. DIR/pairs/: the same with a second width for every third task, so with twice the horizon, which the baseline picks. DIR/box/: 30 tasks with periods of 500 to 20,000 ticks and a horizon near 1,000,000,000, which the baseline picks.
 DIR/longer/: one table, and the same with all its numbers of ticks times 10 and times 100. DIR/more/: 27 tasks, and up to three more of which each multiplies P.
 """
 import math
@@ -34,7 +34,7 @@ def divisors(whole, least, most):
 
 
 def task(rng, period, count, early, offset=0):
-    """A task (O, v, C, D, T, w) of one width, of so many that load the cores to about a third."""
+    """A task (O, v, C, D, T, w) of one width; `count` of them load the cores to a third."""
     width = rng.randint(1, 12)
     length = max(1, int(period * CORES * LOAD / count / width * rng.uniform(0.4, 0.9)))
     deadline = rng.randint(-(-3 * period // 4), period) if early else period
@@ -42,7 +42,7 @@ def task(rng, period, count, early, offset=0):
 
 
 def paired(made, seed):
-    """The same with another second width, no wider by much, for every third task."""
+    """The same with a second width, not much wider, for every third task."""
     rng = random.Random(seed)
     return [(*one[:5], rng.randint(1, one[1] + 2)) if at % 3 == 0 else one for at, one in enumerate(made)]
 
@@ -93,7 +93,7 @@ def more(seed):
 
 
 def words(made, *header, record=7):
-    """The text of a table of these tasks: the head, what else is in its header, the records of so many words."""
+    """The text of a table of these tasks: the head, the rest of its header, the records of a given length."""
     numbers = [1, *header]
     for at, task in enumerate(made):
         numbers += [at + 2 if at + 1 < len(made) else 0, *task[:record - 1]]
@@ -106,7 +106,7 @@ def fits(command, text):
 
 
 def first_that(found, seeds=300):
-    """What the first seed gives of which something is found."""
+    """The result of the first seed that gives one."""
     for seed in range(seeds):
         answer = found(seed)
         if answer is not None:
@@ -160,7 +160,7 @@ def write_boxes(folder, baseline):
 
 
 def write_family(folder, baseline, family):
-    """Several tables of one seed, all of which fit."""
+    """Several tables of one seed, all accepted."""
     folder.mkdir(parents=True, exist_ok=True)
 
     def found(seed):

@@ -9,8 +9,9 @@
      response_times 6,600, judge_ticks 5,800, row 5,400, sets 5,300, facts 700).
    - Threads: the library has no state and no data that is written to, so any number of threads may call at once, each with slices of its own
      to be written to; slices that are only read may be shared. Of the C library it calls memcpy and memset alone.
-   - Time: row, sets, advance, the withdrawals and check_row take some microseconds at most, bounded by the 32 tasks and 64 cores. judge simulates event by
-     event (a release, an end or a deadline), or tick by tick where the periods are short: 10 to 100 ns each on x86-64, by the number of tasks that
+   - Time: row, sets, advance, the withdrawals and check_row take some microseconds at most, bounded by the 32 tasks and 64 cores. judge first tries the
+     interference test, which takes some 100 microseconds at most and accepts most tables that are not nearly full. Else it simulates event by event (a
+     release, an end or a deadline), or tick by tick where the periods are short: 10 to 100 ns each on x86-64, by the number of tasks that
      change. There are at most as many events as ticks up to the horizon or the first miss. A horizon of 10,000,000 takes a second at most; the
      largest, 1,000,000,000, milliseconds where the periods are long, and two minutes where all 32 tasks change in every tick. No call can be
      stopped from outside: where that is too long, judge in a process of its own. judge_ticks simulates every tick; start takes as long as judge,
@@ -33,10 +34,10 @@ extern "C" {
 /* The version of this header; sivorandra_version returns that of the library that is linked. One number, which grows with the version:
    major * 10000 + minor * 100 + patch. */
 #define SIVORANDRA_VERSION_MAJOR 0
-#define SIVORANDRA_VERSION_MINOR 20
+#define SIVORANDRA_VERSION_MINOR 21
 #define SIVORANDRA_VERSION_PATCH 0
 #define SIVORANDRA_VERSION (SIVORANDRA_VERSION_MAJOR * 10000 + SIVORANDRA_VERSION_MINOR * 100 + SIVORANDRA_VERSION_PATCH)
-#define SIVORANDRA_VERSION_TEXT "0.20.0"
+#define SIVORANDRA_VERSION_TEXT "0.21.0"
 
 /* No call uses more bytes of the stack. */
 #define SIVORANDRA_STACK_BYTES 20480
@@ -251,8 +252,8 @@ uint32_t sivorandra_facts(const uint8_t *bytes, size_t bytes_len,
    task's figure, and some full-length job takes exactly that; in a run of a firm table no job takes longer, however early jobs end. In a table
    that is full and not firm a job can take longer where others end early. Words past the last task are 0, and so are all 32 where it is
    refused; words behind them stay.
-   It takes at most twice the time of sivorandra_judge (measured: as long where that simulates event by event, as
-   this call always does, and half as long again where the periods are short), and 6,600 bytes of the stack. */
+   It always simulates, event by event: at most twice the time that sivorandra_judge takes where that simulates. sivorandra_bounds gives bounds
+   without simulation. It takes 6,600 bytes of the stack. */
 uint32_t sivorandra_response_times(const uint32_t *words, size_t words_len,
                             uint32_t *figures, size_t figures_len,
                             uint32_t *answer, size_t answer_len);

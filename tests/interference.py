@@ -26,7 +26,7 @@ class Tried:
         return given < waits * (self.cores + 1 - refused)
 
     def bound(self, place):
-        """A window of a task that passes, or D + 1: twice the ticks of waiting until one passes, then halvings."""
+        """A window of a task that passes, or D + 1: doubles the ticks of waiting until one passes, then halves."""
         _, _, length, deadline, _, _ = self.tasks[place]
         self.tries.append(0)
         window = length
@@ -42,7 +42,7 @@ class Tried:
         return high
 
     def test(self):
-        """The bound of each task, or None where the table does not pass."""
+        """The bound of each task, or None if the table does not pass."""
         for place, task in enumerate(self.tasks):
             bound = self.bound(place)
             if bound > task[3]:
@@ -52,13 +52,13 @@ class Tried:
 
 
 def tested(words):
-    """The test of a table's words, none of whose numbers applies."""
+    """The test of a table's words, to which no number applies."""
     tasks = [words[at + 1:at + tables.RECORD] for at in tables.chain_of(words)]
     return Tried(words[1] - tables.fence_of(words).bit_count(), words[2], tasks)
 
 
 def loaded(rng, cores, count, load, periods, pairs=0.0, rule=None, early=0.3):
-    """The words of so many tasks with periods from a list that load the cores to this share of their ticks; short periods first. Some have two widths."""
+    """The words of tasks with periods from a list that load the cores to this share of their ticks; short periods first. Some have two widths."""
     shares = [rng.expovariate(1) for _ in range(count)]
     tasks = []
     for period, share in zip(sorted(rng.choice(periods) for _ in range(count)), shares):

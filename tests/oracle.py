@@ -1,4 +1,4 @@
-"""What the outside tests share: where things are, the simulator by another hand, the vectors, and the count that is the last line of each."""
+"""What the outside tests share: paths, the simulator by another hand, the vectors, and the count that is the last line of each."""
 import contextlib
 import os
 import pathlib
@@ -28,7 +28,7 @@ def stdout_of(command, text):
 
 
 def first_line(command, text):
-    """The first line that a command says to a text. It is stopped there, however many rows follow."""
+    """The first line that a command prints for a text. It is stopped there, even if rows follow."""
     with subprocess.Popen(command, stdin=subprocess.PIPE, stdout=subprocess.PIPE) as process:
         process.stdin.write(text)
         process.stdin.close()
@@ -83,7 +83,7 @@ def vectors(*kinds):
 
 
 def cut(text):
-    """A text as it is shown where a test fails: at most 300 bytes of it."""
+    """A text as a failing test shows it: at most 300 bytes."""
     shown = repr(text[:MOST_SHOWN]) if isinstance(text, (bytes, str)) else repr(text)[:MOST_SHOWN]
     return shown + (f" and {len(text) - MOST_SHOWN} more" if isinstance(text, (bytes, str)) and len(text) > MOST_SHOWN else "")
 
@@ -116,12 +116,12 @@ def compare(name, text, expected, got):
 
 
 def case(answer):
-    """The case of an answer's first line: its word, of a refusal with the number."""
+    """The case of an answer's first line: its word, and the number of a refusal."""
     return b" ".join(answer.split()[: 2 if answer.startswith(b"refused") else 1]).decode()
 
 
 def occur(cases, words, more=""):
-    """Says how often each case came, and checks that each of the words did."""
+    """Prints how often each case came, and checks that each word did."""
     print("answers: " + ", ".join(f"{word} {count}" for word, count in sorted(cases.items())) + more)
     for word in words:
         check(f"the answer {word} occurs", cases[word] > 0, "not once")

@@ -1,5 +1,5 @@
 """Random tables as text: small and tight, all rules, with a fence and without, a third of them with tasks of two widths, permuted records, records off the chain, every number 1 to 9 and 19,
-faults of the text; and for those who ask no rows tables with long periods and a horizon of up to 1,000,000,000. A task is O, v, C, D, T and w."""
+faults of the text; and for tests without rows tables with long periods and a horizon of up to 1,000,000,000. A task is O, v, C, D, T and w."""
 import math
 import random
 
@@ -28,7 +28,7 @@ def some_pairs(rng, tasks, cores):
 
 
 def monotonic_pairs(rng, tasks, cores):
-    """Neither width of a task is above one of the next: firm under every rule, where no deadline is missed."""
+    """No width of a task is above one of the next: firm under every rule, if no deadline is missed."""
     widths = sorted(rng.randint(1, cores) for _ in range(2 * len(tasks)))
     for at, task in enumerate(tasks):
         task[2], (task[1], task[5]) = (task[2] + 1) // 2, rng.sample(widths[2 * at:2 * at + 2], 2)
@@ -80,12 +80,12 @@ def fence(rng, cores):
 
 
 def fence_leaving(rng, usable, cores):
-    """A fence that leaves so many of the cores."""
+    """A fence that leaves this many cores."""
     return sum(1 << core for core in rng.sample(range(cores), cores - usable))
 
 
 def cores_and_fence(rng, usable):
-    """A core count and a fence that leaves so many cores, or of all 64 some: in every second table none is fenced."""
+    """A core count and a fence that leaves `usable` cores, or some of all 64: every second table has no fence."""
     if rng.random() < 0.5:
         return usable, 0
     cores = rng.choice([usable, min(64, usable + rng.randint(1, 4)), rng.randint(usable, 64), 64])
@@ -131,7 +131,7 @@ def not_sustainable(rng):
 
 
 def waiting(rng, rule=LENDING):
-    """The words of tasks that mostly fit and wait for those above them, so that under lending there is somebody to lend to: in any order, the wide ones first, or the narrow ones.
+    """The words of tasks that mostly fit and wait for those above them, so that under lending some task can borrow: in any order, the wide ones first, or the narrow ones.
     In every third table some have two widths."""
     cores, period, count = rng.choice([1, 2, 3, 4, 6]), rng.choice([4, 6, 8, 9, 12]), rng.randint(2, 8)
     widest = -(-cores // rng.choice([1, 1, 2]))
@@ -169,7 +169,7 @@ def long_periods(rng, hyperperiods):
 
 
 def late_miss(rng):
-    """The words of a table of two tasks that cannot run together and have no slack; their periods share no factor, so that they are active together late, if at all before the horizon.
+    """The words of a table of two tasks that cannot run together and have no slack; their periods share no factor, so they are active together late, if at all before the horizon.
     Where the first has two widths they can, with every second job of it."""
     cores, fenced = cores_and_fence(rng, rng.choice([1, 3, 64]))
     usable = cores - fenced.bit_count()
@@ -192,7 +192,7 @@ def chain_of(words):
 
 
 def stretched(words, times):
-    """The same table with offsets, lengths, deadlines and periods that are so many times as long: so are the ticks of its verdict."""
+    """The same table with all offsets, lengths, deadlines and periods multiplied: so are the ticks of its verdict."""
     words = list(words)
     for place in chain_of(words):
         for at in (1, 3, 4, 5):
@@ -221,7 +221,7 @@ def late_at_once(words):
 
 
 def with_fault(rng, words, printed):
-    """The words with one change that a number from 1 to 9, or 19, may turn down. Where rows are printed, no more than some millions follow."""
+    """The words with one change that a number from 1 to 9, or 19, may refuse. If rows are printed, no more than some millions follow."""
     words = list(words)
     kind = rng.randint(0, 12)
     records = (len(words) - HEAD) // RECORD

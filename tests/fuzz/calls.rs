@@ -1,4 +1,4 @@
-//! The C functions, each with its lent slices inside larger ones: what stands around them must stay.
+//! The C functions, each with its lent slices inside larger ones: nothing around them may change.
 use crate::simulator::{phase_at, Answer, RESTING};
 use crate::rng::Rng;
 use sivorandra::{Entry, Refusal, Run, Verdict, ROW_BYTES, RUN_WORDS, SETS};
@@ -70,7 +70,7 @@ impl<T: Copy + PartialEq + Debug> Guarded<T> {
         &mut self.now[GUARD..end]
     }
 
-    /// Fails unless the first elements are these and everything else is as found. What is there counts as found from now on.
+    /// Fails unless the first elements are these and all others are unchanged. From now on the contents count as found.
     pub fn holds(&mut self, what: &str, first: &[T]) -> Checked<()> {
         self.found[GUARD..][..first.len()].copy_from_slice(first);
         if self.found == self.now {
@@ -111,7 +111,7 @@ impl Guarded<u64> {
     }
 }
 
-/// The answer's three words; at times first with no room for them, where the call itself sees to it that all else stays. Fails unless the words behind them stay.
+/// The answer's three words; at times first with no room for them, where the call itself checks that nothing changes. Fails unless the words behind them stay.
 fn ask(rng: &mut Rng, mut call: impl FnMut(&mut [u32]) -> Checked<u32>) -> Checked<[u32; 3]> {
     if rng.once_in(16) {
         let len = rng.below(3);
@@ -127,7 +127,7 @@ fn ask(rng: &mut Rng, mut call: impl FnMut(&mut [u32]) -> Checked<u32>) -> Check
     Ok(three)
 }
 
-/// Done or refused, as start, row, sets, advance and plan say it.
+/// Done or refused, by start, row, sets, advance and plan.
 fn done(three: [u32; 3]) -> Checked<Answer<()>> {
     match three {
         [0, 0, 0] => Ok(Ok(())),
@@ -136,7 +136,7 @@ fn done(three: [u32; 3]) -> Checked<Answer<()>> {
     }
 }
 
-/// What a judge says: the event-driven one, or the one that goes tick by tick.
+/// What a judge returns: the event-driven one, or the tick judge.
 pub fn judge(rng: &mut Rng, words: &[u32], by_ticks: bool) -> Checked<Answer<Verdict>> {
     let call = if by_ticks { sivorandra_judge_ticks } else { sivorandra_judge };
     let three = ask(rng, |answer| Ok(unsafe { call(words.as_ptr(), words.len(), answer.as_mut_ptr(), answer.len()) }))?;
@@ -149,7 +149,7 @@ pub fn judge(rng: &mut Rng, words: &[u32], by_ticks: bool) -> Checked<Answer<Ver
     }
 }
 
-/// What plan says; it leaves the rows expected, and in a refusal everything as found.
+/// What plan returns. It leaves the rows expected; a refusal changes nothing.
 pub fn plan(rng: &mut Rng, words: &[u32], a: u32, b: u32, len: usize, expected: &Answer<Vec<u8>>) -> Checked<Answer<()>> {
     let mut rows = Guarded::bytes(rng, len);
     let three = ask(rng, |answer| {
@@ -188,7 +188,7 @@ fn in_words(entry: &Entry) -> [u32; 3] {
     }
 }
 
-/// Words that are no list of entries: some are missing or too many, the first of an entry is another, or the last of a withdrawal is not 0.
+/// Words that are no list of entries: some are missing or too many, an entry has another first word, or the last of a withdrawal is not 0.
 fn with_fault(rng: &mut Rng, entries: &[u32]) -> Vec<u32> {
     let mut words = entries.to_vec();
     if words.is_empty() || rng.once_in(3) {
@@ -202,7 +202,7 @@ fn with_fault(rng: &mut Rng, entries: &[u32]) -> Vec<u32> {
     words
 }
 
-/// What replay says of the last row or of the start; it leaves the answers and the row expected, and where the start is refused everything as found.
+/// What replay returns for the last row or the start. It leaves the answers and the row expected; a refused start changes nothing.
 pub fn replay(rng: &mut Rng, words: &[u32], list: &[Entry], expected: &Answer<(Vec<u32>, Answer<[u8; ROW_BYTES]>)>) -> Checked<()> {
     let entries: Vec<u32> = list.iter().flat_map(in_words).collect();
     let (numbers_len, row_len) = (list.len() + rng.below(3), ROW_BYTES + rng.below(3));
@@ -239,7 +239,7 @@ pub fn replay(rng: &mut Rng, words: &[u32], list: &[Entry], expected: &Answer<(V
     row.holds("the last row", bytes)
 }
 
-/// A run in words, with a row's bytes and its sets to ask it into.
+/// A run in words, with a row's bytes and its sets as buffers.
 pub struct RunBuffer {
     run: Guarded<u32>,
     row: Guarded<u8>,
@@ -306,7 +306,7 @@ impl RunBuffer {
         Ok(got)
     }
 
-    /// An entry, which leaves the run expected, or in a refusal the run as found.
+    /// An entry, which leaves the run expected, or in a refusal unchanged.
     pub fn enter(&mut self, rng: &mut Rng, entry: Entry, expected: Answer<[u32; RUN_WORDS]>) -> Checked<Answer<()>> {
         let run = &mut self.run;
         let three = ask(rng, |answer| {
@@ -326,7 +326,7 @@ impl RunBuffer {
         Ok(got)
     }
 
-    /// Row, sets, advance and withdrawals of too few words for a run, which 14 turns down, a row asked into too few bytes, and as too few sets.
+    /// Row, sets, advance and withdrawals of too few words for a run, which 14 refuses; a row into too few bytes, and into too few sets.
     pub fn cut(&mut self, rng: &mut Rng) -> Checked<()> {
         let RunBuffer { run, row, sets } = self;
         let (words, bytes, few) = (rng.below(RUN_WORDS), rng.below(ROW_BYTES), rng.below(SETS));

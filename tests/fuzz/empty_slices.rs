@@ -9,7 +9,7 @@ fn refused<T>(number: u32) -> Result<T, Refusal> {
     Err(Refusal::new(number, 0))
 }
 
-/// Each call by name, and whether it is answered as it should be.
+/// Each call by name, and whether its answer is right.
 pub fn all() -> Vec<(String, Checked<()>)> {
     let mut row = [0; ROW_BYTES];
     row[..3].copy_from_slice(&[1, 1, 3]);

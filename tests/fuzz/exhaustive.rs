@@ -1,4 +1,4 @@
-//! Every way of ending jobs early, of having empty ones and of taking a task out, within the first ticks of a small table, the run in words beside the book.
+//! Every way to end jobs early, to have empty ones and to withdraw a task, within the first ticks of a small table: the run in words beside the book.
 use crate::simulator::{self, ReferenceRun, Answer};
 use crate::calls::{self, same, same_run, Checked};
 use crate::lending::LENDING;
@@ -8,12 +8,12 @@ use crate::tables;
 use crate::Counts;
 use sivorandra::{Entry, Refusal, Run, Verdict};
 
-/// A table is searched for as many ticks, from the fewest to the most, as there are not too many nodes; one with too few is left out.
+/// A table is searched for as many ticks, from the fewest to the most, as give at most the most nodes. One with too few is left out.
 const FEWEST_TICKS: usize = 4;
 const MOST_TICKS: usize = 12;
 const FEWEST_NODES: u64 = 200;
 const MOST_NODES: u64 = 20_000;
-/// So many tasks are taken out in a list.
+/// At most this many tasks are withdrawn.
 const MOST_WITHDRAWN: u32 = 1;
 
 /// All subsets of a set.
@@ -26,7 +26,7 @@ fn subsets(set: u32) -> impl Iterator<Item = u32> {
     })
 }
 
-/// The positions that are taken out here.
+/// The positions that are withdrawn.
 fn withdrawals(firm: bool, reference: &ReferenceRun) -> std::ops::RangeInclusive<u32> {
     if firm && reference.withdrawn().count_ones() < MOST_WITHDRAWN { 1..=reference.count() } else { 1..=0 }
 }
@@ -115,7 +115,7 @@ impl Search {
         Ok(())
     }
 
-    /// Each position taken out, and those that there are not: 21 on a table that is not firm, else 22 for these. Where a task is out already, another is not tried here.
+    /// Each position withdrawn, and those past the count: 21 on a table that is not firm, else 22 for these. Once a task is withdrawn, no other is tried here.
     fn withdraw(&mut self, run: &Run, reference: &ReferenceRun, list: &List, counts: &mut Counts) -> Checked<()> {
         for position in [0, reference.count() + 1, 33, u32::MAX] {
             let refusal = if self.firm { Refusal::NoPosition } else { Refusal::NotFirm };
@@ -136,7 +136,7 @@ impl Search {
         (0..2 << reference.count()).chain([1 << 31, u32::MAX]).try_for_each(|set| self.together(run, reference.count(), set))
     }
 
-    /// Several positions taken out together, beside each alone from the last on: all, or none where one is past the count or the table is not firm.
+    /// Several positions withdrawn together, beside each alone from the last on: all, or none if one is past the count or the table is not firm.
     fn together(&self, run: &Run, count: u32, set: u32) -> Checked<()> {
         let expected = match (self.firm, set >> count) {
             (false, _) => Err(Refusal::NotFirm),
@@ -151,7 +151,7 @@ impl Search {
         same_run(&format!("{set} together"), each.words(), all.words())
     }
 
-    /// An entry that is to be answered so, and where it is taken all that comes after it.
+    /// An entry with its expected answer and, if it is accepted, all that follows.
     fn enter(&mut self, run: &Run, reference: &ReferenceRun, list: &List, entry: Entry, expected: Answer<()>, counts: &mut Counts) -> Checked<()> {
         let mut next = run.clone();
         let answer = calls::enter(&mut next, entry);
@@ -172,7 +172,7 @@ impl Search {
     }
 }
 
-/// The next table from the seed on that start takes and that has few enough nodes, searched; the error says what differs on what.
+/// Searches the next table from the seed on that start accepts and that has few enough nodes. The error gives the difference.
 pub fn case(seed: u64, counts: &mut Counts) -> Checked<()> {
     let mut rng = Rng::new(seed);
     loop {

@@ -1,4 +1,4 @@
-//! Fences of runs built by hand: what 14 says of each core and each count, and the rows with 255.
+//! Fences of runs built by hand: 14 for each core and each count, and the rows with 255.
 use crate::simulator::{HOLDING, RESTING, WORKING};
 use crate::calls::{same, RunBuffer, Checked};
 use crate::hand_built_runs::{fenced, odd, Place, Words, NOT_A_RUN, PLAIN};
@@ -48,7 +48,7 @@ pub fn limits() -> Vec<(String, Words, Words)> {
     limits
 }
 
-/// The row of a fenced run: 255 on fenced cores, 0 past the count, all zeros where it is refused; its sets have no fenced core; and an advance keeps the fence.
+/// The row of a fenced run: 255 on fenced cores, 0 past the count, all zeros in a refusal. Its sets have no fenced core. An advance keeps the fence.
 pub fn rows() -> Checked<()> {
     let two = odd([0, 2, 4, 6, 8, WORKING, 1, 1]);
     let late = odd([5, 1, 4, 6, 8, WORKING, 6, 1]);

@@ -1,4 +1,4 @@
-//! Runs built by hand: number 14 at each limit, the fence among them, 15, who borrows, and what no started run shows.
+//! Runs built by hand: number 14 at each limit, the fence among them, 15, borrowers, and what no started run shows.
 use crate::simulator::{self, phase_at, place_at, COMING, HOLDING, RESTING, WITHDRAWN, WORKING};
 use crate::calls::{enter, reported, same, same_run, RunBuffer, Checked};
 use crate::fences;
@@ -11,7 +11,7 @@ use sivorandra::{Entry, Refusal, Run, RUN_HEAD_WORDS, RUN_PLACE_WORDS, RUN_WORDS
 /// O, v, C, D, T, w, the parity of the job, and the phase: its kind and three numbers.
 pub type Place = [u32; RUN_PLACE_WORDS];
 pub type Words = [u32; RUN_WORDS];
-/// A phase by its kind and two numbers: where it is Working it has had the ticks that were reserved.
+/// A phase by its kind and two numbers: if it is Working, the ticks had are the reserved ones.
 type Phase = [u32; 3];
 /// A place of one width whose job is an odd one: O, v, C, D, T, and the phase.
 type Odd = [u32; 8];
@@ -49,7 +49,7 @@ pub fn fenced(rule: u32, cores: u32, fence: u64, places: &[Place]) -> Words {
     words
 }
 
-/// Whether the words hold no run, or number 14 turns it down (scope, 'The run in the reference').
+/// Whether the words are no run, or number 14 refuses it (scope, 'The run in the reference').
 fn is_not_a_run(words: &Words) -> bool {
     let [rule, cores, count, low, high, withdrawn, ..] = *words;
     let within = |n: u32, low: u32, high: u32| low <= n && n <= high;
@@ -379,7 +379,7 @@ fn empty_moves() -> Vec<(&'static str, u32, Odd, Phase)> {
     ]
 }
 
-/// One task alone: the rule, the place, the reports, and the phase one tick on, as the scope's sentences say.
+/// One task alone: the rule, the place, the reports, and the phase one tick on, as in the scope.
 fn moves() -> Vec<(&'static str, u32, Odd, u32, Phase)> {
     vec![
         ("a Coming counts down", 1, [5, 1, 4, 6, 8, COMING, 5, 0], 0, [COMING, 4, 0]),
@@ -410,7 +410,7 @@ fn moves() -> Vec<(&'static str, u32, Odd, u32, Phase)> {
     ]
 }
 
-/// A move of a place on two cores, with one width and with two, of an odd job and, where it is not Coming, of an even one: the parity changes with each release but the first.
+/// A move of a place on two cores, with one width and with two, of an odd job and, unless it is Coming, of an even one. The parity changes with each release but the first.
 fn check_move(rule: u32, task: [u32; 5], before: [u32; 4], entry: Entry, after: [u32; 4]) -> Checked<()> {
     let v = task[1];
     for (w, even) in [(v, 0), (v + 1, 0), (v, 1), (v + 1, 1)] {
@@ -449,7 +449,7 @@ fn widths() -> Checked<()> {
     Ok(())
 }
 
-/// Held cores have the holder's position, and hold others back; its reports are refused with 16.
+/// Held cores show the holder's position and are not free; its reports are refused with 16.
 fn hold_blocks() -> Checked<()> {
     let mut held = Run::from_words(run(3, 2, &[odd([0, 2, 4, 6, 8, HOLDING, 5, 1]), odd([0, 1, 2, 8, 8, WORKING, 5, 0])]));
     same("the row", Ok([1, 1]), held.row(0).map(|row| [row[0], row[1]]))?;
@@ -460,7 +460,7 @@ fn hold_blocks() -> Checked<()> {
     same("the row after the hold", Ok([2, 0]), held.row(0).map(|row| [row[0], row[1]]))
 }
 
-/// An empty job of the first of two wide tasks: under idling it holds its cores, else the second has them, under lending as a borrower, and may be reported. A row asked changes nothing, a refused
+/// An empty job of the first of two wide tasks: under idling it holds its cores, else the second has them, under lending as a borrower, and may be reported. A row changes nothing. A refused
 /// advance keeps nothing of its empty jobs, and a report on an empty job is 16.
 fn empty_job() -> Checked<()> {
     let wide = odd([0, 2, 4, 6, 8, WORKING, 0, 0]);
@@ -479,7 +479,7 @@ fn empty_job() -> Checked<()> {
     Ok(())
 }
 
-/// One task on one core that is taken out: the rule, the phase, and the phase one tick on. A job released in this tick is empty, one released before goes on.
+/// One task on one core that is withdrawn: the rule, the phase, and the phase one tick on. A job released in this tick is empty, one released before goes on.
 fn withdrawn_task() -> Checked<()> {
     let cases = [
         (1, [COMING, 5, 0], [COMING, 4, 0]),
@@ -522,7 +522,7 @@ fn withdrawn_task() -> Checked<()> {
     Ok(())
 }
 
-/// 14, then 21, then 22; 15 is not looked at.
+/// 14, then 21, then 22; 15 is not checked.
 fn no_withdrawal(counts: &mut Counts) -> Checked<()> {
     let (wide, late) = (odd([5, 2, 4, 6, 8, WORKING, 2, 1]), odd([5, 1, 4, 6, 8, WORKING, 6, 1]));
     let of = |v: u32, w: u32, even: u32| place_of([5, v, 4, 6, 8], w, even, phase_of([WORKING, 2, 1]));
@@ -598,7 +598,7 @@ fn no_empty_job(counts: &mut Counts) -> Checked<()> {
     Ok(())
 }
 
-/// Random words past the count, for every count that leaves places there: row, sets and advance answer as with zeros, and these words come back unchanged.
+/// Random words past the count, for every count that leaves places there: row, sets and advance answer as with zeros, and these words are unchanged.
 fn past_the_count(counts: &mut Counts, count: u32) -> Checked<()> {
     let mut rng = Rng::new(count.into());
     for rule in 1..=LENDING {
@@ -628,7 +628,7 @@ fn past_the_count(counts: &mut Counts, count: u32) -> Checked<()> {
     Ok(())
 }
 
-/// Each fixed run by name, and whether the library does with it what it should.
+/// Each fixed run by name, and whether the library handles it right.
 pub fn all(counts: &mut Counts) -> Vec<(String, Checked<()>)> {
     let mut done = Vec::new();
     for (name, inside, outside) in limits() {

@@ -1,4 +1,4 @@
-//! Lending in runs built by hand: the limits of the reserved count, moves of one task whose counts differ, and who borrows from whom.
+//! Lending in runs built by hand: the limits of the reserved count, moves of one task whose counts differ, borrowers and holders.
 use crate::simulator::{COMING, HOLDING, RESTING, WORKING};
 use crate::calls::{same, same_run, Checked};
 use crate::hand_built_runs::{odd, place_of, run, Place};
@@ -73,8 +73,8 @@ pub fn moves() -> Vec<(&'static str, u32, Phase, u32, Phase)> {
     ]
 }
 
-/// Under lending the first holds and the others wait: the cores, the holder's width and phase, the widths of the others, the row, who borrows, and the holder's phase one tick on.
-/// A borrower has one tick more and none more reserved; it may be reported, and nobody else.
+/// Under lending the first holds and the others wait: the cores, the holder's width and phase, the widths of the others, the row, borrowers, and the holder's phase one tick on.
+/// A borrower has one tick more and none more reserved. Only it may be reported.
 pub fn one_lends() -> Checked<()> {
     let task = |v: u32| [5, v, 4, 6, 8];
     let (before, waiting) = ([HOLDING, 2, 1, 0], [WORKING, 2, 1, 0]);
@@ -113,7 +113,7 @@ pub fn one_lends() -> Checked<()> {
     Ok(())
 }
 
-/// Two holders and those that wait below them, on so many cores: a borrower is fed by one holder only and once, one between the two is fed by the first alone, and a holder
+/// Two holders and the tasks that wait below them, on some cores: a borrower has one holder only and once, one between the two can have only the first, and a holder
 /// without cores lends nothing.
 pub fn two_lend() -> Checked<()> {
     let holds = |v: u32| odd([5, v, 4, 6, 8, HOLDING, 2, 1]);

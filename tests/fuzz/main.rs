@@ -1,5 +1,5 @@
-//! The library beside the simulator by another hand. `fuzz` runs a fixed seed; `fuzz --long SECONDS` goes on with new seeds for so long;
-//! `fuzz --seed N` begins with the seed N, which a difference has named. The last line is 'N passed, M failed'.
+//! The library beside the simulator by another hand. `fuzz` runs a fixed seed; `fuzz --long SECONDS` goes on with new seeds until then;
+//! `fuzz --seed N` begins with the seed N, which a difference prints. The last line is 'N passed, M failed'.
 mod calls;
 mod empty_slices;
 mod exhaustive;
@@ -30,31 +30,31 @@ const SEARCHES: u64 = 2;
 const THREADS: usize = 2;
 /// Differences beyond these are counted and not printed.
 const MOST_PRINTED: u64 = 20;
-/// At least so many small tables are searched.
+/// The fewest small tables searched.
 const FEWEST_SEARCHED: usize = 200;
-/// At least so many pairs of lists are compared of which the first has no longer job: those on firm tables, and those of full tables in which it is behind.
+/// The fewest pairs of lists compared in which the first has no longer job: those on firm tables, and those on full tables in which it is behind.
 const FEWEST_SUSTAINED: u64 = 100_000;
 const FEWEST_BEHIND: u64 = 1_000;
-/// At least so many tables with a fence are not refused, and so many with one in the second word, and so many with one that leaves one core.
+/// The fewest tables with a fence that are not refused, also with one in the second word, also with one that leaves one core.
 const FEWEST_FENCED: u64 = 1_000;
-/// At least so many tables with tasks of two widths are firm, full, and miss, and miss with an even job of such a task.
+/// The fewest tables with tasks of two widths that are firm, full, miss, and miss with an even job of such a task.
 const FEWEST_PAIRS: u64 = 1_000;
-/// The numbers that the calls tried here can answer; 17 and 18 are the sentence's.
+/// The numbers that the calls tried here can return; 17 and 18 are the sentence's.
 const NUMBERS: [usize; 20] = [1, 2, 3, 4, 5, 6, 7, 8, 9, 10, 11, 12, 13, 14, 15, 16, 19, 20, 21, 22];
 const LAST: usize = 22;
-/// At least so many advances with an empty job are taken.
+/// The fewest accepted advances with an empty job.
 const FEWEST_EMPTY: u64 = 100_000;
-/// At least so many withdrawals are taken, and so many of several positions together.
+/// The fewest accepted withdrawals, and the fewest of several positions.
 const FEWEST_WITHDRAWN: u64 = 10_000;
 const FEWEST_TOGETHER: u64 = 10_000;
 
-/// At least so many tables under lending are not refused; so many advances in which somebody borrows are taken, and so many with a borrower reported.
+/// The fewest tables under lending that are not refused; the fewest accepted advances with a borrower, also with a borrower reported.
 const FEWEST_LENDING: u64 = 10_000;
 const FEWEST_BORROWED: u64 = 5_000;
-/// At least so many rows are shown as sets, and so many in which somebody borrows.
+/// The fewest rows shown as sets, and the fewest with a borrower.
 const FEWEST_SETS: u64 = 100_000;
 
-/// What was seen, of the library's answers.
+/// Counts of the library's answers.
 #[derive(Default)]
 pub struct Counts {
     passed: u64,
@@ -75,22 +75,22 @@ pub struct Counts {
     /// Replays that end in a missed deadline.
     late: u64,
     advances: u64,
-    /// Advances with an empty job that are taken, and withdrawals, of one position and of several together.
+    /// Accepted advances with an empty job, and withdrawals, of one position and of several together.
     empty: u64,
     withdrawn: u64,
     together: u64,
-    /// Tables under lending that are not refused; advances that are taken in which somebody borrows, and those with a borrower reported.
+    /// Tables under lending that are not refused; accepted advances with a borrower, and those with a borrower reported.
     lending: u64,
     borrowed: u64,
     borrower_reported: u64,
-    /// Rows that are shown as sets, and those in which somebody borrows.
+    /// Rows that are shown as sets, and those with a borrower.
     sets: u64,
     lent_sets: u64,
     runs: u64,
     nodes: u64,
     /// Nodes at which a deadline is missed.
     ends: u64,
-    /// Pairs of lists of which the first has no longer job: on firm tables, where it must be behind on none, and on full ones and under lending, where it is behind.
+    /// Pairs of lists in which the first has no longer job: on firm tables, where it must be behind on none, and on full ones and under lending, where it is behind.
     sustained: u64,
     behind: u64,
     behind_by_lending: u64,
@@ -104,7 +104,7 @@ impl Counts {
         }
     }
 
-    /// An entry of a list, who borrows in its tick, and its answer.
+    /// An entry of a list, its tick's borrowers, and its answer.
     pub fn entered(&mut self, entry: Entry, borrowers: u32, answer: &Answer<()>) {
         self.answer(answer);
         match entry {
@@ -121,14 +121,14 @@ impl Counts {
         }
     }
 
-    /// A row asked as sets, and who borrows in its tick.
+    /// A row as sets, and the borrowers of its tick.
     pub fn asked(&mut self, borrowers: u32, answer: &Answer<()>) {
         self.answer(answer);
         self.sets += u64::from(answer.is_ok());
         self.lent_sets += u64::from(borrowers != 0);
     }
 
-    /// An advance that is taken: who borrows, and who is reported.
+    /// An accepted advance: the borrowers, and the tasks reported.
     pub fn borrowing(&mut self, borrowers: u32, reports: u32) {
         self.borrowed += u64::from(borrowers != 0);
         self.borrower_reported += u64::from(borrowers & reports != 0);
@@ -218,7 +218,7 @@ impl Counts {
     }
 }
 
-/// The seed to begin with, and how long to go on; the fixed number of batches where it is not said.
+/// The seed to begin with, and how long to go on; by default the fixed number of batches.
 fn arguments() -> Option<(u64, Option<Duration>)> {
     let words: Vec<String> = std::env::args().skip(1).collect();
     let words: Vec<&str> = words.iter().map(String::as_str).collect();

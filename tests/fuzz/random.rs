@@ -7,16 +7,16 @@ use crate::tables;
 use crate::Counts;
 use sivorandra::{Entry, Refusal, Replay, Run, Verdict, FENCED, ROW_BYTES};
 
-/// A list of at most so many entries.
+/// The most entries of a list.
 const MOST_ENTRIES: u32 = 60;
-/// At most so many rows of a long table.
+/// The most rows of a long table.
 const MOST_ROWS: u32 = 2_000;
 
 fn code(answer: &Answer<()>) -> u32 {
     answer.map_or_else(|refusal| refusal.number() * 256 + refusal.position(), |()| 0)
 }
 
-/// Rows to ask for and a buffer's length: mostly such that they can be written.
+/// Rows to ask for and a buffer's length, mostly valid.
 fn asked(rng: &mut Rng, known: &Answer<Known>) -> (u32, u32, usize) {
     let (cores, horizon, miss) = match known {
         Ok(known) => match known.verdict() {
@@ -84,12 +84,12 @@ fn empties(rng: &mut Rng, reference: &ReferenceRun, often: u32) -> u32 {
     if rng.once_in(2) { 0 } else { any_of(rng, reference.may_be_empty(), often) }
 }
 
-/// A position, mostly one that there is.
+/// A position, mostly a valid one.
 fn position(rng: &mut Rng, count: u32) -> u32 {
     if rng.once_in(8) { rng.pick(&[0, count + 1, 33, 1 << 31, u32::MAX]) } else { rng.from(1, count) }
 }
 
-/// A set of positions, mostly of some that there are.
+/// A set of positions, mostly of valid ones.
 fn positions(rng: &mut Rng, count: u32) -> u32 {
     let all = u32::MAX >> (32 - count);
     match rng.below(8) {
@@ -163,7 +163,7 @@ fn compare_runs(rng: &mut Rng, counts: &mut Counts, words: &[u32], known: &Answe
     same("replay in Rust", bound, sivorandra::replay(words, list))
 }
 
-/// A table that passes 9 has the verdict of the one with just its unfenced cores, and its first rows are those of that one, spread over these cores with 255 between.
+/// A table that passes 9 has the verdict of the one with just its unfenced cores. Its first rows are those of that one, spread over these cores with 255 between.
 fn compare_unfenced(counts: &mut Counts, words: &[u32], verdict: Answer<Verdict>) -> Checked<()> {
     let (just, free) = Known::just_unfenced(words);
     if just == words {
@@ -210,7 +210,7 @@ fn compare_idling(counts: &mut Counts, words: &[u32], known: &Known) -> Checked<
     same("rows under lending beside those under idling", others, rows)
 }
 
-/// One random table; the error says what differs on what.
+/// One random table; the error gives the difference.
 pub fn case(seed: u64, counts: &mut Counts) -> Checked<()> {
     let mut rng = Rng::new(seed);
     let words = tables::any(&mut rng);

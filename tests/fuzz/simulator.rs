@@ -1,5 +1,5 @@
-//! The simulator by another hand, as it stands, and what the tests ask of it: the answers are those of its book, which keeps jobs and no phases,
-//! and the words of a run those of its run, which keeps phases; the two must agree.
+//! The simulator by another hand, unchanged, and its use by the tests: the answers are those of its book, which keeps jobs and no phases,
+//! and the words of a run those of its run, which keeps phases. The two must agree.
 #![allow(dead_code)]
 
 include!("../gangsim.rs");
@@ -50,7 +50,7 @@ impl Known {
         self.table.cores as usize
     }
 
-    /// Whether a task has two widths, and whether the late job is an even one of such a task.
+    /// Whether a task has two widths, and whether the late job is an even one of it.
     pub fn pairs(&self) -> (bool, bool) {
         let two = |task: &Task| task.width != task.width2;
         let late_even = match self.verdict {
@@ -98,17 +98,17 @@ fn fence_in(words: &[u32]) -> u64 {
     u64::from(words[0]) | u64::from(words[1]) << 32
 }
 
-/// Where the words of a run have a place: O, v, C, D, T, w, the parity of its job, and its phase.
+/// A place's index in the words of a run: O, v, C, D, T, w, the parity of its job, and its phase.
 pub const fn place_at(place: usize) -> usize {
     RUN_HEAD_WORDS + RUN_PLACE_WORDS * place
 }
 
-/// Where they have its phase: its kind and its three numbers.
+/// The index of its phase: its kind and its three numbers.
 pub const fn phase_at(place: usize) -> usize {
     place_at(place) + 7
 }
 
-/// Where the words of a run have the withdrawn set.
+/// The index of the withdrawn set in a run's words.
 pub const WITHDRAWN: usize = 5;
 
 /// The kinds.
@@ -144,7 +144,7 @@ impl ReferenceRun {
         row
     }
 
-    /// The row as sets, by the cores that the book gives and lends and by those of the run; turned back into bytes they are the row.
+    /// The row as sets, by the cores that the book gives and lends and by those of the run. As bytes they are the row.
     pub fn sets(&self, empties: u32) -> Answer<[u64; SETS]> {
         let sets = self.run.sets(empties.into()).map_err(refusal_of);
         if let Some(book) = &self.book {
@@ -184,26 +184,26 @@ impl ReferenceRun {
         self.run.withdrawn as u32
     }
 
-    /// The set of positions whose job may be empty: it is released in this very tick.
+    /// The set of positions whose job may be empty: it is released in this tick.
     pub fn may_be_empty(&self) -> u32 {
         (0..self.run.n()).filter(|&place| self.run.phases[place] == FRESH).fold(0, |set, place| set | 1 << place)
     }
 
-    /// The set of positions that may be reported beside these empty jobs; none where these are refused or a deadline is missed.
+    /// The set of positions that may be reported with these empty jobs; none if these are refused or a deadline is missed.
     pub fn may_report(&self, empties: u32) -> u32 {
         let Ok(tick) = self.run.tick(empties.into()) else { return 0 };
         let may = |place: usize| matches!(tick.phases[place], Phase::Working { .. }) && tick.sets[place] != 0;
         (0..self.run.n()).filter(|&place| may(place)).fold(0, |set, place| set | 1 << place)
     }
 
-    /// The set of positions that borrow in the tick of an advance; none in one that is refused by its empty jobs or by a missed deadline, and in a withdrawal.
+    /// The set of positions that borrow in the tick of an advance; none if its empty jobs or a missed deadline refuse it, and in a withdrawal.
     pub fn borrowers(&self, entry: Asked) -> u32 {
         let Asked::Advance { empties, .. } = entry else { return 0 };
         let Ok(tick) = self.run.tick(empties.into()) else { return 0 };
         (0..self.run.n()).filter(|&place| tick.served[place]).fold(0, |set, place| set | 1 << place)
     }
 
-    /// The words of the run, over `before` of which the places past the count stay.
+    /// The words of the run; past the count those of `before`.
     pub fn words(&self, before: &[u32; RUN_WORDS]) -> [u32; RUN_WORDS] {
         encoded(&self.run, before)
     }
@@ -224,7 +224,7 @@ pub fn bytes_of(sets: &[u64; SETS], fence: u64, cores: usize) -> [u8; ROW_BYTES]
     row
 }
 
-/// The words of a run; its places past the count stay as they are in `before`.
+/// The words of a run; past the count those of `before`.
 fn encoded(run: &Run, before: &[u32; RUN_WORDS]) -> [u32; RUN_WORDS] {
     let mut words = *before;
     words[..RUN_HEAD_WORDS].copy_from_slice(&[run.rule, run.cores, run.count as u32, run.fence as u32, (run.fence >> 32) as u32, run.withdrawn as u32]);
@@ -244,7 +244,7 @@ fn encoded(run: &Run, before: &[u32; RUN_WORDS]) -> [u32; RUN_WORDS] {
     words
 }
 
-/// The run in words whose parities and phases below the count are such; past it zeros and Resting(0).
+/// The run in words with these parities and phases below the count; past it zeros and Resting(0).
 fn decoded(words: &[u32; RUN_WORDS]) -> Run {
     let mut run = Run::zeros();
     (run.rule, run.cores, run.count, run.fence, run.withdrawn) = (words[0], words[1], words[2].into(), fence_in(&words[3..]), words[5].into());
@@ -262,13 +262,13 @@ fn decoded(words: &[u32; RUN_WORDS]) -> Run {
     run
 }
 
-/// A run built by hand whose words hold a run: whether 14 turns it down, and the list that begins with it.
+/// A run built by hand whose words are a run: whether 14 refuses it, and the list that begins with it.
 pub fn built(words: &[u32; RUN_WORDS]) -> (bool, ReferenceRun) {
     let run = decoded(words);
     (run.check14().is_err(), ReferenceRun { book: None, run })
 }
 
-/// What stands before the line `--`, and the operations after it.
+/// The text before the line `--`, and the operations after it.
 pub fn split(text: &[u8]) -> (Vec<u8>, Vec<String>) {
     split_input(text)
 }

@@ -1,13 +1,13 @@
-//! The lists of one small table beside each other, at one tick: how far each job is in each of them, as the library's runs say it.
+//! The lists of one small table beside each other, at one tick: the progress of each job in each of them, by the library's runs.
 use crate::simulator::{phase_at, place_at, WITHDRAWN, WORKING};
 use crate::calls::Checked;
 use crate::Counts;
 use sivorandra::{Entry, RUN_WORDS};
 
-/// At one tick so many lists are compared, each with each.
+/// The most lists compared at one tick, each with each.
 const MOST_LISTS: usize = 100;
 
-/// How far a job is: the ticks had, and whether it has ended.
+/// A job's progress: the ticks had, and whether it has ended.
 #[derive(Clone, Copy, Default, PartialEq)]
 struct Line {
     had: u32,
@@ -31,7 +31,7 @@ pub fn ticks(entries: &[Entry]) -> usize {
     entries.iter().filter(|entry| matches!(entry, Entry::Advance { .. })).count()
 }
 
-/// A list of entries, all taken, and the jobs after it: `per_place` of each place, those to come among them.
+/// A list of accepted entries, and the jobs after it: `per_place` of each place, future ones too.
 #[derive(Clone)]
 pub struct List {
     pub entries: Vec<Entry>,
@@ -40,7 +40,7 @@ pub struct List {
 }
 
 impl List {
-    /// The empty list, of a table whose lists grow to so many ticks.
+    /// The empty list, of a table whose lists grow to `ticks`.
     pub fn empty(run: &[u32; RUN_WORDS], ticks: usize) -> List {
         let per_place = ticks + 1;
         List { entries: Vec::new(), per_place, jobs: vec![Line::default(); per_place * run[2] as usize] }
@@ -101,14 +101,14 @@ fn compare_with_full(firm: bool, lists: &[List]) -> Checked<()> {
     Ok(())
 }
 
-/// The lists of one tick, or as many of them as are compared, each with each: on a firm table a list that has no longer job is behind on none, but under lending, where a wider borrower
-/// may be served in place of another.
+/// The lists of one tick, or some of them, each with each: on a firm table a list that has no longer job is behind on none, except under lending, where a wider borrower
+/// may run in place of another.
 pub fn compare(firm: bool, lending: bool, lists: &[List], counts: &mut Counts) -> Checked<()> {
     compare_with_full(firm, lists)?;
     let chosen: Vec<&List> = lists.iter().step_by(lists.len().div_ceil(MOST_LISTS).max(1)).collect();
     for a in &chosen {
         for b in &chosen {
-            // lists that have come to the same jobs say little
+            // two lists with the same jobs show little
             if b.full_length() || a.jobs == b.jobs || a.some(b, Line::longer).is_some() {
                 continue;
             }

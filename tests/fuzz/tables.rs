@@ -11,7 +11,7 @@ const fn one([o, v, c, d, t]: [u32; 5]) -> Task {
     [o, v, c, d, t, v]
 }
 
-/// A task that leaves its width about 1/`share` of the time to itself.
+/// A task that takes at most about 1/`share` of its deadline.
 fn task(rng: &mut Rng, cores: u32, periods: &[u32], share: u32) -> Task {
     let period = rng.pick(periods);
     let deadline = if rng.once_in(3) { period } else { rng.from(1.max(period / 2), period) };
@@ -27,7 +27,7 @@ fn tasks(rng: &mut Rng, most: u32, cores: u32, periods: &[u32], share: u32) -> V
     (0..count).map(|_| task(rng, cores, periods, share)).collect()
 }
 
-/// Second widths for some of the tasks of every third table: any, such that no task is wider than the next, such that both widths rise and cross, or for the lowest alone.
+/// Second widths for some of the tasks of every third table: any; such that no task is wider than the next; such that both widths rise and cross; or for the lowest alone.
 fn pair(rng: &mut Rng, cores: u32, tasks: &mut [Task]) {
     if !rng.once_in(3) {
         return;
@@ -62,7 +62,7 @@ fn all_of(cores: u32) -> u64 {
     if cores < 64 { (1 << cores) - 1 } else { u64::MAX }
 }
 
-/// A core count and a fence that leaves so many of the cores: none in every second table.
+/// A core count and a fence that leaves `left` cores; every second table has no fence.
 fn among(rng: &mut Rng, left: u32) -> (u32, u64) {
     if left == 64 || rng.once_in(2) {
         return (left, 0);
@@ -84,7 +84,7 @@ fn set_fence(words: &mut [u32], fence: u64) {
     (words[3], words[4]) = (fence as u32, (fence >> 32) as u32);
 }
 
-/// The words of the tasks in priority order on so many cores, among which fenced ones may stand, in records of any order, with others off the chain.
+/// The words of the tasks in priority order on these cores, of which some may be fenced, in records of any order, with others off the chain.
 fn words(rng: &mut Rng, left: u32, rule: u32, mut tasks: Vec<Task>) -> Vec<u32> {
     pair(rng, left, &mut tasks);
     linked(rng, left, rule, &tasks)
@@ -106,7 +106,7 @@ fn linked(rng: &mut Rng, left: u32, rule: u32, tasks: &[Task]) -> Vec<u32> {
     words
 }
 
-/// A fault that one of 1 to 9, or 19, may turn down.
+/// A fault that one of 1 to 9, or 19, may refuse.
 fn add_fault(rng: &mut Rng, words: &mut Vec<u32>) {
     let records = words.len().saturating_sub(HEAD) / RECORD;
     if records == 0 {
@@ -187,7 +187,7 @@ fn not_sustainable(rng: &mut Rng) -> (u32, Vec<Task>) {
     (cores, tasks)
 }
 
-/// Tasks of one period that mostly fit and wait for those above them: where these end early and lend, there is somebody to borrow.
+/// Tasks of one period that mostly fit and wait for those above them: if these end early and lend, a task can borrow.
 fn waiting(rng: &mut Rng) -> (u32, Vec<Task>) {
     let (cores, period, count) = (rng.from(1, 6), rng.pick(&[4, 6, 8, 12]), rng.from(2, 8));
     let longest = (period / count).max(1);

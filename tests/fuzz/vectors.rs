@@ -1,5 +1,5 @@
 //! The examples through replay, the plan vectors, and those of runs built by hand and started: INDEX has lines 'NAME plan A B LEN', 'NAME run', 'NAME phases' and 'NAME book';
-//! NAME.in is the table's text, or the run's or the table's and then operations, NAME.out what is to be printed.
+//! NAME.in is the table's text, or the run's or the table's and then operations, NAME.out the expected output.
 use crate::simulator;
 use crate::calls::{self, reported, same, Guarded, Checked};
 use crate::rng::Rng;
@@ -35,7 +35,7 @@ fn one(name: &str, a: &str, b: &str, len: &str) -> Checked<()> {
     same(&format!("for {:?}", String::from_utf8_lossy(&text)), String::from_utf8_lossy(&expected), got.into())
 }
 
-/// What the library says to the operations on a run: `r [EMPTIES]` a row, `s [EMPTIES]` its sets, `a REPORTS [EMPTIES]` an advance, `w POSITION` a withdrawal,
+/// The library's answers to operations on a run: `r [EMPTIES]` a row, `s [EMPTIES]` its sets, `a REPORTS [EMPTIES]` an advance, `w POSITION` a withdrawal,
 /// `W SET` several together, `p` the run as text.
 fn operated(mut run: Run, operations: Vec<String>) -> Checked<String> {
     let mut out = String::new();
@@ -60,13 +60,13 @@ fn operated(mut run: Run, operations: Vec<String>) -> Checked<String> {
     Ok(out)
 }
 
-/// .. on one that is built by hand.
+/// .. on one built by hand.
 fn built(text: &[u8]) -> Checked<String> {
     let (words, operations) = simulator::built_from(text, &calls::NO_RUN);
     operated(Run::from_words(words), operations)
 }
 
-/// .. on one that is started, with start's answer before them; where it is refused, on the run of all zeros.
+/// .. on one that is started, after start's answer; on the run of all zeros if it is refused.
 fn started(text: &[u8]) -> Checked<String> {
     let (before, operations) = simulator::split(text);
     match simulator::numbers(&before).and_then(|words| Run::start(&words)) {
@@ -81,7 +81,7 @@ fn one_run(name: &str, answers: fn(&[u8]) -> Checked<String>) -> Checked<()> {
     same(&format!("for {:?}", String::from_utf8_lossy(&text)), String::from_utf8_lossy(&expected), answers(&text)?.into())
 }
 
-/// Example B with its report, that the job of position 1 ends after tick 0 (figure 2, right side), and with an empty job there, B3 with the same, and figure 3 of Goossens and Berten,
+/// Example B with its report, that the job of position 1 ends after tick 0 (figure 2, right side), and with an empty job there; B3 with the same; and figure 3 of Goossens and Berten,
 /// limited slack reclaiming, with its report (right side), with an empty job there, with a borrower reported and with the holder, which is refused, through replay.
 fn examples() -> Vec<(String, Checked<()>)> {
     let row_of = |positions: &[u8]| {
@@ -120,7 +120,7 @@ fn examples() -> Vec<(String, Checked<()>)> {
     cases.into_iter().map(|(table, list, last)| (format!("{table} replayed with {list:?}"), one(table, &list, last))).collect()
 }
 
-/// Each example and vector by name, and whether the library gives what it says.
+/// Each example and vector by name, and whether the library gives its output.
 pub fn all() -> Vec<(String, Checked<()>)> {
     let index = fs::read_to_string("tests/vectors/INDEX").unwrap_or_default();
     let plans = index.lines().filter_map(|line| match line.split(' ').collect::<Vec<_>>()[..] {

@@ -1,6 +1,6 @@
 //! Calls of the library for tests/outside/bounds: each line of standard input is a call, and one line answers it.
 //! `bounds WORD..` asks for the interference test, and the answer is `ok` and 32 bounds, `none` or `refused NUMBER POSITION`; `judge WORD..` asks the chooser for the verdict and
-//! `ticks WORD..` the judge that simulates every tick, and the answer is the program's verdict line; `longest WORD..` for the response times, `ok` and 32 figures.
+//! `ticks WORD..` the tick judge, and the answer is the program's verdict line; `longest WORD..` for the response times, `ok` and 32 figures.
 use sivorandra::{bounds, judge, judge_ticks, response_times, Refusal, MOST_TASKS};
 use std::io::{self, BufRead, Write};
 

@@ -1,4 +1,4 @@
-/* Hostile calls of the library from C, each beside what the header says of it: NULL with length 0, lengths around every limit,
+/* Hostile calls of the library from C, each compared with the header: NULL with length 0, lengths around every limit,
    counts and words of all ones, fences, odd and even jobs, empty jobs, lent cores, rows as sets of cores, positions withdrawn one by one and together, lists that are none, anything past the count. Every slice lies between guards, which must stay.
    Prints each call that differs; the last line is 'N calls, M wrong'. */
 #include <stdio.h>
@@ -14,7 +14,7 @@ static const uint32_t full[TABLE] = { 1, 3, 1, 0, 0, 2, 0, 2, 2, 5, 5, 2, 3, 0, 
 static const uint32_t miss[TABLE] = { 1, 2, 2, 0, 0, 2, 0, 1, 3, 3, 4, 1, 3, 0, 2, 1, 4, 4, 2, 0, 0, 1, 2, 2, 4, 1 };
 static const uint8_t rows[] = { 1, 1, 3, 1, 1, 3, 2, 2, 3, 2, 2, 3, 2, 2, 0 };
 
-/* A slice to lend, and what must stand there after the call; NULL where it has no length and says so. */
+/* A slice to lend, and its expected contents after the call; NULL if `null` is set. */
 typedef struct { uint32_t now[MOST], want[MOST]; size_t len; int null; } Words;
 typedef struct { uint8_t now[MOST], want[MOST]; size_t len; int null; } Bytes;
 typedef struct { uint64_t now[MOST], want[MOST]; size_t len; int null; } Longs;
@@ -56,7 +56,7 @@ static Words run, answer, numbers;
 static Bytes row;
 static Longs sets;
 
-/* Every lent slice afresh: room for what a call writes, and a run of the table in `run`. */
+/* Every lent slice anew: room for what a call writes, and a run of the table in `run`. */
 static void fresh(void)
 {
     static uint32_t started[RUN];
@@ -69,7 +69,7 @@ static void fresh(void)
     longs(&sets, SIVORANDRA_SETS);
 }
 
-/* What must stand in the answer's first words. */
+/* The expected first words of the answer. */
 static void answered(uint32_t kind, uint32_t first, uint32_t second)
 {
     uint32_t three[3] = { kind, first, second };
@@ -78,7 +78,7 @@ static void answered(uint32_t kind, uint32_t first, uint32_t second)
 
 static void refused(uint32_t number) { answered(SIVORANDRA_REFUSED, number, 0); }
 
-/* What must stand in the first words of the run, or in the first bytes of the row. */
+/* The expected first words of the run, or first bytes of the row. */
 static void run_words(const uint32_t *first, size_t n) { memcpy(run.want + GUARD, first, n * sizeof *first); }
 static void row_bytes(const uint8_t *first, size_t n)
 {
@@ -87,7 +87,7 @@ static void row_bytes(const uint8_t *first, size_t n)
         memcpy(row.want + GUARD, first, n);
 }
 
-/* What must stand in the sets: these, and zeros past them. */
+/* The expected sets: these, and zeros past them. */
 static void sets_given(const uint64_t *first, size_t n)
 {
     memset(sets.want + GUARD, 0, SIVORANDRA_SETS * sizeof sets.want[0]);
@@ -95,7 +95,7 @@ static void sets_given(const uint64_t *first, size_t n)
         memcpy(sets.want + GUARD, first, n * sizeof *first);
 }
 
-/* So many words of the run lent. */
+/* Sets words of the lent run. */
 static void set(size_t at, size_t n, uint32_t word)
 {
     for (size_t i = GUARD + at; i < GUARD + at + n; i++)
@@ -282,7 +282,7 @@ static void figures(void)
     figures_by(bounded, limited, 1, bounds_of_limited, full, 0); /* accepted, and does not pass */
 }
 
-/* Every lent slice afresh, and a plan of the table in `run`: the run at tick 0, and its phases noted, S being 0. */
+/* Every lent slice anew, and a plan of the table in `run`: the run at tick 0, and its phases noted, S being 0. */
 static void fresh_plan(void)
 {
     static uint32_t begun[PLAN];
@@ -292,7 +292,7 @@ static void fresh_plan(void)
     words(&run, PLAN, begun, PLAN);
 }
 
-/* What must stand in the plan: the tick, and the phases of the three tasks. */
+/* The expected plan: the tick, and the phases of the three tasks. */
 static void plan_words(uint32_t tick, const uint32_t phases[3][4])
 {
     for (size_t i = 0; i < 3; i++)
@@ -300,7 +300,7 @@ static void plan_words(uint32_t tick, const uint32_t phases[3][4])
     run.want[GUARD + RUN] = tick;
 }
 
-/* Plans by others: begun and refused, lengths around every limit, NULL for each slice, rows taken up to the last, anything past the count, notes that are no phase. */
+/* Supplied plans: begun and refused, lengths around every limit, NULL for each slice, rows up to the last, anything past the count, notes that are no phase. */
 static void supplied(void)
 {
     static const uint32_t at_one[3][4] = { { 1, 1, 1, 1 }, { 1, 1, 0, 0 }, { 1, 1, 1, 1 } };
@@ -370,7 +370,7 @@ static void supplied(void)
     refused(10), expect("take: past the horizon", 0, take(rows, 3));
 }
 
-/* A table of too few, too many or senseless words. */
+/* A table of too few, too many or invalid words. */
 static void tables(void)
 {
     static const struct { size_t len; uint32_t number; } lens[] = {
@@ -491,7 +491,7 @@ static void lengths(void)
     }
 }
 
-/* Runs built by hand: heads and phases that are none, and anything past the count. */
+/* Runs built by hand: invalid heads and phases, and anything past the count. */
 static void built(void)
 {
     static const uint32_t faults[][2] = {
@@ -523,7 +523,7 @@ static void built(void)
     fresh(), refused(16), expect("advance: a report of one that waits", 0, advance(2));
 }
 
-/* The table `full` on five cores of which cores 1 and 3 are fenced; and fences that are turned down. */
+/* The table `full` on five cores of which cores 1 and 3 are fenced; and fences that are refused. */
 static void fences(void)
 {
     static const uint8_t spread[] = { 1, 255, 1, 255, 3, 1, 255, 1, 255, 3, 2, 255, 2, 255, 3, 2, 255, 2, 255, 3, 2, 255, 2, 255, 0 };
@@ -648,7 +648,7 @@ static void empty_jobs(void)
 }
 
 /* Under lending position 1, two cores wide, ends after tick 0: position 2 borrows a core in tick 1, has one of its own in tick 2, and holds it in tick 3. Its row and its words in
-   each of five ticks, the reports that are turned down there, and phases that are none. */
+   each of five ticks, the reports that are refused there, and phases that are invalid. */
 static void lending(void)
 {
     enum { TWO = 19, TICKS = 5, SECOND = KIND + PLACE };
@@ -751,7 +751,7 @@ static void as_sets(void)
         }
 }
 
-/* Positions withdrawn from the run of `full` under idling, in its first tick and in its second; what is refused; and the set built by hand. */
+/* Positions withdrawn from the run of `full` under idling, in its first tick and in its second; refusals; and the set built by hand. */
 static void withdrawals(void)
 {
     static const uint8_t second[3] = { 1, 1, 3 };
@@ -796,7 +796,7 @@ static void withdrawals(void)
 }
 
 /* Several positions of the run of `full` withdrawn together under idling and limited, in its first tick and in its second, from every set that is withdrawn already: beside single
-   withdrawals in falling order; sets with a bit past the count, of which nobody is withdrawn; and 21 under greedy for every set, the empty one too. */
+   withdrawals in falling order; sets with a bit past the count, which withdraw no task; and 21 under greedy for every set, the empty one too. */
 static void together(void)
 {
     static const uint32_t past[] = { 8, 9, 15, 16, 0x80000000u, 0x80000007u, 0xffffffffu };

@@ -1,5 +1,5 @@
 //! Calls of the library for tests/outside/judges: each line of standard input is a call, and one line answers it.
-//! `judge WORD..` asks the faster of the two judges, `ticks WORD..` the one that goes tick by tick; the answer is the program's verdict line.
+//! `judge WORD..` asks the faster of the two judges, `ticks WORD..` the tick judge; the answer is the program's verdict line.
 use sivorandra::{judge, judge_ticks, Refusal, Verdict};
 use std::io::{self, BufRead, Write};
 

@@ -1,5 +1,5 @@
 //! Calls of the library for tests/outside/plan-check: each line of standard input is one, and one line answers it. `begin WORDS` and `state WORDS` set the plan, `own WORDS` gives the bytes of the
-//! rows that our own planner makes up to the horizon, `row BYTES` takes a row, and `words` gives the words of the plan.
+//! rows of our own plan up to the horizon, `row BYTES` checks a row, and `words` gives the words of the plan.
 use sivorandra::{judge, plan, Refusal, RowAnswer, SuppliedPlan, Verdict, PLAN_WORDS};
 use std::io::{self, BufRead, Write};
 

@@ -1,4 +1,4 @@
-/* Each number of the header from a call that is turned down by it, each limit from both sides, and the version. It is C, and C++ too.
+/* Each number of the header from a call that it refuses, each limit from both sides, and the version. It is C, and C++ too.
    Prints each that differs; the last line is 'N numbers, M wrong'. */
 #include <stdio.h>
 #include <string.h>
@@ -14,7 +14,7 @@ static uint64_t shown[SIVORANDRA_SETS];
 static size_t words;
 static unsigned asked, wrong;
 
-/* So many tasks of one tick in five, on two cores. */
+/* Tasks of one tick in five, on two cores. */
 static void fresh(uint32_t tasks)
 {
     static const uint32_t head[HEAD] = { 1, 2, SIVORANDRA_GREEDY, 0, 0 };
@@ -29,7 +29,7 @@ static void fresh(uint32_t tasks)
 /* One task, with another word in its table. */
 static void with(size_t at, uint32_t word) { fresh(1), table[at] = word; }
 
-/* The call was answered, and turned down by this number at this position; or, with no number, it was not turned down. */
+/* The call was answered, and refused by this number at this position; or, with no number, it was not refused. */
 static void expect(const char *what, uint32_t value, uint32_t number, uint32_t position)
 {
     asked++;
@@ -144,7 +144,7 @@ static void numbers(void)
     with(C, 6), expect("a miss has no bounds", bounds(), PASSES, 0);
     expect("none", answer[1] != 0 || run[0] != 0, PASSES, 0);
 
-    /* plans by others: a row without a task is idle */
+    /* supplied plans: a row without a task is idle */
     with(V, 3), expect("too wide for a plan by others", begin(), SIVORANDRA_BAD_WIDTH, 1);
     expect("the plan of a refused beginning", take(0, 0), SIVORANDRA_NOT_A_RUN, 0);
     with(C, 6), expect("a miss by our rule begins", begin(), PASSES, 0);

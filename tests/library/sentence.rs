@@ -1,6 +1,6 @@
 //! Calls of the library for tests/outside/sentence: each line of standard input is a call, and one line answers it.
 //! `sentence LEN WORD..` is answered by `length N SENTENCE` or `refused NUMBER POSITION`; `facts HEX` by the numbers of the facts, as in the sentence's order,
-//! or `no sentence`. The buffer lies between guards: where a byte past the sentence, or any in a refusal, is not as found, the answer is `touched`.
+//! or `no sentence`. The buffer lies between guards: if a byte past the sentence, or any in a refusal, has changed, the answer is `touched`.
 use sivorandra::{facts_of, sentence_in};
 use std::io::{self, BufRead, Write};
 

@@ -1,5 +1,5 @@
 /* The stack that each call takes, found in a thread whose stack is filled with a pattern before the call: tables of 32 tasks under each rule, with short and long periods, with a miss
-   and without, runs of them, and rows of others' plans. Prints the most of each call, and fails where one takes more than the header says. */
+   and without, runs of them, and rows of supplied plans. Prints the most of each call, and fails if one takes more than the header allows. */
 #define _POSIX_C_SOURCE 200809L
 #include <pthread.h>
 #include <stdio.h>
@@ -51,7 +51,7 @@ enum { CALLS = sizeof calls / sizeof calls[0] };
 
 static unsigned char *stack;
 
-/* Fills what lies below this frame, calls, and looks how far down the pattern is overwritten. */
+/* Fills the stack below this frame, calls, and finds how far down the pattern is overwritten. */
 static void *measured(void *given)
 {
     size_t *used = given, call = *used;
@@ -67,7 +67,7 @@ static void *measured(void *given)
     return NULL;
 }
 
-/* The bytes that a call takes; none where no thread can be had. */
+/* The bytes that a call takes; none if there is no thread. */
 static size_t taken(size_t call)
 {
     pthread_t thread;
@@ -81,7 +81,7 @@ static size_t taken(size_t call)
     return used;
 }
 
-/* 32 tasks with these lengths, deadlines and periods, their widths 1 and 2 by turns, and 2 and 1 on even jobs, on 64 cores or just beside a fence of so many of them. */
+/* 32 tasks with these lengths, deadlines and periods, their widths 1 and 2 by turns, and 2 and 1 on even jobs, on 64 cores with this first word of the fence. */
 static void make(uint32_t rule, uint32_t c, uint32_t d, uint32_t t, uint32_t fence)
 {
     uint32_t head[SIVORANDRA_TABLE_HEAD_WORDS] = { 1, SIVORANDRA_MOST_CORES, rule, fence, 0 };

@@ -29,7 +29,7 @@ pub use refusal::Refusal;
 use std::fmt;
 
 /// The version that these bindings are for: major * 10000 + minor * 100 + patch. `version` is that of the library that is linked.
-pub const VERSION: u32 = 2000;
+pub const VERSION: u32 = 2100;
 
 /// The most tasks on a chain, and the most records of a table.
 pub const MOST_TASKS: usize = 32;
@@ -383,7 +383,7 @@ pub fn version() -> u32 {
     unsafe { sivorandra_version() }
 }
 
-/// The verdict on a table's words, event by event or tick by tick, whichever is faster for the table's periods.
+/// The verdict on a table's words: by the interference test where the table passes it, else event by event or tick by tick, whichever is faster.
 ///
 /// ```
 /// use sivorandra::{judge, Refusal, Verdict};

@@ -14,7 +14,7 @@ use Rattle.run.specs.declared.Run.{Run}
 use Rattle.run.specs.declared.Sets.{Sets}
 use Rattle.run.specs.declared.Started.{Started}
 use Rattle.run.specs.declared.Advanced.{Advanced}
-use Rattle.model.specs.Book.{Entry, advance, withdraw, withdrawAll, singleton}
+use Rattle.model.specs.Advance.{Entry, advance, withdraw, withdrawAll, singleton}
 use Rattle.model.specs.Search.{bit}
 use Rattle.model.specs.Sizes.{mostCores, mostTasks}
 use Rattle.run.specs.Run.{moved, withdrawnIn}

@@ -7,7 +7,7 @@ use Prim.Native.Nat.{ℕ, _-_, _≤_}
 use native.Mathlib.Omega.{arith}
 use lib.ListN.{length, take, drop, replicate, length-append, length-drop, length-map, length-replicate, take-append-drop}
 use lib.Seq.{take-at, drop-at}
-use Rattle.model.specs.Book.{Entry, advance, withdraw, withdrawAll, singleton}
+use Rattle.model.specs.Advance.{Entry, advance, withdraw, withdrawAll, singleton}
 use Rattle.model.specs.Search.{bit}
 use Rattle.model.specs.Task as model
 use Rattle.table.specs.Words.{rule, tableOf}

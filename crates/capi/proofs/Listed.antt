@@ -3,7 +3,7 @@ use mathlib.Core.Path.{_≡_, refl}
 use mathlib.Core.List.{List, [], _∷_}
 use Prim.Native.Nat.{ℕ}
 use Rattle.run.specs.declared.Run.{Run}
-use Rattle.model.specs.Book.{Entry}
+use Rattle.model.specs.Advance.{Entry}
 use Rattle.refinement.specs.Entries.{entryOf, answers, runAfterList}
 use Rattle.capi.specs.Encoding.{run, decode}
 use Rattle.capi.specs.Runs.{entryFrom}

@@ -10,7 +10,7 @@ use Rattle.run.specs.declared.Answer.{Answer}
 use Rattle.run.specs.declared.Answer.the-variants.{Taken, Refused}
 use Rattle.run.specs.declared.Run.{Run}
 use Rattle.run.specs.Answer.{byAnswer}
-use Rattle.model.specs.Book.{Entry}
+use Rattle.model.specs.Advance.{Entry}
 use Rattle.refinement.specs.Entries.{entryOf}
 use Rattle.run.specs.UnusedPlaces.{TailUnread}
 use Rattle.run.proofs.UnusedPlaces.{past-unread}

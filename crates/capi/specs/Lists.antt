@@ -1,7 +1,7 @@
 -- A list of entries on the run in a buffer: the answer to each, and the buffer after the list.
 use mathlib.Core.List.{List, [], _∷_}
 use Prim.Native.Nat.{ℕ}
-use Rattle.model.specs.Book.{Entry}
+use Rattle.model.specs.Advance.{Entry}
 use Rattle.run.specs.declared.Answer.{Answer}
 use Rattle.capi.specs.Encoding.{decode}
 use Rattle.capi.specs.Runs.{entryFrom}

@@ -13,7 +13,7 @@ use Rattle.run.specs.Answer.{byAnswer}
 use Rattle.run.specs.Start.{startOf}
 use Rattle.run.specs.Row.{noBytes, rowOf}
 use Rattle.run.specs.Sets.{noSets, setsOf}
-use Rattle.model.specs.Book.{Entry, advance, withdraw, withdrawAll}
+use Rattle.model.specs.Advance.{Entry, advance, withdraw, withdrawAll}
 use Rattle.refinement.specs.Entries.{entryOf}
 use Rattle.capi.specs.AnswerWords.{ofAnswer, answerWritten}
 use Rattle.capi.specs.Calls.{CallResult, byRoom, answerFits}

@@ -4,7 +4,7 @@ use mathlib.Core.Path.{_≡_}
 use mathlib.Core.List.{List}
 use Prim.Native.Nat.{ℕ, _≤_}
 use lib.ListN.{length, take}
-use Rattle.model.specs.Book.{Entry}
+use Rattle.model.specs.Advance.{Entry}
 use Rattle.capi.specs.Encoding.{wordsTo, runWords, countIn, decode}
 use Rattle.capi.specs.Runs.{rowFrom, setsFrom, entryFrom}
 

@@ -4,8 +4,8 @@ use mathlib.Core.Path.{_≡_, ap, refl, subst, sym, _∙_}
 use Prim.Native.Nat.{ℕ}
 use native.Mathlib.Omega.{arith}
 use Rattle.model.proofs.Digits.{bit-none}
-use Rattle.model.specs.Book as book
-use Rattle.model.specs.Book.{Missed, NeverMissed}
+use Rattle.model.specs.Refusals as book
+use Rattle.model.specs.Lists.{Missed, NeverMissed}
 use Rattle.model.specs.Task.{Table}
 use Rattle.table.proofs.Order.{first-only, later, not-before-itself, number-most}
 use Rattle.table.proofs.Passed.{passed-valid}

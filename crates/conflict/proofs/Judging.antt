@@ -6,7 +6,7 @@ use Prim.Native.Nat.{ℕ, _<_}
 use native.Mathlib.Omega.{arith}
 use lib.ListN.{length}
 use Rattle.model.proofs.Bools.{not-true-false}
-use Rattle.model.specs.Book.{Missed}
+use Rattle.model.specs.Lists.{Missed}
 use Rattle.model.specs.Search.{bit}
 use Rattle.model.specs.Task.{Table, Task}
 use Rattle.model.specs.Verdict as model

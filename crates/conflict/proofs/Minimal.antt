@@ -5,7 +5,7 @@ use Prim.Native.Nat.{ℕ, _<_}
 use lib.Dec.{ltb}
 use lib.ListN.{length}
 use borrow.Author.Tests.{ltb-false, ltb-true}
-use Rattle.model.specs.Book.{Missed}
+use Rattle.model.specs.Lists.{Missed}
 use Rattle.model.specs.Search.{bit}
 use Rattle.model.specs.Task.{AllValid, Table}
 use Rattle.conflict.specs.Conflict.{Minimal, allPlaces, conflictSet, conflicts}

@@ -9,7 +9,7 @@ use native.Mathlib.Omega.{arith}
 use lib.ListN.{length}
 use Rattle.model.proofs.Bools.{and-left, and-right}
 use Rattle.model.proofs.Verdict.{verdict-exact}
-use Rattle.model.specs.Book.{Missed, NeverMissed}
+use Rattle.model.specs.Lists.{Missed, NeverMissed}
 use Rattle.model.specs.Task.{AllValid, Table, Task}
 use Rattle.model.specs.Verdict.{Exact, Firm, Full, Miss, Verdict, verdict}
 use Rattle.conflict.specs.Conflict.{conflicts, isMiss, someLeft}

@@ -5,7 +5,7 @@ use mathlib.Core.Logic.{_↔_}
 use mathlib.Core.Path.{_≡_}
 use Prim.Native.Nat.{ℕ, _<_, _≤_}
 use lib.ListN.{length}
-use Rattle.model.specs.Book as book
+use Rattle.model.specs.Refusals as book
 use Rattle.model.specs.Search.{bit}
 use Rattle.table.specs.declared.Answer.the-variants as table
 use Rattle.table.specs.Load.{loadMeaning}

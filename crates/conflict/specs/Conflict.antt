@@ -5,7 +5,7 @@ use mathlib.Core.Path.{_≡_}
 use Prim.Native.Nat.{ℕ, zero, suc, _-_, _^_, _<_}
 use lib.Dec.{eqb}
 use lib.ListN.{length}
-use Rattle.model.specs.Book.{Missed, NeverMissed}
+use Rattle.model.specs.Lists.{Missed, NeverMissed}
 use Rattle.model.specs.Search.{bit}
 use Rattle.model.specs.Task.{Table, Task}
 use Rattle.model.specs.Verdict.{Firm, Full, Miss, Verdict, verdict}

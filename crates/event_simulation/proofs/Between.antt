@@ -14,7 +14,9 @@ use Rattle.model.specs.Fence.{unfencedCores}
 use Rattle.model.specs.Task.{Task, Table, absentTask, task, ValidTask, AllValid, release, due, newest, widthOf}
 use Rattle.model.specs.Grants.{Claimant, claimants, grants}
 use Rattle.model.specs.Row.{row}
-use Rattle.model.specs.Book.{Book, full, jobClaims, taskClaims, widths, grantsOf}
+use Rattle.model.specs.Jobs.{Book}
+use Rattle.model.specs.Claims.{jobClaims, taskClaims, widths, grantsOf}
+use Rattle.model.specs.Lists.{full}
 use Rattle.model.proofs.Bools.{same-test, not-true-false}
 use Rattle.model.proofs.Jobs.{after-release, before-due, claims-if, done-off}
 use Rattle.model.proofs.Runs.{full-tick, full-claimed, full-row, full-stays}

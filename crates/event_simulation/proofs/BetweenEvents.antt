@@ -13,7 +13,9 @@ use Rattle.model.specs.Fence.{unfencedCores}
 use Rattle.model.specs.Search.{bit}
 use Rattle.model.specs.Task.{Table, task, AllValid, release, due, newest, widthOf}
 use Rattle.model.specs.Grants.{some}
-use Rattle.model.specs.Book.{Job, Book, claims, full, served, taskClaims, widths, grantsOf, inRow}
+use Rattle.model.specs.Jobs.{Job, Book}
+use Rattle.model.specs.Claims.{claims, served, taskClaims, widths, grantsOf, inRow}
+use Rattle.model.specs.Lists.{full}
 use Rattle.model.proofs.Runs.{full-tick, full-claimed, full-next}
 use Rattle.model.proofs.Grants.{grants-length}
 use Rattle.simulation.specs.PlaceRelation.{PlaceRelatedAt}

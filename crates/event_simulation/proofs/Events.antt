@@ -11,7 +11,8 @@ use lib.ListN.{length, getD, replicate, getD-replicate, length-map}
 use borrow.Author.Tests.{leb-true, leb-false}
 use Rattle.model.specs.Search.{bit}
 use Rattle.model.specs.Task.{Table, task}
-use Rattle.model.specs.Book.{full, emptyBook, Missed}
+use Rattle.model.specs.Jobs.{emptyBook}
+use Rattle.model.specs.Lists.{full, Missed}
 use Rattle.model.proofs.Digits.{bit-none}
 use Rattle.table.specs.declared.Loaded.{Loaded}
 use Rattle.simulation.specs.Machine.{started}

@@ -7,7 +7,8 @@ use Prim.Native.Nat.{ℕ, zero, suc, _+_, _-_, _*_, _≤_, _<_, min}
 use native.Mathlib.Omega.{arith}
 use lib.ListN.{length, getD, replicate}
 use Rattle.model.specs.Task.{Table, release, due, task, greedy}
-use Rattle.model.specs.Book.{Job, full}
+use Rattle.model.specs.Jobs.{Job}
+use Rattle.model.specs.Lists.{full}
 use Rattle.model.specs.Grants.{claimants, given, left, grants}
 use Rattle.model.specs.Search.{filtered, upFrom}
 use Rattle.model.proofs.Computing.{computing}

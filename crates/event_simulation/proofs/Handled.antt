@@ -11,7 +11,8 @@ use lib.ListN.{length, getD, set}
 use borrow.Author.Tests.{eqb-true, eqb-false, eq-eqb, leb-true, leb-false}
 use Rattle.model.specs.Search.{bit}
 use Rattle.model.specs.Task.{Task, Table, task, AllValid, ValidTask, due}
-use Rattle.model.specs.Book.{Job, full, Missed}
+use Rattle.model.specs.Jobs.{Job}
+use Rattle.model.specs.Lists.{full, Missed}
 use Rattle.model.proofs.Runs.{missed-at}
 use Rattle.simulation.specs.Places.{mapPlaces, setWhere}
 use Rattle.simulation.specs.Machine.{Machine, machine, withRelease, Sized}

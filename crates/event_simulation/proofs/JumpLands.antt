@@ -13,7 +13,8 @@ use borrow.Author.Tests.{eqb-true, eqb-false, eq-eqb, le-ltb, lt-ltb, leb-true, 
 use Rattle.model.specs.Search.{bit}
 use Rattle.model.specs.Sizes.{mostCores, mostTasks}
 use Rattle.model.specs.Task.{Table, task}
-use Rattle.model.specs.Book.{full, inRow, Missed}
+use Rattle.model.specs.Claims.{inRow}
+use Rattle.model.specs.Lists.{full, Missed}
 use Rattle.model.proofs.Bools.{and-left, and-right}
 use Rattle.model.proofs.Digits.{bit-none}
 use Rattle.model.proofs.Runs.{full-tick}

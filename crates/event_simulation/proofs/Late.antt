@@ -11,7 +11,7 @@ use lib.Dec.{eqb}
 use borrow.Author.Tests.{eqb-true}
 use Rattle.model.specs.Search.{bit}
 use Rattle.model.specs.Task.{Table, task}
-use Rattle.model.specs.Book.{full, Missed}
+use Rattle.model.specs.Lists.{full, Missed}
 use Rattle.model.specs.Verdict.{FirstMiss}
 use Rattle.model.proofs.Bools.{and-right}
 use Rattle.model.proofs.Digits.{bit-none, and-bit}

@@ -7,7 +7,8 @@ use native.Mathlib.Omega.{arith}
 use lib.Dec.{eqb, leb}
 use borrow.Author.Tests.{eqb-true, eqb-false, eq-eqb, ne-eqb, lt-leb, le-leb}
 use Rattle.model.specs.Task.{Task, ValidTask, Rule, release, due, newest}
-use Rattle.model.specs.Book.{Job, fresh, claims}
+use Rattle.model.specs.Jobs.{Job, fresh}
+use Rattle.model.specs.Claims.{claims}
 use Rattle.simulation.specs.PlaceRelation.{PlaceWorks, PlaceRests, PlaceRelatedAt}
 use Rattle.simulation.proofs.Lines.{lineOn, line-off, line-own}
 use Rattle.simulation.proofs.Place.{Claimed, start-related, pass-related, release-related, tick-related, rests-off, works-claims, other-line, served-line, claims-owed}

@@ -5,7 +5,8 @@ use mathlib.Core.Logic.{_⊎_}
 use Prim.Native.Nat.{ℕ, _-_, _<_}
 use lib.ListN.{length}
 use Rattle.model.specs.Task.{Table, task, release, due}
-use Rattle.model.specs.Book.{full, grantsOf, bookRow}
+use Rattle.model.specs.Claims.{grantsOf, bookRow}
+use Rattle.model.specs.Lists.{full}
 
 -- job k of place p ends at tick t: it has ended at t, and had not one tick before. Its last tick is t − 1
 abbrev pub Ends : Table → ℕ → ℕ → ℕ → Type 0

@@ -10,7 +10,8 @@ use lib.ListN.{length, getD}
 use Rattle.model.specs.Search.{bit}
 use Rattle.model.specs.Sizes.{mostTasks}
 use Rattle.model.specs.Task.{Task, Table, task, release, due}
-use Rattle.model.specs.Book.{Job, full, Missed}
+use Rattle.model.specs.Jobs.{Job}
+use Rattle.model.specs.Lists.{full, Missed}
 use Rattle.table.specs.declared.Loaded.{Loaded}
 use Rattle.simulation.specs.Places.{setWhere}
 use Rattle.simulation.specs.Machine.{Machine, machineOf, started, Sized}

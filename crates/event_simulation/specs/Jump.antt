@@ -8,7 +8,7 @@ use lib.ListN.{getD, set}
 use Rattle.model.specs.Search.{bit}
 use Rattle.model.specs.Sizes.{mostTasks}
 use Rattle.model.specs.Task.{Table}
-use Rattle.model.specs.Book.{Missed}
+use Rattle.model.specs.Lists.{Missed}
 use Rattle.table.specs.declared.Loaded.{Loaded}
 use Rattle.simulation.specs.Places.{mapPlaces, setWhere}
 use Rattle.simulation.specs.Machine.{Machine, machine, withRelease}

@@ -4,7 +4,7 @@ use mathlib.Core.List.{List}
 use mathlib.Core.Logic.{_⊎_}
 use mathlib.Core.Path.{_≡_, ap, sym, _∙_}
 use Prim.Native.Nat.{ℕ}
-use Rattle.model.specs.Book as book
+use Rattle.model.specs.Refusals as book
 use Rattle.model.specs.Task.{Table}
 use Rattle.model.specs.Verdict as model
 use Rattle.model.proofs.Bools.{not-true-false}

@@ -5,8 +5,8 @@ use mathlib.Core.Logic.{_↔_}
 use mathlib.Core.Path.{_≡_}
 use Prim.Native.Nat.{ℕ, _-_, _≤_, _<_}
 use lib.ListN.{getD, length, replicate}
-use Rattle.model.specs.Book as book
-use Rattle.model.specs.Book.{NeverMissed}
+use Rattle.model.specs.Refusals as book
+use Rattle.model.specs.Lists.{NeverMissed}
 use Rattle.model.specs.Interference.{EndsWithin, interferenceTestPasses, need, responseBound}
 use Rattle.model.specs.Search.{upFrom}
 use Rattle.model.specs.Sizes.{mostTasks}

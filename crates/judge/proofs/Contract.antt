@@ -6,7 +6,7 @@ use mathlib.Core.Logic.{_⊎_, _↔_, inl, inr, ⊎-elim}
 use Prim.Native.Nat.{ℕ, zero, suc, _-_, _≤_, _<_}
 use lib.ListN.{length, take, drop, length-append, length-replicate, length-map, take-append-drop}
 use Rattle.model.specs.Task.{Table, Rule, greedy, limited, idling, lending, ruleOf, AllValid, task}
-use Rattle.model.specs.Book.{NeverMissed}
+use Rattle.model.specs.Lists.{NeverMissed}
 use Rattle.model.specs.Horizon.{lastS, hyperperiod, horizon}
 use Rattle.model.specs.Firm.{FirmRule}
 use Rattle.model.specs.Verdict.{Exact, verdict}

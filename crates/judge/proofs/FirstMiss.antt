@@ -6,7 +6,7 @@ use Prim.Native.Nat.{ℕ, suc, _<_}
 use lib.ListN.{length}
 use Rattle.model.specs.Search.{any, least}
 use Rattle.model.specs.Task.{Table, AllValid}
-use Rattle.model.specs.Book.{Missed}
+use Rattle.model.specs.Lists.{Missed}
 use Rattle.model.specs.Horizon.{lastS, hyperperiod, horizon}
 use Rattle.model.specs.Firm.{firm}
 use Rattle.model.specs.Verdict.{FirstMiss, missedAt, missedIn, firstMiss, verdict}

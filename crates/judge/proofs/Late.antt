@@ -12,7 +12,7 @@ use lib.Dec.{leb, eqb}
 use borrow.Author.Tests.{ltb-true, lt-ltb, leb-true, leb-false, eqb-true, eqb-false}
 use Rattle.model.specs.Search.{bit}
 use Rattle.model.specs.Task.{Table, task}
-use Rattle.model.specs.Book.{full, Missed}
+use Rattle.model.specs.Lists.{full, Missed}
 use Rattle.model.specs.Verdict.{FirstMiss}
 use Rattle.model.proofs.Digits.{bit-none, LowestDigit, lowest-digit}
 use Rattle.model.specs.Sizes.{mostTasks}

@@ -11,7 +11,7 @@ use Rattle.model.specs.Fence.{unfencedCores}
 use Rattle.model.specs.Search.{bit}
 use Rattle.model.specs.Task.{Table, ruleOf}
 use Rattle.model.specs.Grants.{claimants, grants, some}
-use Rattle.model.specs.Book.{Missed}
+use Rattle.model.specs.Lists.{Missed}
 use Rattle.model.proofs.Grants.{grants-length}
 use Rattle.model.specs.Sizes.{mostTasks}
 use Rattle.table.specs.declared.Loaded.{Loaded}

@@ -16,7 +16,8 @@ use Rattle.model.specs.Search.{bit}
 use Rattle.model.specs.Task.{Table, task, ruleOf}
 use Rattle.model.specs.Task as model
 use Rattle.model.specs.Grants.{claimants}
-use Rattle.model.specs.Book.{full, inRow, Missed}
+use Rattle.model.specs.Claims.{inRow}
+use Rattle.model.specs.Lists.{full, Missed}
 use Rattle.model.proofs.Grants.{grants-empty}
 use Rattle.model.specs.Sizes.{mostTasks}
 use Rattle.table.specs.declared.Task.{Task}

@@ -6,7 +6,7 @@ use Prim.Native.Nat.{ℕ, suc, _<_}
 use lib.ListN.{length}
 use Rattle.model.specs.Search.{any, least}
 use Rattle.model.specs.Task.{Table}
-use Rattle.model.specs.Book as book
+use Rattle.model.specs.Lists as book
 use Rattle.model.specs.Verdict.{missedAt, missedIn, FirstMiss}
 use Rattle.judge.specs.declared.Verdict.{Verdict}
 use Rattle.judge.specs.declared.Verdict.the-variants.{Miss}

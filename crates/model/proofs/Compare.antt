@@ -15,7 +15,9 @@ use Rattle.model.proofs.Examples.{B, reports}
 use Rattle.model.proofs.Jobs.{mk}
 use Rattle.model.proofs.LineByLine.{LineByLine, by-line}
 use Rattle.model.proofs.Runs.{BookBounds, WholeBook, bounds-book, whole-empty}
-use Rattle.model.specs.Book.{Book, Entry, Job, book, noReports}
+use Rattle.model.specs.Jobs.{Book, Job}
+use Rattle.model.specs.Advance.{Entry}
+use Rattle.model.specs.Lists.{book, noReports}
 use Rattle.model.specs.Compare.{Behind, FullLongest, Sustainable, Longer, NoneLonger, behind, longer}
 use Rattle.model.specs.Task.{AllValid, Table, greedy}
 use Rattle.model.specs.Verdict.{Full, verdict}

@@ -1,6 +1,12 @@
 -- Unfolding for the computed examples: where an `unfolding` line contains `computing`, a table's verdict, and the answers, rows and book of a list, compute.
-use Rattle.model.specs.Book.{afterTaken, answer, answersFrom, asked, bookFrom, borrowed, borrowing, claims, emptiable, emptied, enter, full}
-use Rattle.model.specs.Book.{late, wrongEmpties, wrongReports, offer, reportable, rowsFrom, seeks, served, step, unknownPositions, takenFrom, work, workLent}
+use Rattle.model.specs.Jobs.{emptied}
+use Rattle.model.specs.Claims.{borrowed, borrowing, claims}
+use Rattle.model.specs.Advance.{step, work, workLent, afterTaken}
+use Rattle.model.specs.Refusals.{answer, asked, emptiable}
+use Rattle.model.specs.Lists.{answersFrom, bookFrom, enter, full}
+use Rattle.model.specs.Claims.{offer, seeks, served}
+use Rattle.model.specs.Refusals.{late, wrongEmpties, wrongReports, reportable, unknownPositions}
+use Rattle.model.specs.Lists.{rowsFrom, takenFrom}
 use Rattle.model.specs.Firm.{firm, parallelismMonotonic}
 use Rattle.model.specs.Grants.{claimants, given, grants, left}
 use Rattle.model.specs.Horizon.{S, horizon, hyperperiod, lcm}

@@ -7,7 +7,10 @@ use lib.ListN.{length}
 use Rattle.model.proofs.Jobs.{even-next, start-even}
 use Rattle.model.proofs.Lending.{not-borrowing, offer-none}
 use Rattle.model.proofs.Runs.{Move, book-run, bounds-book, moved, movesOf, run}
-use Rattle.model.specs.Book.{Book, Entry, book, emptied, emptyBook, releasedNow, served, step}
+use Rattle.model.specs.Jobs.{Book, emptied, emptyBook, releasedNow}
+use Rattle.model.specs.Claims.{served}
+use Rattle.model.specs.Advance.{step, Entry}
+use Rattle.model.specs.Lists.{book}
 use Rattle.model.specs.Lending.{lends}
 use Rattle.model.specs.Task.{AllValid, Table, task}
 

@@ -7,7 +7,8 @@ use Prim.Native.String.{String}
 use Rattle.model.proofs.Computing.{computing}
 use Rattle.model.proofs.Examples.{B, Line, on, t, two, worked}
 use Rattle.model.proofs.LineByLine.{LineByLine, by-line}
-use Rattle.model.specs.Book.{Answer, Asked, Entry, advance, refused, rowRefused, shown, taken}
+use Rattle.model.specs.Advance.{Entry, advance}
+use Rattle.model.specs.Refusals.{Answer, Asked, refused, rowRefused, shown, taken}
 use Rattle.model.specs.Task.{Rule, Table, greedy, idling, limited}
 use Rattle.model.specs.Verdict.{Firm, Full, Verdict}
 

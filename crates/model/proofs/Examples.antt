@@ -8,7 +8,11 @@ use Prim.Native.Nat.{ℕ}
 use Prim.Native.String.{String}
 use Rattle.model.proofs.Computing.{computing}
 use Rattle.model.proofs.LineByLine.{LineByLine, by-line}
-use Rattle.model.specs.Book.{Answer, Asked, Entry, advance, answersFrom, claims, emptyBook, fresh, refused, rowRefused, rowsFrom, shown, taken, takenOf}
+use Rattle.model.specs.Jobs.{emptyBook, fresh}
+use Rattle.model.specs.Claims.{claims}
+use Rattle.model.specs.Advance.{Entry, advance}
+use Rattle.model.specs.Refusals.{Answer, Asked, refused, rowRefused, shown, taken}
+use Rattle.model.specs.Lists.{answersFrom, rowsFrom, takenOf}
 use Rattle.model.specs.Fence.{unfencedTable, spread}
 use Rattle.model.specs.Search.{filtered, upFrom}
 use Rattle.model.specs.Task.{Rule, Table, Task, greedy, idling, limited}

@@ -16,9 +16,20 @@ use Rattle.model.proofs.Jobs.{after-release, before-due, mk, newest-is}
 use Rattle.model.proofs.Runs.{early-book, full-tick, missed-at}
 use Rattle.model.proofs.Search.{any-of, any-some}
 use Rattle.model.proofs.Starts.{Periods, S-release, hyperperiod-cycles, hyperperiod-least, hyperperiod-pos, release-first, release-from}
-use Rattle.model.specs.Book.{AllTaken, Answer, Book, Entry, Job, Missed, advance, advanced, afterTaken, answer, answersFrom, book, bookFrom, claims}
-use Rattle.model.specs.Book.{emptiable, emptied, emptyBook, emptyIn, endedWith, enter, entered, full, jobClaims, keep, late, wrongEmpties, wrongReports, singleton, refused}
-use Rattle.model.specs.Book.{reportable, step, unknownPositions, taken, takenFrom, takenIn, takenOf, taskClaims, ticksOf, withdraw, withdrawAll, withWithdrawn}
+use Rattle.model.specs.Jobs.{Book, Job}
+use Rattle.model.specs.Claims.{claims}
+use Rattle.model.specs.Advance.{step, advanced, Entry, advance, afterTaken}
+use Rattle.model.specs.Refusals.{Answer, answer}
+use Rattle.model.specs.Lists.{AllTaken, Missed, answersFrom, book, bookFrom}
+use Rattle.model.specs.Jobs.{emptied, emptyBook, emptyIn, endedWith}
+use Rattle.model.specs.Claims.{jobClaims}
+use Rattle.model.specs.Advance.{singleton}
+use Rattle.model.specs.Refusals.{emptiable, late, wrongEmpties, wrongReports, refused}
+use Rattle.model.specs.Lists.{enter, entered, full, keep}
+use Rattle.model.specs.Claims.{taskClaims}
+use Rattle.model.specs.Advance.{withdraw, withdrawAll, withWithdrawn}
+use Rattle.model.specs.Refusals.{reportable, unknownPositions, taken}
+use Rattle.model.specs.Lists.{takenFrom, takenIn, takenOf, ticksOf}
 use Rattle.model.specs.Horizon.{Later, LeastCommonMultiple, S, hyperperiod, releaseFrom}
 use Rattle.model.specs.Search.{any, bit}
 use Rattle.model.specs.Task.{AllValid, Rule, ValidTask, Table, Task, due, newest, release, task}

@@ -13,9 +13,19 @@ use Rattle.model.proofs.Digits.{bit-none}
 use Rattle.model.proofs.Lists.{map-at, up-at, up-length}
 use Rattle.model.proofs.Renumbered.{at-map, grants-map, lent-map, owner-map, shown-map, some-map}
 use Rattle.model.proofs.Search.{any-same}
-use Rattle.model.specs.Book.{Answer, Book, Entry, advance, afterTaken, answer, answersFrom, book, bookFrom, borrowed, borrowing, borrows}
-use Rattle.model.specs.Book.{emptiable, emptied, emptyBook, emptyIn, enter, full, grantsOf, inRow, late, lentOf, wrongEmpties, wrongReports, newestEnded}
-use Rattle.model.specs.Book.{noPlaces, offer, reportable, bookRow, seeks, served, shownOf, step, unknownPositions, taskClaims, widths, withdraw, withdrawAll, work, workLent}
+use Rattle.model.specs.Jobs.{Book}
+use Rattle.model.specs.Claims.{borrowed, borrowing, borrows}
+use Rattle.model.specs.Advance.{step, work, workLent, Entry, advance, afterTaken}
+use Rattle.model.specs.Refusals.{Answer, answer}
+use Rattle.model.specs.Lists.{answersFrom, book, bookFrom}
+use Rattle.model.specs.Jobs.{emptied, emptyBook, emptyIn}
+use Rattle.model.specs.Claims.{grantsOf, inRow, lentOf, newestEnded}
+use Rattle.model.specs.Refusals.{emptiable, late, wrongEmpties, wrongReports}
+use Rattle.model.specs.Lists.{enter, full}
+use Rattle.model.specs.Claims.{offer, bookRow, seeks, served, shownOf, taskClaims, widths}
+use Rattle.model.specs.Advance.{withdraw, withdrawAll}
+use Rattle.model.specs.Refusals.{reportable, unknownPositions}
+use Rattle.model.specs.Lists.{noPlaces}
 use Rattle.model.specs.Fence.{unfencedTable, unfencedCores, outside, spread, unfenced}
 use Rattle.model.specs.Grants.{claimants, grants, some}
 use Rattle.model.specs.Horizon.{horizon}

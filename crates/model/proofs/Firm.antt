@@ -15,8 +15,14 @@ use Rattle.model.proofs.Runs.{full-stays, missed-at}
 use Rattle.model.proofs.Search.{least-found}
 use Rattle.model.proofs.Sustain.{sustained-lists, finished, none-behind}
 use Rattle.model.proofs.Verdict.{verdict-exact}
-use Rattle.model.specs.Book.{Answer, Asked, Book, Entry, NeverMissed, advance, answer, asked, askedBy, book, emptied, emptyIn, firstLate, full, late}
-use Rattle.model.specs.Book.{wrongEmpties, wrongReports, noReports, refused, bookRow, rowRefused, shown, taken, unknownPosition, unknownPositions, withdraw, withdrawAll}
+use Rattle.model.specs.Jobs.{Book, emptied, emptyIn}
+use Rattle.model.specs.Advance.{Entry, advance}
+use Rattle.model.specs.Refusals.{Answer, Asked, answer, asked, askedBy, firstLate, late}
+use Rattle.model.specs.Lists.{NeverMissed, book, full}
+use Rattle.model.specs.Claims.{bookRow}
+use Rattle.model.specs.Advance.{withdraw, withdrawAll}
+use Rattle.model.specs.Refusals.{wrongEmpties, wrongReports, refused, rowRefused, shown, taken, unknownPosition, unknownPositions}
+use Rattle.model.specs.Lists.{noReports}
 use Rattle.model.specs.Compare.{NoneBehind}
 use Rattle.model.specs.FirmGuarantee.{FirmGuarantee}
 use Rattle.model.specs.Sets.{setsAsked, bookSets}

@@ -11,8 +11,12 @@ use borrow.Author.Tests.{le-ltb, leb-true, not-true}
 use Rattle.model.proofs.Bools.{and-left, and-right, not-true-false}
 use Rattle.model.proofs.Runs.{full-stays, full-tick, full-withdrawn, missed-at, still-advance}
 use Rattle.model.proofs.Search.{any-some, least-none, none-any}
-use Rattle.model.specs.Book.{Book, Missed, Misses, NeverMissed, advanced, afterTaken, answer, book, bookFrom, emptyIn, enter, entered, firstLate, full}
-use Rattle.model.specs.Book.{late, wrongEmpties, wrongReports, noPlaces, noReports, refused, step, taken}
+use Rattle.model.specs.Jobs.{Book, emptyIn}
+use Rattle.model.specs.Advance.{step, advanced, afterTaken}
+use Rattle.model.specs.Refusals.{answer, firstLate}
+use Rattle.model.specs.Lists.{Missed, Misses, NeverMissed, book, bookFrom, enter, entered, full}
+use Rattle.model.specs.Refusals.{late, wrongEmpties, wrongReports, refused, taken}
+use Rattle.model.specs.Lists.{noPlaces, noReports}
 use Rattle.model.specs.Search.{any, bit}
 use Rattle.model.specs.Task.{Table, due, task}
 

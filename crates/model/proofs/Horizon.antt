@@ -16,7 +16,9 @@ use Rattle.model.proofs.Jobs.{after-release, before-due, claims-if, new
 use Rattle.model.proofs.Lists.{map-first}
 use Rattle.model.proofs.Runs.{full-fresh, full-next, full-tick, missed-at}
 use Rattle.model.proofs.Starts.{Periods, S-last, S-release, S-monotonic, hyperperiod-divides, hyperperiod-pos, width-shift}
-use Rattle.model.specs.Book.{Job, Missed, NeverMissed, claims, full, inRow, jobClaims, served, taskClaims, widths}
+use Rattle.model.specs.Jobs.{Job}
+use Rattle.model.specs.Claims.{claims, inRow, jobClaims, served, taskClaims, widths}
+use Rattle.model.specs.Lists.{Missed, NeverMissed, full}
 use Rattle.model.specs.Grants.{claimants, grants, some}
 use Rattle.model.specs.Horizon.{S, horizon, hyperperiod}
 use Rattle.model.specs.Fence.{unfencedCores}

@@ -14,7 +14,10 @@ use Rattle.model.proofs.Jobs.{before-due, claims-if, mk, newest-is, nex
 use Rattle.model.proofs.Runs.{full-next, full-stays, full-tick, bounds-full}
 use Rattle.model.proofs.Waiting.{isWider, kept-waiting, once, sum-add, sum-le, widerParity}
 use Rattle.model.proofs.Shares.{ServedWithin, every, everySecond, got, got-most, served-claims, served-open}
-use Rattle.model.specs.Book.{Job, NeverMissed, claims, full, inRow, jobClaims, served, work}
+use Rattle.model.specs.Jobs.{Job}
+use Rattle.model.specs.Claims.{claims, inRow, jobClaims, served}
+use Rattle.model.specs.Advance.{work}
+use Rattle.model.specs.Lists.{NeverMissed, full}
 use Rattle.model.specs.Grants.{given}
 use Rattle.model.specs.Interference.{EndsWithin, coresIn, interferenceIn, need, suffices, sumBelow, waitsIn}
 use Rattle.model.specs.Task.{AllValid, Table, Task, due, narrowest, newest, release, task, widest}

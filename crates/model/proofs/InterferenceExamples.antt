@@ -8,7 +8,7 @@ use lib.ListN.{length}
 use Rattle.model.proofs.Computing.{computing}
 use Rattle.model.proofs.Examples.{A, B, fencedOn, on, t, t₂}
 use Rattle.model.proofs.Windows.{passes-meets}
-use Rattle.model.specs.Book.{NeverMissed}
+use Rattle.model.specs.Lists.{NeverMissed}
 use Rattle.model.specs.Interference.{boundFrom, boundsTo, firstWindow, interferenceIn, interferenceTestPasses, largestBelow, need, refusedWidth, shortenedWindow, suffices, sumBelow}
 use Rattle.model.specs.Task.{AllValid, Table, Task, greedy, idling, lending, limited}
 use Rattle.model.specs.Verdict.{Firm, Full, Miss, verdict}

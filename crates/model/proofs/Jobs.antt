@@ -8,7 +8,9 @@ use native.Mathlib.Omega.{arith}
 use lib.Dec.{leb, ltb}
 use borrow.Author.Tests.{le-leb, leb-false, leb-true, lt-ltb, ltb-true, not-true}
 use Rattle.model.proofs.Bools.{and-left, and-right, not-true-false, or-left-true, or-right-false}
-use Rattle.model.specs.Book.{Job, claims, endedWith, holds, work, workLent}
+use Rattle.model.specs.Jobs.{Job, endedWith}
+use Rattle.model.specs.Claims.{claims, holds}
+use Rattle.model.specs.Advance.{work, workLent}
 use Rattle.model.specs.Compare.{Behind, Longer}
 use Rattle.model.specs.Task.{Rule, Task, due, greedy, idling, lending, limited, newest, release}
 

@@ -7,7 +7,8 @@ use Rattle.model.proofs.Computing.{computing}
 use Rattle.model.proofs.EmptyExamples.{line, noPlaces, one}
 use Rattle.model.proofs.Examples.{B, Line, fencedOn, on, t, t₂, three, two, worked}
 use Rattle.model.proofs.LineByLine.{LineByLine, by-line}
-use Rattle.model.specs.Book.{advance, refused, shown, taken, withdraw}
+use Rattle.model.specs.Advance.{advance, withdraw}
+use Rattle.model.specs.Refusals.{refused, shown, taken}
 use Rattle.model.specs.Task.{Table, lending}
 use Rattle.model.specs.Verdict.{Firm, Miss}
 

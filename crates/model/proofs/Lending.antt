@@ -14,8 +14,9 @@ use Rattle.model.proofs.Bools.{and-left, and-right, not-false-true}
 use Rattle.model.proofs.Grants.{claimants-cut, given-nothing, grants-length, grants-none, grants-take, left-nothing}
 use Rattle.model.proofs.Jobs.{done-off}
 use Rattle.model.proofs.Lists.{take-map}
-use Rattle.model.specs.Book.{Book, borrowed, borrowing, borrows, grantsOf, inRow, jobClaims, lentOf, newestEnded, offer, seeks, shownOf}
-use Rattle.model.specs.Book.{taskClaims, widths}
+use Rattle.model.specs.Jobs.{Book}
+use Rattle.model.specs.Claims.{borrowed, borrowing, borrows, grantsOf, inRow, jobClaims, lentOf, newestEnded, offer, seeks, shownOf}
+use Rattle.model.specs.Claims.{taskClaims, widths}
 use Rattle.model.specs.Fence.{unfencedCores}
 use Rattle.model.specs.Grants.{Claimant, claimants, grants, some}
 use Rattle.model.specs.Lending.{among, merged, lendOnce, lends, lent, shownCores, tries, unlent}

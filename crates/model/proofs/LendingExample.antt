@@ -10,7 +10,11 @@ use Rattle.model.proofs.Computing.{computing}
 use Rattle.model.proofs.Examples.{on, reports, t}
 use Rattle.model.proofs.Jobs.{mk}
 use Rattle.model.proofs.Runs.{early-book}
-use Rattle.model.specs.Book.{Entry, Job, asked, book, borrowed, grantsOf, noReports, shown}
+use Rattle.model.specs.Jobs.{Job}
+use Rattle.model.specs.Claims.{borrowed, grantsOf}
+use Rattle.model.specs.Advance.{Entry}
+use Rattle.model.specs.Refusals.{asked, shown}
+use Rattle.model.specs.Lists.{book, noReports}
 use Rattle.model.specs.Compare.{Behind, Sustainable, Longer, NoneLonger}
 use Rattle.model.specs.Local.{EqualAbove}
 use Rattle.model.specs.Sets.{setsAsked}

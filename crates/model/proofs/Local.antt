@@ -18,9 +18,20 @@ use Rattle.model.proofs.Lending.{borrowed-above, lent-local, shown-give
 use Rattle.model.proofs.Lists.{take-map}
 use Rattle.model.proofs.Runs.{full-offer}
 use Rattle.model.proofs.Search.{none-at}
-use Rattle.model.specs.Book.{Answer, Book, Entry, Job, advance, afterTaken, answer, book, bookFrom, borrowed, borrowing, emptied, emptyBook}
-use Rattle.model.specs.Book.{emptyIn, enter, entered, full, grantsOf, jobClaims, keep, newestEnded, noPlaces, offer, singleton, noReports, refused, bookRow, seeks}
-use Rattle.model.specs.Book.{served, step, taken, takenFrom, takenOf, taskClaims, widths, withdraw, withdrawAll, withWithdrawn}
+use Rattle.model.specs.Jobs.{Book, Job, emptied, emptyBook}
+use Rattle.model.specs.Claims.{borrowed, borrowing}
+use Rattle.model.specs.Advance.{step, Entry, advance, afterTaken}
+use Rattle.model.specs.Refusals.{Answer, answer}
+use Rattle.model.specs.Lists.{book, bookFrom}
+use Rattle.model.specs.Jobs.{emptyIn}
+use Rattle.model.specs.Claims.{grantsOf, jobClaims, newestEnded, offer, bookRow, seeks}
+use Rattle.model.specs.Advance.{singleton}
+use Rattle.model.specs.Refusals.{refused}
+use Rattle.model.specs.Lists.{enter, entered, full, keep, noPlaces, noReports}
+use Rattle.model.specs.Claims.{served, taskClaims, widths}
+use Rattle.model.specs.Advance.{withdraw, withdrawAll, withWithdrawn}
+use Rattle.model.specs.Refusals.{taken}
+use Rattle.model.specs.Lists.{takenFrom, takenOf}
 use Rattle.model.specs.Fence.{unfencedCores}
 use Rattle.model.specs.Grants.{claimants}
 use Rattle.model.specs.Lending.{lent}

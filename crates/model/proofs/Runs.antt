@@ -12,9 +12,21 @@ use Rattle.model.proofs.Bools.{not-true-false}
 use Rattle.model.proofs.Digits.{bit-none}
 use Rattle.model.proofs.Jobs.{LineBounds, after-release, bounds-fresh, mk, next, start-bounds, step-ended, step-bounds, step-whole}
 use Rattle.model.proofs.Lending.{not-borrowing, offer-whole, shown-given}
-use Rattle.model.specs.Book.{Answer, Book, Entry, Job, Missed, advance, advanced, afterTaken, answer, book, bookFrom, borrowed, borrowing, emptied}
-use Rattle.model.specs.Book.{emptyBook, emptyIn, enter, entered, fresh, full, grantsOf, jobClaims, keep, noPlaces, offer, singleton, noReports, refused}
-use Rattle.model.specs.Book.{releasedNow, bookRow, seeks, served, shownOf, step, taken, takenFrom, takenOf, withdraw, withdrawAll, withWithdrawn, work}
+use Rattle.model.specs.Jobs.{Book, Job, emptied}
+use Rattle.model.specs.Claims.{borrowed, borrowing}
+use Rattle.model.specs.Advance.{step, work, advanced, Entry, advance, afterTaken}
+use Rattle.model.specs.Refusals.{Answer, answer}
+use Rattle.model.specs.Lists.{Missed, book, bookFrom}
+use Rattle.model.specs.Jobs.{emptyBook, emptyIn, fresh}
+use Rattle.model.specs.Claims.{grantsOf, jobClaims, offer}
+use Rattle.model.specs.Advance.{singleton}
+use Rattle.model.specs.Refusals.{refused}
+use Rattle.model.specs.Lists.{enter, entered, full, keep, noPlaces, noReports}
+use Rattle.model.specs.Jobs.{releasedNow}
+use Rattle.model.specs.Claims.{bookRow, seeks, served, shownOf}
+use Rattle.model.specs.Advance.{withdraw, withdrawAll, withWithdrawn}
+use Rattle.model.specs.Refusals.{taken}
+use Rattle.model.specs.Lists.{takenFrom, takenOf}
 use Rattle.model.specs.Row.{row}
 use Rattle.model.specs.Search.{bit}
 use Rattle.model.specs.Task.{AllValid, Table, due, release, task}

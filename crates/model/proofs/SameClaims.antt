@@ -12,7 +12,10 @@ use Rattle.model.proofs.Grants.{claimants-same}
 use Rattle.model.proofs.Jobs.{Reserving, idle-claims, start-claimed, step-claimed}
 use Rattle.model.proofs.Runs.{BookBounds, Move, book-run, book-tick, full-claimed, full-had, full-run, bounds-emptied, bounds-start, bounds-step}
 use Rattle.model.proofs.Runs.{lines, moved, movesOf, run, stillMove}
-use Rattle.model.specs.Book.{Book, Entry, book, borrowing, emptied, emptyBook, full, jobClaims, releasedNow, served, step, taskClaims, widths}
+use Rattle.model.specs.Jobs.{Book, emptied, emptyBook, releasedNow}
+use Rattle.model.specs.Claims.{borrowing, jobClaims, served, taskClaims, widths}
+use Rattle.model.specs.Advance.{step, Entry}
+use Rattle.model.specs.Lists.{book, full}
 use Rattle.model.specs.Compare.{Behind, NoneBehind}
 use Rattle.model.specs.Grants.{claimants}
 use Rattle.model.specs.Task.{AllValid, Table, newest, task}

@@ -14,7 +14,9 @@ use Rattle.model.proofs.EmptyExamples.{noPlaces}
 use Rattle.model.proofs.Examples.{B, fencedOn, on, t, t₂}
 use Rattle.model.proofs.LendExamples.{figure-3}
 use Rattle.model.proofs.LineByLine.{LineByLine, by-line}
-use Rattle.model.specs.Book.{Asked, Entry, advance, book, rowRefused, shown, withdrawAll}
+use Rattle.model.specs.Advance.{Entry, advance, withdrawAll}
+use Rattle.model.specs.Refusals.{Asked, rowRefused, shown}
+use Rattle.model.specs.Lists.{book}
 use Rattle.model.specs.Lending.{among}
 use Rattle.model.specs.Search.{filtered, member}
 use Rattle.model.specs.Sets.{SetsApart, SetsCount, SetsUnfenced, setOf, setsAsked}

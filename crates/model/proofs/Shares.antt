@@ -14,7 +14,9 @@ use Rattle.model.proofs.Grants.{grants-none}
 use Rattle.model.proofs.Jobs.{after-release, before-due, done-off, next-claimed}
 use Rattle.model.proofs.Runs.{full-claimed, full-next, full-tick, bounds-full}
 use Rattle.model.proofs.Waiting.{once}
-use Rattle.model.specs.Book.{Job, claims, full, inRow, jobClaims, served, taskClaims, widths}
+use Rattle.model.specs.Jobs.{Job}
+use Rattle.model.specs.Claims.{claims, inRow, jobClaims, served, taskClaims, widths}
+use Rattle.model.specs.Lists.{full}
 use Rattle.model.specs.Fence.{unfencedCores}
 use Rattle.model.specs.Grants.{given, left, some}
 use Rattle.model.specs.Interference.{workloadIn}

@@ -20,8 +20,11 @@ use Rattle.model.proofs.SameClaims.{SameClaims, same-claims-emptied, sa
 use Rattle.model.proofs.Lists.{map-at}
 use Rattle.model.proofs.Runs.{Early, BookBounds, Move, book-run, book-tick, early-moved, early-start, full-run, full-whole, bounds-emptied, bounds-run}
 use Rattle.model.proofs.Runs.{bounds-start, bounds-step, lines, moved, movesOf, run, stillMove}
-use Rattle.model.specs.Book.{Book, Entry, Job, book, borrowing, claims, emptied, emptyBook, fresh, full, inRow, jobClaims, releasedNow, served, step}
-use Rattle.model.specs.Book.{taskClaims, widths}
+use Rattle.model.specs.Jobs.{Book, Job, emptied, emptyBook, fresh, releasedNow}
+use Rattle.model.specs.Claims.{borrowing, claims, inRow, jobClaims, served}
+use Rattle.model.specs.Advance.{step, Entry}
+use Rattle.model.specs.Lists.{book, full}
+use Rattle.model.specs.Claims.{taskClaims, widths}
 use Rattle.model.specs.Compare.{Behind, Longer, NoneBehind, NoneLonger}
 use Rattle.model.specs.Fence.{unfencedCores}
 use Rattle.model.specs.Grants.{claimants, grants, some}

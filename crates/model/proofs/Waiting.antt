@@ -12,7 +12,8 @@ use lib.ListN.{drop, getD, length, length-drop, length-map, take}
 use borrow.Author.Tests.{eqb-false, leb-false, leb-true}
 use Rattle.model.proofs.Grants.{claimant, runs-if}
 use Rattle.model.proofs.Lists.{map-at}
-use Rattle.model.specs.Book.{Book, claims, inRow, taskClaims, widths}
+use Rattle.model.specs.Jobs.{Book}
+use Rattle.model.specs.Claims.{claims, inRow, taskClaims, widths}
 use Rattle.model.specs.Fence.{unfencedCores}
 use Rattle.model.specs.Grants.{claimants, endsChoosing, given, grants, left, some}
 use Rattle.model.specs.Interference.{largestBelow, need, refusedWidth, sumBelow}

@@ -6,7 +6,8 @@ use Rattle.model.proofs.Computing.{computing}
 use Rattle.model.proofs.EmptyExamples.{line, noPlaces}
 use Rattle.model.proofs.Examples.{Line, fencedOn, on, t, t₂, two, worked}
 use Rattle.model.proofs.LineByLine.{LineByLine, by-line}
-use Rattle.model.specs.Book.{advance, refused, rowRefused, shown, taken, withdraw}
+use Rattle.model.specs.Advance.{advance, withdraw}
+use Rattle.model.specs.Refusals.{refused, rowRefused, shown, taken}
 use Rattle.model.specs.Search.{upFrom}
 use Rattle.model.specs.Task.{Rule, Table, cycle, greedy, idling, limited, narrowest, widest, widthOf}
 use Rattle.model.specs.Verdict.{Firm, Full, Miss}

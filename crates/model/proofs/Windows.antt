@@ -13,7 +13,7 @@ use borrow.Author.Tests.{ltb-false, not-true}
 use Rattle.model.proofs.Bools.{not-true-false}
 use Rattle.model.proofs.Interference.{interference-ends, interference-meets}
 use Rattle.model.proofs.Search.{any-of}
-use Rattle.model.specs.Book.{NeverMissed}
+use Rattle.model.specs.Lists.{NeverMissed}
 use Rattle.model.specs.Interference.{EndsWithin, boundFrom, boundsTo, coresIn, firstWindow, interferenceIn, interferenceTestPasses, mostHalvings, mostTries, need, nextWindow, responseBound, shortenedWindow, suffices, sumBelow, waitsIn}
 use Rattle.model.specs.Search.{any}
 use Rattle.model.specs.Task.{AllValid, Table, task, widest}

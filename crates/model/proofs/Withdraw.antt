@@ -14,8 +14,12 @@ use Rattle.model.proofs.Bools.{not-true-false, or-cases, or-left, or-ri
 use Rattle.model.proofs.Digits.{bit-power, or-bit, same-set}
 use Rattle.model.proofs.Faithful.{unknown-positions-exact}
 use Rattle.model.proofs.Verdict.{firm-exact}
-use Rattle.model.specs.Book.{Answer, Book, Entry, advance, afterTaken, answer, bookFrom, emptied, enter, entered, singleton, refused}
-use Rattle.model.specs.Book.{step, taken, unknownPosition, unknownPositions, withdraw, withdrawAll, withdrawing, withWithdrawn}
+use Rattle.model.specs.Jobs.{Book, emptied}
+use Rattle.model.specs.Advance.{step, Entry, advance, afterTaken, singleton}
+use Rattle.model.specs.Refusals.{Answer, answer, refused}
+use Rattle.model.specs.Lists.{bookFrom, enter, entered}
+use Rattle.model.specs.Advance.{withdraw, withdrawAll, withWithdrawn}
+use Rattle.model.specs.Refusals.{taken, unknownPosition, unknownPositions, withdrawing}
 use Rattle.model.specs.Firm.{FirmRule, firm}
 use Rattle.model.specs.Search.{bit}
 use Rattle.model.specs.Task.{Table}

@@ -6,7 +6,9 @@ use Rattle.model.proofs.Computing.{computing}
 use Rattle.model.proofs.EmptyExamples.{least-task, line, noPlaces, one, pair, row-20}
 use Rattle.model.proofs.Examples.{B, Line, on, t, two, worked}
 use Rattle.model.proofs.LineByLine.{LineByLine, by-line}
-use Rattle.model.specs.Book.{advance, book, refused, rowRefused, taken, withdraw}
+use Rattle.model.specs.Advance.{advance, withdraw}
+use Rattle.model.specs.Refusals.{refused, rowRefused, taken}
+use Rattle.model.specs.Lists.{book}
 use Rattle.model.specs.Task.{Table, greedy, idling, limited}
 use Rattle.model.specs.Verdict.{Firm, Full, Miss}
 

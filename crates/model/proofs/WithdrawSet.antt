@@ -11,8 +11,12 @@ use borrow.Author.Tests.{eq-eqb, le-ltb, ne-eqb}
 use Rattle.model.proofs.Bools.{not-false-true, or-right}
 use Rattle.model.proofs.Digits.{bit-none, bit-power, or-bit, same-set}
 use Rattle.model.proofs.Withdraw.{within-unknown}
-use Rattle.model.specs.Book.{Answer, Book, afterTaken, answer, answersFrom, bookFrom, enter, entered, refused, unknownPosition}
-use Rattle.model.specs.Book.{unknownPositions, taken, withdraw, withdrawAll, withdrawing, withWithdrawn}
+use Rattle.model.specs.Jobs.{Book}
+use Rattle.model.specs.Advance.{afterTaken}
+use Rattle.model.specs.Refusals.{Answer, answer, refused, unknownPosition}
+use Rattle.model.specs.Lists.{answersFrom, bookFrom, enter, entered}
+use Rattle.model.specs.Advance.{withdraw, withdrawAll, withWithdrawn}
+use Rattle.model.specs.Refusals.{unknownPositions, taken, withdrawing}
 use Rattle.model.specs.Firm.{firm}
 use Rattle.model.specs.Search.{bit, member}
 use Rattle.model.specs.Task.{Table}

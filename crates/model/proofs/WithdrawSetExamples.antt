@@ -11,7 +11,9 @@ use Rattle.model.proofs.Examples.{B, Line, on, t, three, two, worked}
 use Rattle.model.proofs.LineByLine.{LineByLine, by-line}
 use Rattle.model.proofs.WithdrawSet.{members, members-bit}
 use Rattle.model.proofs.WithdrawExamples.{C2, E}
-use Rattle.model.specs.Book.{advance, book, refused, rowRefused, taken, withdraw, withdrawAll}
+use Rattle.model.specs.Advance.{advance, withdraw, withdrawAll}
+use Rattle.model.specs.Refusals.{refused, rowRefused, taken}
+use Rattle.model.specs.Lists.{book}
 use Rattle.model.specs.Local.{SameBits, SameEntries, SameReports, relevant}
 use Rattle.model.specs.Task.{Table, greedy, idling, lending, limited}
 use Rattle.model.specs.WithdrawSet.{Enumerates}

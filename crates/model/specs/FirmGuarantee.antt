@@ -4,7 +4,9 @@ use mathlib.Core.List.{_++_, List}
 use mathlib.Core.Path.{_≡_}
 use Prim.Native.Nat.{_<_, ℕ}
 use lib.ListN.{length, replicate}
-use Rattle.model.specs.Book.{Entry, Misses, answer, asked, book, noReports, refused, rowRefused}
+use Rattle.model.specs.Advance.{Entry}
+use Rattle.model.specs.Refusals.{answer, asked, refused, rowRefused}
+use Rattle.model.specs.Lists.{Misses, book, noReports}
 use Rattle.model.specs.Compare.{Sustainable, NoneBehind}
 use Rattle.model.specs.Sets.{setsAsked}
 use Rattle.model.specs.Task.{Table, lending}

@@ -8,7 +8,7 @@ use mathlib.Core.Path.{_≡_}
 use Prim.Native.Nat.{ℕ, zero, suc, _+_, _*_, _-_, _/_, _%_, max, min}
 use lib.Dec.{leb, ltb}
 use lib.ListN.{getD, length}
-use Rattle.model.specs.Book.{full}
+use Rattle.model.specs.Lists.{full}
 use Rattle.model.specs.Fence.{unfencedCount}
 use Rattle.model.specs.Grants.{endsChoosing}
 use Rattle.model.specs.Search.{any}

@@ -5,7 +5,9 @@ use mathlib.Core.Path.{_≡_}
 use Prim.Native.Nat.{_<_, ℕ}
 use lib.Dec.{leb}
 use lib.ListN.{getD, take}
-use Rattle.model.specs.Book.{Book, Entry, advance, borrowed, grantsOf, offer, singleton, bookRow, withdraw, withdrawAll}
+use Rattle.model.specs.Jobs.{Book}
+use Rattle.model.specs.Claims.{borrowed, grantsOf, offer, bookRow}
+use Rattle.model.specs.Advance.{Entry, advance, singleton, withdraw, withdrawAll}
 use Rattle.model.specs.Search.{any, bit}
 use Rattle.model.specs.Task.{Table}
 

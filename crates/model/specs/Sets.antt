@@ -6,7 +6,9 @@ use mathlib.Core.Path.{_≡_}
 use Prim.Native.Nat.{ℕ, _+_, _^_, _<_}
 use lib.Count.{ones}
 use lib.ListN.{getD, length}
-use Rattle.model.specs.Book.{Asked, Book, askedBy, shownOf}
+use Rattle.model.specs.Jobs.{Book}
+use Rattle.model.specs.Claims.{shownOf}
+use Rattle.model.specs.Refusals.{Asked, askedBy}
 use Rattle.model.specs.Lending.{lentAway, unlent}
 use Rattle.model.specs.Search.{bit}
 use Rattle.model.specs.Task.{Table}

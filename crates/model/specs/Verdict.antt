@@ -5,7 +5,7 @@ use mathlib.Core.Path.{_≡_}
 use Prim.Native.Nat.{_<_, suc, ℕ}
 use lib.Dec.{eqb}
 use lib.ListN.{length}
-use Rattle.model.specs.Book.{Missed, NeverMissed, full}
+use Rattle.model.specs.Lists.{Missed, NeverMissed, full}
 use Rattle.model.specs.Firm.{FirmRule, firm}
 use Rattle.model.specs.Horizon.{horizon, hyperperiod, lastS}
 use Rattle.model.specs.Search.{any, least}

@@ -4,7 +4,10 @@ use mathlib.Core.List.{List, map}
 use mathlib.Core.Path.{_≡_}
 use Prim.Native.Nat.{_<_, suc, ℕ}
 use lib.ListN.{length, replicate}
-use Rattle.model.specs.Book.{Book, Entry, answer, answersFrom, bookFrom, enter, withdraw, withdrawAll}
+use Rattle.model.specs.Jobs.{Book}
+use Rattle.model.specs.Advance.{Entry, withdraw, withdrawAll}
+use Rattle.model.specs.Refusals.{answer}
+use Rattle.model.specs.Lists.{answersFrom, bookFrom, enter}
 use Rattle.model.specs.Search.{bit, member}
 use Rattle.model.specs.Task.{Table}
 

@@ -9,7 +9,8 @@ use lib.Seq.{paste, take-at, drop-at, drop-drop, getD-append-add, getD-drop}
 use Rattle.model.proofs.Idling.{lending-idling, under}
 use Rattle.model.proofs.Rows.{row-length}
 use Rattle.model.specs.Task.{Table, Task, idling, lending}
-use Rattle.model.specs.Book.{shownOf, bookRow, full}
+use Rattle.model.specs.Claims.{shownOf, bookRow}
+use Rattle.model.specs.Lists.{full}
 use Rattle.plan.specs.Rows.{fullRowsFrom}
 use Rattle.plan.specs.Plan.{withRows}
 

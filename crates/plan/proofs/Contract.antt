@@ -5,8 +5,10 @@ use mathlib.Core.List.{List}
 use Prim.Native.Nat.{ℕ, _+_, _-_, _*_, _≤_, _<_}
 use lib.ListN.{length, getD, replicate}
 use Rattle.model.specs.Task.{Table, AllValid}
-use Rattle.model.specs.Book.{Book, book, noReports, bookRow, full}
-use Rattle.model.specs.Book as model
+use Rattle.model.specs.Jobs.{Book}
+use Rattle.model.specs.Claims.{bookRow}
+use Rattle.model.specs.Lists.{book, noReports, full}
+use Rattle.model.specs.Refusals as model
 use Rattle.model.proofs.FullLength.{full-length}
 use Rattle.model.specs.Sizes.{mostCores}
 use Rattle.table.specs.declared.Answer.{Answer}

@@ -7,7 +7,7 @@ use native.Mathlib.Nat.{le-trans}
 use lib.ListN.{length}
 use Rattle.model.specs.Search.{any, least}
 use Rattle.model.specs.Task.{Table, AllValid}
-use Rattle.model.specs.Book.{Missed}
+use Rattle.model.specs.Lists.{Missed}
 use Rattle.model.specs.Verdict.{FirstMiss, missedAt, missedIn}
 use Rattle.model.proofs.Search.{least-any, least-below, least-lowest}
 use Rattle.model.proofs.Faithful.{missed-exact, missed-in-exact}

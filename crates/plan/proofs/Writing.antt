@@ -16,7 +16,8 @@ use Rattle.model.specs.Search.{bit}
 use Rattle.model.specs.Task.{Table, ruleOf}
 use Rattle.model.specs.Grants.{claimants, grants}
 use Rattle.model.specs.Row.{row}
-use Rattle.model.specs.Book.{bookRow, full}
+use Rattle.model.specs.Claims.{bookRow}
+use Rattle.model.specs.Lists.{full}
 use Rattle.model.specs.Sizes.{mostCores}
 use Rattle.table.specs.declared.Loaded.{Loaded}
 use Rattle.rule.specs.Widths.{widthsIn}

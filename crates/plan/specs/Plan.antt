@@ -8,8 +8,9 @@ use lib.ListN.{length, getD, drop, replicate}
 use lib.Dec.{ltb}
 use Rattle.model.specs.Search.{any}
 use Rattle.model.specs.Task.{Table}
-use Rattle.model.specs.Book.{book, noReports, bookRow}
-use Rattle.model.specs.Book as model
+use Rattle.model.specs.Claims.{bookRow}
+use Rattle.model.specs.Lists.{book, noReports}
+use Rattle.model.specs.Refusals as model
 use Rattle.model.specs.Horizon.{horizon}
 use Rattle.model.specs.Verdict.{missedIn}
 use Rattle.table.specs.declared.Answer.{Answer}

@@ -2,7 +2,8 @@
 use mathlib.Core.List.{List, [], _++_}
 use Prim.Native.Nat.{ℕ, zero, suc, _-_}
 use Rattle.model.specs.Task.{Table}
-use Rattle.model.specs.Book.{bookRow, full}
+use Rattle.model.specs.Claims.{bookRow}
+use Rattle.model.specs.Lists.{full}
 
 -- n rows of the full-length run, one after the other, from tick t on
 unfoldable pub fullRowsFrom : Table → ℕ → ℕ → List ℕ

@@ -12,8 +12,9 @@ use borrow.Author.Tests.{le-ltb}
 use Rattle.model.proofs.Lists.{map-at, up-at, up-length}
 use Rattle.model.proofs.Rows.{row-length}
 use Rattle.model.proofs.Starts.{hyperperiod-pos}
-use Rattle.model.specs.Book as book
-use Rattle.model.specs.Book.{NeverMissed, full, bookRow, shownOf}
+use Rattle.model.specs.Refusals as book
+use Rattle.model.specs.Claims.{bookRow, shownOf}
+use Rattle.model.specs.Lists.{NeverMissed, full}
 use Rattle.model.specs.Horizon.{horizon}
 use Rattle.model.specs.Search.{upFrom}
 use Rattle.model.specs.Sizes.{fencedByte}

@@ -17,7 +17,10 @@ use Rattle.model.proofs.Lists.{map-at, up-at, up-length}
 use Rattle.model.proofs.Rows.{row-length}
 use Rattle.model.proofs.Runs.{full-claimed, full-next, full-row, full-tick, full-whole, bounds-full, missed-at}
 use Rattle.model.proofs.Starts.{Periods, S-last, S-release, hyperperiod-divides}
-use Rattle.model.specs.Book.{Job, NeverMissed, full, grantsOf, inRow, jobClaims, bookRow, served, taskClaims, widths, work}
+use Rattle.model.specs.Jobs.{Job}
+use Rattle.model.specs.Claims.{grantsOf, inRow, jobClaims, bookRow, served, taskClaims, widths}
+use Rattle.model.specs.Advance.{work}
+use Rattle.model.specs.Lists.{NeverMissed, full}
 use Rattle.model.specs.Fence.{unfencedCores}
 use Rattle.model.specs.Grants.{Claimant, claimants, some}
 use Rattle.model.specs.Horizon.{S, horizon, hyperperiod, lastS}

@@ -5,7 +5,7 @@ use Prim.Native.Nat.{_-_, ℕ, _≤_}
 use native.Mathlib.Omega.{arith}
 use lib.ListN.{length, length-map, replicate}
 use lib.Seq.{take-at}
-use Rattle.model.specs.Book as book
+use Rattle.model.specs.Refusals as book
 use Rattle.model.specs.Horizon.{lastS}
 use Rattle.model.specs.Sizes.{mostTasks}
 use Rattle.model.specs.Task as model

@@ -8,7 +8,7 @@ use Prim.Native.String.{String}
 use lib.ListN.{drop, length, replicate, take}
 use Rattle.model.proofs.Computing.{computing}
 use Rattle.model.proofs.LineByLine.{LineByLine, by-line}
-use Rattle.model.specs.Book as book
+use Rattle.model.specs.Refusals as book
 use Rattle.model.specs.Sizes.{mostTasks}
 use Rattle.table.specs.Answer.{answerOf, byHorizon, byTasks, byWalk, endingOf, firstOut, headerNumber, lastStep}
 use Rattle.table.specs.Load.{loadMeaning}

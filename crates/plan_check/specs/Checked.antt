@@ -5,7 +5,7 @@ use mathlib.Core.Logic.{_↔_}
 use mathlib.Core.Path.{_≡_}
 use Prim.Native.Nat.{_*_, _-_, ℕ}
 use lib.ListN.{drop, replicate, take}
-use Rattle.model.specs.Book as book
+use Rattle.model.specs.Refusals as book
 use Rattle.model.specs.Horizon.{horizon}
 use Rattle.model.specs.Search.{upFrom}
 use Rattle.model.specs.Task.{Table}

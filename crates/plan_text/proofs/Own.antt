@@ -8,7 +8,8 @@ use native.Mathlib.Omega.{arith}
 use lib.Dec.{eqb}
 use lib.ListN.{getD, length, replicate}
 use borrow.Author.Tests.{eqb-false, eqb-true}
-use Rattle.model.specs.Book.{NeverMissed, full, bookRow}
+use Rattle.model.specs.Claims.{bookRow}
+use Rattle.model.specs.Lists.{NeverMissed, full}
 use Rattle.model.specs.Horizon.{horizon, hyperperiod, lastS}
 use Rattle.model.specs.Search.{bit, upFrom}
 use Rattle.model.specs.Sizes.{fencedByte, mostCores, mostWord}

@@ -11,8 +11,8 @@ use lib.Seq.{append-snoc, take-all}
 use borrow.Author.Tests.{eq-eqb, le-leb, lt-ltb, ne-eqb}
 use Rattle.model.specs.Sizes.{mostWord}
 use Rattle.judge.specs.JudgeAnswer.{judged}
-use Rattle.model.specs.Book.{full}
-use Rattle.model.specs.Book as model
+use Rattle.model.specs.Lists.{full}
+use Rattle.model.specs.Claims as model
 use Rattle.model.specs.Search.{upFrom}
 use Rattle.model.specs.Task.{Table}
 use Rattle.model.specs.Verdict.{Firm, Full, Miss, Verdict}

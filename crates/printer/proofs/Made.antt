@@ -15,7 +15,7 @@ use Rattle.model.specs.Task.{Table, AllValid, task}
 use Rattle.model.specs.Search.{any}
 use Rattle.model.proofs.Bools.{not-true-false}
 use Rattle.model.specs.Task as plain
-use Rattle.model.specs.Book.{Missed}
+use Rattle.model.specs.Lists.{Missed}
 use Rattle.model.specs.Horizon.{horizon}
 use Rattle.model.specs.Verdict.{FirstMiss, verdict}
 use Rattle.model.specs.Verdict as model

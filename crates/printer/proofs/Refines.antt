@@ -7,7 +7,8 @@ use native.Mathlib.Numerals.{add-one}
 use native.Mathlib.Omega.{arith}
 use lib.ListN.{take}
 use Rattle.model.specs.Task.{Table}
-use Rattle.model.specs.Book.{full, bookRow, Missed}
+use Rattle.model.specs.Claims.{bookRow}
+use Rattle.model.specs.Lists.{full, Missed}
 use Rattle.table.specs.declared.Loaded.{Loaded}
 use Rattle.simulation.specs.Machine.{Machine}
 use Rattle.rule.specs.Widths.{widthsIn}

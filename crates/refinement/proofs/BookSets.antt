@@ -7,8 +7,13 @@ use mathlib.Core.List.{List, map}
 use Prim.Native.Nat.{ℕ, suc, _<_}
 use lib.ListN.{length, getD}
 use lib.Dec.{ltb}
-use Rattle.model.specs.Book.{Book, Entry, book, borrows, emptied, emptyIn, firstLate, inRow, lentOf, wrongEmpties, newestEnded, offer, rowRefused, shown}
-use Rattle.model.specs.Book.{shownOf, taken, taskClaims, widths}
+use Rattle.model.specs.Jobs.{Book, emptied, emptyIn}
+use Rattle.model.specs.Claims.{borrows, inRow, lentOf, newestEnded, offer}
+use Rattle.model.specs.Advance.{Entry}
+use Rattle.model.specs.Refusals.{firstLate, wrongEmpties, rowRefused, shown}
+use Rattle.model.specs.Lists.{book}
+use Rattle.model.specs.Claims.{shownOf, taskClaims, widths}
+use Rattle.model.specs.Refusals.{taken}
 use Rattle.model.specs.Sets.{SetsCount, SetsUnfenced, setOf, setsAsked}
 use Rattle.model.specs.Sets as model
 use Rattle.model.specs.Task.{AllValid, Table}

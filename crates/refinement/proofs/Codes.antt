@@ -7,7 +7,8 @@ use native.Mathlib.Omega.{arith}
 use lib.ListN.{length}
 use lib.Dec.{ltb}
 use borrow.Author.Tests.{ltb-true}
-use Rattle.model.specs.Book as model
+use Rattle.model.specs.Advance as entries
+use Rattle.model.specs.Refusals as answers
 use Rattle.run.specs.declared.Run.{Run}
 use Rattle.run.specs.declared.Answer.{Answer}
 use Rattle.run.specs.declared.Answer.the-variants.{Taken, Refused}
@@ -53,23 +54,23 @@ small-withdraw r unknown = go (runOut r) (firmIn r) unknown
     go false true true = ((omega arith, omega arith), omega arith)
     go false true false = tt
 
-pub small-answer : (r : Run) (x : model.Entry) → EntryAnswer (answerMeaning (entryOf r x .answer))
-small-answer r (model.advance x e) = small-advance r x e
-small-answer r (model.withdraw p) = unfold withdrawOf in small-withdraw r (unknownIn r p)
-small-answer r (model.withdrawAll x) = unfold withdrawAllOf in small-withdraw r (pastCount (r .count) x)
+pub small-answer : (r : Run) (x : entries.Entry) → EntryAnswer (answerMeaning (entryOf r x .answer))
+small-answer r (entries.advance x e) = small-advance r x e
+small-answer r (entries.withdraw p) = unfold withdrawOf in small-withdraw r (unknownIn r p)
+small-answer r (entries.withdrawAll x) = unfold withdrawAllOf in small-withdraw r (pastCount (r .count) x)
 
 -- LAW: no two small answers have the same number ..
-pub code-injective : (a b : model.Answer) → EntryAnswer a → EntryAnswer b → code a ≡ code b → a ≡ b
-code-injective model.taken model.taken h k e = refl
-code-injective model.taken (model.refused m q) h k e = absurd (omega arith)
-code-injective (model.refused n p) model.taken h k e = absurd (omega arith)
-code-injective (model.refused n p) (model.refused m q) h k e =
+pub code-injective : (a b : answers.Answer) → EntryAnswer a → EntryAnswer b → code a ≡ code b → a ≡ b
+code-injective answers.taken answers.taken h k e = refl
+code-injective answers.taken (answers.refused m q) h k e = absurd (omega arith)
+code-injective (answers.refused n p) answers.taken h k e = absurd (omega arith)
+code-injective (answers.refused n p) (answers.refused m q) h k e =
     let a : n ≡ m = omega arith in
     let b : p ≡ q = omega arith in
-    λ i. model.refused (a i) (b i)
+    λ i. answers.refused (a i) (b i)
 
 -- .. so the numbers of a list of entries determine its answers
-pub codes-injective : (r s : Run) (xs ys : List model.Entry) → codes r xs ≡ codes s ys → map answerMeaning (answers r xs) ≡ map answerMeaning (answers s ys)
+pub codes-injective : (r s : Run) (xs ys : List entries.Entry) → codes r xs ≡ codes s ys → map answerMeaning (answers r xs) ≡ map answerMeaning (answers s ys)
 unfolding answers
 codes-injective r s [] [] e = refl
 codes-injective r s [] (y ∷ ys) e = absurd (let z : _≡_ {A = ℕ} 0 (suc (length (codes (entryOf s y .run) ys))) = ap (λ (l : List ℕ). length l) e in omega arith)

@@ -7,7 +7,7 @@ use native.Mathlib.Omega.{arith}
 use lib.Dec.{eqb}
 use borrow.Author.Tests.{eqb-true, eqb-false, eq-eqb, ne-eqb}
 use Rattle.model.specs.Task.{Task, ValidTask, Rule, release}
-use Rattle.model.specs.Book.{Job}
+use Rattle.model.specs.Jobs.{Job}
 use Rattle.model.proofs.Jobs.{mk, start, start-claimed}
 use Rattle.phase.specs.declared.Phase.{Phase}
 use Rattle.phase.specs.declared.Phase.the-variants.{Coming, Working, Holding, Resting}

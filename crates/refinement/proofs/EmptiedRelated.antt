@@ -17,8 +17,11 @@ use Rattle.model.specs.Task as model
 use Rattle.model.specs.Grants.{Claimant, claimants, grants, some}
 use Rattle.model.specs.Lending.{lends, lent, shownCores}
 use Rattle.model.specs.Row.{row}
-use Rattle.model.specs.Book.{Book, Job, claims, widths, taskClaims, grantsOf, bookRow, inRow, served, newestEnded, offer, seeks, lentOf, borrowed, borrows}
-use Rattle.model.specs.Book.{borrowing, step, reportable, wrongReports, shownOf}
+use Rattle.model.specs.Jobs.{Book, Job}
+use Rattle.model.specs.Claims.{claims, widths, taskClaims, grantsOf, bookRow, inRow, served, newestEnded, offer, seeks, lentOf, borrowed, borrows}
+use Rattle.model.specs.Advance.{step}
+use Rattle.model.specs.Claims.{borrowing, shownOf}
+use Rattle.model.specs.Refusals.{reportable, wrongReports}
 use Rattle.model.proofs.Bools.{not-true-false}
 use Rattle.model.proofs.Search.{any-same}
 use Rattle.model.proofs.Grants.{claimants-same, grants-none}

@@ -8,7 +8,10 @@ use Prim.Native.Nat.{ℕ, zero, suc, _/_, _%_, _^_, _≤_}
 use native.Mathlib.Nat.{not-suc-le-zero, le-of-suc-le-suc}
 use lib.ListN.{length, getD, take, drop}
 use lib.Seq.{length-take-le}
-use Rattle.model.specs.Book.{Book, Entry, emptiesOf, Answer, taken, refused, Asked, shown, answersFrom, bookFrom, emptyBook, book, enter, asked, noReports, rowsFrom}
+use Rattle.model.specs.Jobs.{Book, emptyBook}
+use Rattle.model.specs.Advance.{Entry, emptiesOf}
+use Rattle.model.specs.Refusals.{Answer, taken, refused, Asked, shown, asked}
+use Rattle.model.specs.Lists.{answersFrom, bookFrom, book, enter, noReports, rowsFrom}
 use Rattle.model.specs.Task.{Table, Task, Rule, greedy, limited, idling, lending}
 use Rattle.model.specs.Verdict.{Verdict, Firm, Full, Miss}
 use Rattle.model.proofs.Computing.{computing}

@@ -5,7 +5,11 @@ use mathlib.Core.Path.{_≡_, refl, ap, _∙_}
 use Prim.Native.Nat.{ℕ, suc}
 use lib.Dec.{ltb}
 use lib.ListN.{length}
-use Rattle.model.specs.Book.{Book, Entry, asked, book, emptiable, emptied, emptyIn, firstLate, late, wrongEmpties, bookRow, rowRefused, shown, taken}
+use Rattle.model.specs.Jobs.{Book, emptied, emptyIn}
+use Rattle.model.specs.Claims.{bookRow}
+use Rattle.model.specs.Advance.{Entry}
+use Rattle.model.specs.Refusals.{asked, emptiable, firstLate, late, wrongEmpties, rowRefused, shown, taken}
+use Rattle.model.specs.Lists.{book}
 use Rattle.model.specs.Fence.{unfencedTable}
 use Rattle.model.specs.Task.{Table}
 use Rattle.model.proofs.Fence.{fence-lists, fence-row}

@@ -10,7 +10,8 @@ use native.Mathlib.Numerals.{add-one}
 use lib.ListN.{length, getD, length-map}
 use lib.Seq.{ext-getD}
 use borrow.Author.Tests.{not-false, not-true}
-use Rattle.model.specs.Book.{Entry, advance, withdraw, withdrawAll, noReports}
+use Rattle.model.specs.Advance.{Entry, advance, withdraw, withdrawAll}
+use Rattle.model.specs.Lists.{noReports}
 use Rattle.model.proofs.Lists.{map-at, map-more, up-at, up-length, up-more}
 use Rattle.model.proofs.Bools.{not-true-false}
 use Rattle.model.proofs.Search.{none-any, none-at}

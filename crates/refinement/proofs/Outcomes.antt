@@ -9,7 +9,10 @@ use native.Mathlib.Omega.{arith}
 use lib.ListN.{length, drop}
 use lib.Seq.{take-at, drop-at}
 use Rattle.model.proofs.Lists.{map-map}
-use Rattle.model.specs.Book as model
+use Rattle.model.specs.Jobs as jobs
+use Rattle.model.specs.Advance as entries
+use Rattle.model.specs.Refusals as answers
+use Rattle.model.specs.Lists as lists
 use Rattle.model.specs.Sizes.{mostCores}
 use Rattle.table.specs.Numbers.{FirstOf, NoneOf}
 use Rattle.table.specs.Words.{tableOf}
@@ -137,7 +140,7 @@ module _ (ws es numbers bytes : List ℕ) where
   taken-none : NoneOf (StartApplies ws) → startOf ws .answer ≡ Taken
   taken-none h = by-start (startOf ws .answer ≡ Taken) (λ e. e) (λ n p e. absurd (distinct-codes n p (started .taken .1 h) (ap answerMeaning e)))
     where
-      distinct-codes : (n p : ℕ) → answerMeaning (startOf ws .answer) ≡ model.taken → answerMeaning (startOf ws .answer) ≡ model.refused n p → ⊥
+      distinct-codes : (n p : ℕ) → answerMeaning (startOf ws .answer) ≡ answers.taken → answerMeaning (startOf ws .answer) ≡ answers.refused n p → ⊥
       distinct-codes n p u v = let z : _≡_ {A = ℕ} 0 1 = cc in omega arith
 
   abbrev given : ReplayOutcome
@@ -153,13 +156,13 @@ module _ (ws es numbers bytes : List ℕ) where
         (λ m q t. ap (λ (o : ReplayOutcome). o .answer) (replay-refused ws es numbers bytes m q t) ∙ back m q (sym (ap answerMeaning t) ∙ started .refused n p .1 h)),
   )
     where
-      same : (m q : ℕ) → startOf ws .answer ≡ Refused m q → replayed.Refused m q ≡ replayed.Refused n p → answerMeaning (startOf ws .answer) ≡ model.refused n p
-      same m q t e = let u : m ≡ n = cc in let v : q ≡ p = cc in ap answerMeaning t ∙ (λ i. model.refused (u i) (v i))
+      same : (m q : ℕ) → startOf ws .answer ≡ Refused m q → replayed.Refused m q ≡ replayed.Refused n p → answerMeaning (startOf ws .answer) ≡ answers.refused n p
+      same m q t e = let u : m ≡ n = cc in let v : q ≡ p = cc in ap answerMeaning t ∙ (λ i. answers.refused (u i) (v i))
 
-      back : (m q : ℕ) → model.refused m q ≡ model.refused n p → replayed.Refused m q ≡ replayed.Refused n p
+      back : (m q : ℕ) → answers.refused m q ≡ answers.refused n p → replayed.Refused m q ≡ replayed.Refused n p
       back m q e = let u : m ≡ n = cc in let v : q ≡ p = cc in λ i. replayed.Refused (u i) (v i)
 
-      distinct-codes : answerMeaning (startOf ws .answer) ≡ model.refused n p → answerMeaning (startOf ws .answer) ≡ model.taken → ⊥
+      distinct-codes : answerMeaning (startOf ws .answer) ≡ answers.refused n p → answerMeaning (startOf ws .answer) ≡ answers.taken → ⊥
       distinct-codes u v = let z : _≡_ {A = ℕ} 0 1 = cc in omega arith
 
   -- an unfit answer: the start is taken, the slices do not fit, and everything is as found
@@ -191,14 +194,14 @@ module _ (ws es numbers bytes : List ℕ) where
   by-the-book h = record {
     each-answer =
         ap (λ (l : List ℕ). l ++ drop (entryCount es) numbers) (sym (map-map code answerMeaning (answers (firstRun ws) xs)) ∙ ap (map code) (f .each-answer))
-        ∙ ap (λ (n : ℕ). map code (model.answersFrom (tableOf ws) model.emptyBook xs) ++ drop n numbers) (sym (length-entries es (entryCount es)));
+        ∙ ap (λ (n : ℕ). map code (lists.answersFrom (tableOf ws) jobs.emptyBook xs) ++ drop n numbers) (sym (length-entries es (entryCount es)));
     row-after =
         ap (rowOutcome (rowCase (last .answer))) (take-at (last .bytes) (drop mostCores bytes) mostCores (shown-length (runAfterList (firstRun ws) xs) 0))
         ∙ (case-outcome last ∙ f .row-after 0);
     behind = drop-at (last .bytes) (drop mostCores bytes) mostCores (shown-length (runAfterList (firstRun ws) xs) 0);
   }
     where
-      xs : List model.Entry
+      xs : List entries.Entry
       xs = entriesIn es
 
       f : Refines ws xs

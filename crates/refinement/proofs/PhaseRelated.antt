@@ -7,7 +7,8 @@ use native.Mathlib.Omega.{arith}
 use lib.Dec.{eqb}
 use borrow.Author.Tests.{ltb-true, lt-ltb, eqb-true, eqb-false, eq-eqb, ne-eqb}
 use Rattle.model.specs.Task.{Task, Rule, greedy, limited, idling, lending, release, newest}
-use Rattle.model.specs.Book.{Job, fresh, holds, claims}
+use Rattle.model.specs.Jobs.{Job, fresh}
+use Rattle.model.specs.Claims.{holds, claims}
 use Rattle.model.proofs.Bools.{not-true-false}
 use Rattle.model.proofs.Jobs.{mk, after-release, before-due, still}
 use Rattle.phase.specs.declared.Phase.{Phase}

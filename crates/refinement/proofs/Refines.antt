@@ -3,7 +3,10 @@ use mathlib.Core.Path.{_≡_, refl, sym, ap, _∙_, subst}
 use mathlib.Core.List.{List, map}
 use Prim.Native.Nat.{ℕ}
 use Rattle.model.specs.Task.{AllValid}
-use Rattle.model.specs.Book.{Entry, emptyBook, answersFrom, takenIn, book, taken}
+use Rattle.model.specs.Jobs.{emptyBook}
+use Rattle.model.specs.Advance.{Entry}
+use Rattle.model.specs.Refusals.{taken}
+use Rattle.model.specs.Lists.{answersFrom, takenIn, book}
 use Rattle.model.proofs.Faithful.{tick-taken}
 use Rattle.table.specs.Words.{tableOf}
 use Rattle.table.specs.Numbers.{NoneApplies}

@@ -13,7 +13,9 @@ use borrow.Author.Tests.{ltb-false, ltb-true}
 use Rattle.model.specs.Search.{least, bit}
 use Rattle.model.specs.Task.{AllValid, Table, task, Rule, ruleOf, newest}
 use Rattle.model.specs.Task as model
-use Rattle.model.specs.Book.{Book, fresh, emptyBook, emptied, emptyIn, advanced, step, withWithdrawn, late, firstLate, releasedNow, emptiable, wrongEmpties}
+use Rattle.model.specs.Jobs.{Book, fresh, emptyBook, emptied, emptyIn, releasedNow}
+use Rattle.model.specs.Advance.{advanced, step, withWithdrawn}
+use Rattle.model.specs.Refusals.{late, firstLate, emptiable, wrongEmpties}
 use Rattle.model.proofs.Bools.{same-test}
 use Rattle.model.proofs.Search.{least-lowest, any-same, least-same}
 use Rattle.model.proofs.Faithful.{late-exact}

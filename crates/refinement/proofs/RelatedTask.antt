@@ -8,7 +8,8 @@ use native.Mathlib.Omega.{arith}
 use lib.Dec.{eqb, leb}
 use borrow.Author.Tests.{leb-true, leb-false, eqb-true, eqb-false, eq-eqb, ne-eqb}
 use Rattle.model.specs.Task.{Task, ValidTask, Rule, due, newest, release}
-use Rattle.model.specs.Book.{Job, holds, claims}
+use Rattle.model.specs.Jobs.{Job}
+use Rattle.model.specs.Claims.{holds, claims}
 use Rattle.model.proofs.Jobs.{newest-is, claims-if}
 use Rattle.phase.specs.declared.Phase.{Phase}
 use Rattle.phase.specs.declared.Phase.the-variants.{Coming, Working, Holding, Resting}

@@ -9,8 +9,12 @@ use lib.Dec.{eqb, ltb}
 use Rattle.model.specs.Search.{any, bit}
 use Rattle.model.specs.Firm.{firm}
 use Rattle.model.specs.Task.{AllValid, Table}
-use Rattle.model.specs.Book.{Book, Entry, advance, withdraw, withdrawAll, bookRow, emptied, emptyIn, advanced, withWithdrawn, singleton, afterTaken, Answer, taken, refused}
-use Rattle.model.specs.Book.{firstLate, wrongEmpties, wrongReports, unknownPositions, withdrawing, answer, shown, rowRefused, asked, entered, enter, bookFrom, answersFrom}
+use Rattle.model.specs.Jobs.{Book, emptied, emptyIn}
+use Rattle.model.specs.Claims.{bookRow}
+use Rattle.model.specs.Advance.{advanced, Entry, advance, withdraw, withdrawAll, withWithdrawn, singleton, afterTaken}
+use Rattle.model.specs.Refusals.{Answer, taken, refused}
+use Rattle.model.specs.Refusals.{firstLate, wrongEmpties, wrongReports, unknownPositions, withdrawing, answer, shown, rowRefused, asked}
+use Rattle.model.specs.Lists.{entered, enter, bookFrom, answersFrom}
 use Rattle.run.specs.declared.Run.{Run}
 use Rattle.run.specs.declared.Answer as declared
 use Rattle.run.specs.declared.Answer.the-variants.{Taken, Refused}

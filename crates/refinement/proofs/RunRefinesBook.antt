@@ -2,7 +2,8 @@
 use mathlib.Core.Path.{_≡_, sym, ap}
 use mathlib.Core.List.{List}
 use Prim.Native.Nat.{ℕ}
-use Rattle.model.specs.Book.{Entry, taken}
+use Rattle.model.specs.Advance.{Entry}
+use Rattle.model.specs.Refusals.{taken}
 use Rattle.model.proofs.Firm.{firm-kept}
 use Rattle.table.specs.Words.{tableOf}
 use Rattle.table.proofs.Passed.{passed-valid}

@@ -6,7 +6,7 @@ use mathlib.Core.Path.{_≡_, refl}
 use Prim.Native.Nat.{ℕ, _-_, _^_}
 use Prim.Native.String.{String}
 use lib.ListN.{length, replicate}
-use Rattle.model.specs.Book.{rowRefused, shown}
+use Rattle.model.specs.Refusals.{rowRefused, shown}
 use Rattle.model.proofs.LineByLine.{LineByLine, by-line}
 use Rattle.model.specs.Sets.{setOf}
 use Rattle.phase.specs.declared.Phase.{Phase}

@@ -9,7 +9,9 @@ use native.Mathlib.Omega.{arith}
 use lib.Dec.{leb, eqb}
 use borrow.Author.Tests.{eqb-false, le-leb, lt-leb}
 use Rattle.model.specs.Task.{Task, ValidTask, Rule, newest}
-use Rattle.model.specs.Book.{Job, fresh, holds, claims, work, workLent}
+use Rattle.model.specs.Jobs.{Job, fresh}
+use Rattle.model.specs.Claims.{holds, claims}
+use Rattle.model.specs.Advance.{work, workLent}
 use Rattle.model.proofs.Jobs.{mk, lineStep, step-ended, step-claimed, claims-if, newest-is, others}
 use Rattle.phase.specs.declared.Phase.{Phase}
 use Rattle.phase.specs.declared.Phase.the-variants.{Coming, Working, Holding, Resting}

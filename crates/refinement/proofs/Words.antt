@@ -3,7 +3,7 @@ use mathlib.Core.Path.{_≡_, refl}
 use mathlib.Core.List.{List}
 use Prim.Native.Nat.{ℕ}
 use Rattle.model.specs.Task.{ruleOf}
-use Rattle.model.specs.Book.{emptyBook}
+use Rattle.model.specs.Jobs.{emptyBook}
 use Rattle.table.specs.Words.{rule, tableOf}
 use Rattle.table.specs.Numbers.{NoneApplies}
 use Rattle.table.proofs.Passed.{passed-valid}

@@ -1,7 +1,7 @@
 -- A list of entries, each an advance with its two sets (scope, 'The book of a run', and request 105) or a withdrawal, of a position (request 106) or of
 -- several together (request 113): its answers and the run after it.
 use mathlib.Core.List.{List, [], _∷_}
-use Rattle.model.specs.Book.{Entry, advance, withdraw, withdrawAll}
+use Rattle.model.specs.Advance.{Entry, advance, withdraw, withdrawAll}
 use Rattle.run.specs.declared.Run.{Run}
 use Rattle.run.specs.declared.Answer.{Answer}
 use Rattle.run.specs.declared.Advanced.{Advanced}

@@ -3,7 +3,10 @@
 use mathlib.Core.Path.{_≡_}
 use mathlib.Core.List.{List, map}
 use Prim.Native.Nat.{ℕ}
-use Rattle.model.specs.Book.{Entry, emptyBook, answersFrom, Asked, shown, rowRefused, asked, book}
+use Rattle.model.specs.Jobs.{emptyBook}
+use Rattle.model.specs.Advance.{Entry}
+use Rattle.model.specs.Refusals.{Asked, shown, rowRefused, asked}
+use Rattle.model.specs.Lists.{answersFrom, book}
 use Rattle.model.specs.Fence.{unfencedTable, spread}
 use Rattle.model.specs.Task.{Table}
 use Rattle.table.specs.Words.{tableOf}

@@ -7,7 +7,7 @@ use mathlib.Core.Logic.{_⊎_}
 use Prim.Native.Nat.{ℕ, _+_, _*_, _/_, _%_, _<_}
 use lib.ListN.{length, getD}
 use lib.Dec.{eqb}
-use Rattle.model.specs.Book.{Entry, advance, withdraw, withdrawAll}
+use Rattle.model.specs.Advance.{Entry, advance, withdraw, withdrawAll}
 use Rattle.model.specs.Search.{any, upFrom}
 
 -- the number of entries

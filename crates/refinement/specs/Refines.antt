@@ -2,7 +2,10 @@
 use mathlib.Core.Path.{_≡_}
 use mathlib.Core.List.{List, map}
 use Prim.Native.Nat.{ℕ}
-use Rattle.model.specs.Book.{Entry, emptyBook, answersFrom, takenIn, asked, book}
+use Rattle.model.specs.Jobs.{emptyBook}
+use Rattle.model.specs.Advance.{Entry}
+use Rattle.model.specs.Refusals.{asked}
+use Rattle.model.specs.Lists.{answersFrom, takenIn, book}
 use Rattle.table.specs.Words.{tableOf}
 use Rattle.run.specs.declared.Run.{Run}
 use Rattle.run.specs.Answer.{answerMeaning, rowMeaning, askedIn64}

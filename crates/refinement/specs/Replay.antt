@@ -7,7 +7,10 @@ use mathlib.Core.List.{List, map, _++_}
 use Prim.Native.Nat.{ℕ, _+_, _*_, _≤_}
 use lib.ListN.{length, take, drop}
 use lib.Dec.{leb}
-use Rattle.model.specs.Book as model
+use Rattle.model.specs.Jobs as jobs
+use Rattle.model.specs.Advance as entries
+use Rattle.model.specs.Refusals as answers
+use Rattle.model.specs.Lists as lists
 use Rattle.model.specs.Sizes.{mostCores, mostTasks}
 use Rattle.table.specs.Limits.{InRange}
 use Rattle.table.specs.Words.{tableOf}
@@ -25,17 +28,17 @@ use Rattle.refinement.specs.Refines.{firstRun}
 use Rattle.refinement.specs.Listing.{Listed, listed, entryCount, entriesIn}
 
 -- an answer as one number: 0 for taken, else its number times 256 plus its position (no two answers of an entry have the same: `codes-injective`)
-abbrev pub code : model.Answer → ℕ
-code model.taken = 0
-code (model.refused n p) = n * 256 + p
+abbrev pub code : answers.Answer → ℕ
+code answers.taken = 0
+code (answers.refused n p) = n * 256 + p
 
 -- an answer that an entry may get: taken, or a number up to 22 with a position up to 32
-abbrev pub EntryAnswer : model.Answer → Type 0
-EntryAnswer model.taken = Unit {0}
-EntryAnswer (model.refused n p) = InRange 1 22 n × (p ≤ mostTasks)
+abbrev pub EntryAnswer : answers.Answer → Type 0
+EntryAnswer answers.taken = Unit {0}
+EntryAnswer (answers.refused n p) = InRange 1 22 n × (p ≤ mostTasks)
 
 -- the answers of a run to a list of entries, as numbers
-abbrev pub codes : Run → List model.Entry → List ℕ
+abbrev pub codes : Run → List entries.Entry → List ℕ
 codes r xs = map (λ a. code (answerMeaning a)) (answers r xs)
 
 -- the lent slices fit: the words are a list of entries, and there is space for a number for each, and for 64 bytes
@@ -58,11 +61,11 @@ rowCase Taken = replayed.Shown
 rowCase (Refused n p) = replayed.RowRefused n p
 
 -- the answer to the last row, by the case and the bytes written
-abbrev pub rowOutcome : Replayed → List ℕ → model.Asked
-rowOutcome replayed.Shown bytes = model.shown bytes
-rowOutcome (replayed.RowRefused n p) bytes = model.rowRefused n p
-rowOutcome (replayed.Refused n p) bytes = model.rowRefused n p
-rowOutcome replayed.Unfit bytes = model.rowRefused 0 0
+abbrev pub rowOutcome : Replayed → List ℕ → answers.Asked
+rowOutcome replayed.Shown bytes = answers.shown bytes
+rowOutcome (replayed.RowRefused n p) bytes = answers.rowRefused n p
+rowOutcome (replayed.Refused n p) bytes = answers.rowRefused n p
+rowOutcome replayed.Unfit bytes = answers.rowRefused 0 0
 
 -- a run that has started: the answers and the row after the list are written, and the rest of the slices is as found; where the slices do not fit,
 -- everything is as found
@@ -86,11 +89,11 @@ unfoldable pub replayOf : List ℕ → List ℕ → List ℕ → List ℕ → Re
 replayOf ws es numbers bytes = byStart (startOf ws .answer) (replayedRun (firstRun ws) es numbers bytes) numbers bytes
 
 -- the results are those of the book
-pub record MatchesBook (ws : List ℕ) (xs : List model.Entry) (numbers bytes : List ℕ) (o : ReplayOutcome) : Type 0 where
+pub record MatchesBook (ws : List ℕ) (xs : List entries.Entry) (numbers bytes : List ℕ) (o : ReplayOutcome) : Type 0 where
   -- each answer, and the rest as found
-  pub each-answer : o .numbers ≡ map code (model.answersFrom (tableOf ws) model.emptyBook xs) ++ drop (length xs) numbers
+  pub each-answer : o .numbers ≡ map code (lists.answersFrom (tableOf ws) jobs.emptyBook xs) ++ drop (length xs) numbers
   -- the row asked after the list, or its refusal
-  pub row-after : rowOutcome (o .answer) (take mostCores (o .bytes)) ≡ askedIn64 (model.asked (tableOf ws) (model.book (tableOf ws) xs) 0)
+  pub row-after : rowOutcome (o .answer) (take mostCores (o .bytes)) ≡ askedIn64 (answers.asked (tableOf ws) (lists.book (tableOf ws) xs) 0)
   -- the bytes after the row, as found
   pub behind : drop mostCores (o .bytes) ≡ drop mostCores bytes
 

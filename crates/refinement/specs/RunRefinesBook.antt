@@ -2,7 +2,8 @@
 use mathlib.Core.Path.{_≡_}
 use mathlib.Core.List.{List}
 use Prim.Native.Nat.{ℕ}
-use Rattle.model.specs.Book.{Entry, taken}
+use Rattle.model.specs.Advance.{Entry}
+use Rattle.model.specs.Refusals.{taken}
 use Rattle.model.specs.FirmGuarantee.{FirmGuarantee}
 use Rattle.table.specs.Words.{tableOf}
 use Rattle.run.specs.Answer.{answerMeaning}

@@ -7,8 +7,12 @@ use mathlib.Core.List.{List, map}
 use Prim.Native.Nat.{ℕ, suc, _≤_, _<_}
 use lib.Dec.{eqb, ltb}
 use lib.ListN.{length, getD, replicate}
-use Rattle.model.specs.Book.{Book, Entry, book, borrows, emptied, emptyIn, inRow, lentOf, newestEnded, offer, shownOf, taken, taskClaims, widths}
-use Rattle.model.specs.Book as model
+use Rattle.model.specs.Jobs.{Book, emptied, emptyIn}
+use Rattle.model.specs.Claims.{borrows, inRow, lentOf, newestEnded, offer, shownOf, taskClaims, widths}
+use Rattle.model.specs.Advance.{Entry}
+use Rattle.model.specs.Refusals.{taken}
+use Rattle.model.specs.Lists.{book}
+use Rattle.model.specs.Refusals as model
 use Rattle.model.specs.Search.{bit}
 use Rattle.model.specs.Sets.{SetsApart, SetsCount, SetsUnfenced, setOf, setsAsked}
 use Rattle.model.specs.Sizes.{mostTasks}

@@ -5,8 +5,8 @@ use mathlib.Core.List.{List}
 use Prim.Native.Nat.{ℕ, suc, _<_}
 use native.Mathlib.Omega.{arith}
 use lib.ListN.{length, getD}
-use Rattle.model.specs.Book as book
-use Rattle.model.specs.Book.{NeverMissed}
+use Rattle.model.specs.Refusals as book
+use Rattle.model.specs.Lists.{NeverMissed}
 use Rattle.model.specs.Task.{AllValid, Table}
 use Rattle.model.specs.Verdict as verdict
 use Rattle.model.specs.Firm.{FirmRule}

@@ -9,7 +9,8 @@ use lib.Dec.{eqb, ltb}
 use lib.ListN.{length}
 use borrow.Author.Tests.{eqb-false, eqb-true, ltb-false, ltb-true}
 use Rattle.model.proofs.Runs.{full-fresh}
-use Rattle.model.specs.Book.{Job, NeverMissed, full}
+use Rattle.model.specs.Jobs.{Job}
+use Rattle.model.specs.Lists.{NeverMissed, full}
 use Rattle.model.specs.Horizon.{horizon}
 use Rattle.model.specs.Task.{AllValid, ValidTask, Table, Task, release, task}
 use Rattle.response_time.specs.Response.{worstResponse, worstResponseBy, responseTime}

@@ -3,7 +3,7 @@
 use Prim.Native.Nat.{ℕ, _<_}
 use lib.ListN.{length}
 use Rattle.model.proofs.Sustain.{finished}
-use Rattle.model.specs.Book.{NeverMissed, book}
+use Rattle.model.specs.Lists.{NeverMissed, book}
 use Rattle.model.specs.Task.{AllValid, Table}
 use Rattle.model.specs.Firm.{FirmRule}
 use Rattle.response_time.specs.EndedWithin.{AlwaysEndedWithin}

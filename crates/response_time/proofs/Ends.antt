@@ -9,7 +9,8 @@ use lib.Dec.{leb}
 use lib.ListN.{length}
 use borrow.Author.Tests.{leb-true, leb-false}
 use Rattle.model.proofs.Bools.{not-true-false}
-use Rattle.model.specs.Book.{Job, full}
+use Rattle.model.specs.Jobs.{Job}
+use Rattle.model.specs.Lists.{full}
 use Rattle.model.specs.Task.{Task, ValidTask, Table, release}
 use Rattle.simulation.specs.PlaceRelation.{PlaceWorks, PlaceRests}
 use Rattle.simulation.proofs.Place.{release-order}

@@ -9,7 +9,8 @@ use Rattle.model.proofs.Computing.{computing}
 use Rattle.model.proofs.Examples.{on, t}
 use Rattle.model.proofs.Horizon.{repeat-all}
 use Rattle.model.proofs.Verdict.{verdict-exact}
-use Rattle.model.specs.Book.{Job, NeverMissed, full}
+use Rattle.model.specs.Jobs.{Job}
+use Rattle.model.specs.Lists.{NeverMissed, full}
 use Rattle.model.specs.Horizon.{S, hyperperiod, lastS}
 use Rattle.model.specs.Task.{AllValid, Table, Task, idling, release, task}
 use Rattle.model.specs.Verdict.{Firm, verdict}

@@ -11,7 +11,8 @@ use lib.ListN.{length, getD, List·getD-eq-default}
 use borrow.Author.Tests.{leb-true, leb-false, not-true}
 use Rattle.model.specs.Search.{bit}
 use Rattle.model.specs.Task.{Task, Table, task, release}
-use Rattle.model.specs.Book.{Job, full, Missed, NeverMissed}
+use Rattle.model.specs.Jobs.{Job}
+use Rattle.model.specs.Lists.{full, Missed, NeverMissed}
 use Rattle.model.proofs.Bools.{and-left, and-right}
 use Rattle.model.proofs.Digits.{without-bit}
 use Rattle.table.specs.declared.Loaded.{Loaded}

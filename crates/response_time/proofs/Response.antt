@@ -14,7 +14,8 @@ use Rattle.model.proofs.Idling.{lending-idling, under}
 use Rattle.model.proofs.Runs.{full-fresh, full-stays, missed-at}
 use Rattle.model.proofs.Search.{any-of, least-any, least-lowest}
 use Rattle.model.proofs.Starts.{Periods, S-last, S-release, hyperperiod-divides, hyperperiod-pos}
-use Rattle.model.specs.Book.{Book, Job, NeverMissed, full}
+use Rattle.model.specs.Jobs.{Book, Job}
+use Rattle.model.specs.Lists.{NeverMissed, full}
 use Rattle.model.specs.Horizon.{S, horizon, hyperperiod}
 use Rattle.model.specs.Search.{least}
 use Rattle.model.specs.Task.{AllValid, ValidTask, Table, Task, due, idling, lending, release, task}

@@ -12,7 +12,7 @@ use lib.Seq.{ext-getD}
 use borrow.Author.Tests.{eqb-true, leb-true, leb-false, lt-ltb, ltb-true}
 use Rattle.model.specs.Search.{bit}
 use Rattle.model.specs.Task.{Table, task}
-use Rattle.model.specs.Book.{full, Missed, NeverMissed}
+use Rattle.model.specs.Lists.{full, Missed, NeverMissed}
 use Rattle.model.specs.Horizon.{horizon}
 use Rattle.model.specs.Firm.{firm}
 use Rattle.model.proofs.Bools.{and-both, and-left, and-right}

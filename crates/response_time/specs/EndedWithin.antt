@@ -3,7 +3,8 @@ use mathlib.Core.Bool.{true}
 use mathlib.Core.List.{List}
 use mathlib.Core.Path.{_≡_}
 use Prim.Native.Nat.{ℕ, _+_, _≤_}
-use Rattle.model.specs.Book.{Entry, book}
+use Rattle.model.specs.Advance.{Entry}
+use Rattle.model.specs.Lists.{book}
 use Rattle.model.specs.Task.{Table, release, task}
 
 -- in the book of a list xs of entries each job of place p has ended, if r ticks or more have passed since its release

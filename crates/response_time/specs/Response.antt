@@ -2,7 +2,7 @@
 use mathlib.Core.Bool.{Bool, true, false, cond}
 use mathlib.Core.Path.{_≡_}
 use Prim.Native.Nat.{ℕ, zero, suc, _+_, _≤_, _<_, max}
-use Rattle.model.specs.Book.{full}
+use Rattle.model.specs.Lists.{full}
 use Rattle.model.specs.Horizon.{horizon}
 use Rattle.model.specs.Search.{least}
 use Rattle.model.specs.Task.{Table, release, task}

@@ -4,7 +4,7 @@ use mathlib.Core.List.{List, map, _++_}
 use mathlib.Core.Logic.{_↔_}
 use Prim.Native.Nat.{ℕ, _-_, _≤_, _<_}
 use lib.ListN.{length, getD, replicate}
-use Rattle.model.specs.Book as book
+use Rattle.model.specs.Refusals as book
 use Rattle.model.specs.Search.{upFrom}
 use Rattle.model.specs.Sizes.{mostTasks}
 use Rattle.model.specs.Task.{Table}

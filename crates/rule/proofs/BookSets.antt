@@ -8,7 +8,8 @@ use mathlib.Core.List.{List, [], _++_}
 use Prim.Native.Nat.{ℕ, _≤_, _<_}
 use lib.ListN.{length, getD, List·getD-map}
 use borrow.Author.Tests.{not-true}
-use Rattle.model.specs.Book.{Book, borrowed, grantsOf, inRow, lentOf, newestEnded, offer, seeks, shownOf, taskClaims, widths}
+use Rattle.model.specs.Jobs.{Book}
+use Rattle.model.specs.Claims.{borrowed, grantsOf, inRow, lentOf, newestEnded, offer, seeks, shownOf, taskClaims, widths}
 use Rattle.model.specs.Lending.{lends}
 use Rattle.model.specs.Local.{SameCoresAbove}
 use Rattle.model.specs.Sets.{SetsApart, SetsCount, SetsUnfenced, setOf, bookSets}

@@ -7,7 +7,7 @@ use native.Mathlib.Omega.{arith}
 use lib.Dec.{ltb}
 use borrow.Author.Tests.{ltb-false}
 use Rattle.model.specs.Search.{bit}
-use Rattle.model.specs.Book as model
+use Rattle.model.specs.Refusals as model
 use Rattle.model.proofs.Search.{least-lowest}
 use Rattle.table.proofs.Decide.{fails}
 use Rattle.run.specs.declared.Run.{Run}

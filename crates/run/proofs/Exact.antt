@@ -13,7 +13,7 @@ use borrow.Author.Tests.{ltb-true, ltb-false, le-ltb, leb-true, leb-false, eqb-t
 use Rattle.model.proofs.Digits.{bit-high}
 use Rattle.model.specs.Search.{any, bit}
 use Rattle.model.specs.Grants.{some}
-use Rattle.model.specs.Book as model
+use Rattle.model.specs.Refusals as model
 use Rattle.model.proofs.Bools.{and-left, and-right, and-both}
 use Rattle.model.proofs.Search.{any-some, any-of, least-found, least-lowest}
 use Rattle.table.specs.Numbers.{place, Earlier, FirstOf, NoneOf}

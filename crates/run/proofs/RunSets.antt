@@ -18,7 +18,7 @@ use Rattle.model.specs.Row.{row}
 use Rattle.model.specs.Search.{bit}
 use Rattle.model.specs.Sets.{SetsApart, SetsCount, SetsUnfenced, setOf}
 use Rattle.model.specs.Sizes.{mostCores, mostTasks}
-use Rattle.model.specs.Book as model
+use Rattle.model.specs.Refusals as model
 use Rattle.model.proofs.Bools.{and-right, or-comm}
 use Rattle.model.proofs.Digits.{bit-none}
 use Rattle.model.proofs.Grants.{grants-length}

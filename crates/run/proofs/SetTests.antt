@@ -9,7 +9,7 @@ use lib.Pow.{pow-add, pow-pos}
 use lib.Dec.{ltb, leb}
 use borrow.Author.Tests.{ltb-false, le-ltb, lt-ltb, leb-true, leb-false, ne-eqb, not-true}
 use Rattle.model.specs.Search.{any, bit}
-use Rattle.model.specs.Book.{singleton}
+use Rattle.model.specs.Advance.{singleton}
 use Rattle.model.proofs.Bools.{and-left, and-right, and-both, not-false-true, not-true-false, same-test}
 use Rattle.model.proofs.Digits.{bit-high, bit-none, bit-past, bit-power, or-bit, same-set}
 use Rattle.model.proofs.Search.{any-some, any-of}

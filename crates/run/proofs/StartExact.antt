@@ -5,7 +5,7 @@ use mathlib.Core.List.{List}
 use mathlib.Core.Logic.{_↔_}
 use Prim.Native.Nat.{ℕ}
 use native.Mathlib.Omega.{arith}
-use Rattle.model.specs.Book as model
+use Rattle.model.specs.Refusals as model
 use Rattle.model.specs.Verdict as verdict
 use Rattle.table.specs.Words.{rule, tableOf}
 use Rattle.table.specs.Numbers.{place, Earlier, FirstOf, NoneOf}

@@ -10,7 +10,7 @@ use lib.Dec.{ltb}
 use borrow.Author.Tests.{ltb-false, ltb-true}
 use Rattle.model.proofs.Search.{any-same, least-same}
 use Rattle.model.specs.Search.{bit}
-use Rattle.model.specs.Book.{singleton}
+use Rattle.model.specs.Advance.{singleton}
 use Rattle.model.specs.Fence.{unfencedCount, unfenced}
 use Rattle.model.specs.Task.{ruleOf}
 use Rattle.model.specs.Grants.{Claimant, claimants, grants}

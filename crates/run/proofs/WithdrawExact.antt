@@ -10,7 +10,8 @@ use lib.ListN.{drop}
 use lib.Dec.{eqb, ltb}
 use borrow.Author.Tests.{eq-eqb, eqb-true}
 use Rattle.model.specs.Search.{bit}
-use Rattle.model.specs.Book as model
+use Rattle.model.specs.Advance as entries
+use Rattle.model.specs.Refusals as answers
 use Rattle.model.specs.Firm.{FirmRule}
 use Rattle.model.proofs.Bools.{not-true-false}
 use Rattle.model.proofs.Digits.{bit-power, or-bit, same-set}
@@ -80,11 +81,11 @@ module _ (r : Run) (t : Bool) (unknown : Type 0) (d : Decides t unknown) where
       go false q true f false g = withdraw-none q f g
 
 -- a taken withdrawal passed 14, was firm and had no unknown position
-pub taken-parts : (r : Run) (t : Bool) → answerMeaning (withdrawAnswer r t) ≡ model.taken → (runOut r ≡ false) × (firmIn r ≡ true) × (t ≡ false)
+pub taken-parts : (r : Run) (t : Bool) → answerMeaning (withdrawAnswer r t) ≡ answers.taken → (runOut r ≡ false) × (firmIn r ≡ true) × (t ≡ false)
 unfolding withdrawAnswer
 taken-parts r t e = go (runOut r) (firmIn r) t e
   where
-    go : (a b c : Bool) → answerMeaning (cond a (Refused 14 0) (cond b (cond c (Refused 22 0) Taken) (Refused 21 0))) ≡ model.taken
+    go : (a b c : Bool) → answerMeaning (cond a (Refused 14 0) (cond b (cond c (Refused 22 0) Taken) (Refused 21 0))) ≡ answers.taken
         → (a ≡ false) × (b ≡ true) × (c ≡ false)
     go true b c q = absurd (let z : _≡_ {A = ℕ} 0 1 = cc in omega arith)
     go false false c q = absurd (let z : _≡_ {A = ℕ} 0 1 = cc in omega arith)
@@ -93,7 +94,7 @@ taken-parts r t e = go (runOut r) (firmIn r) t e
 
 -- the result of a withdrawal of the set x, where there is no unknown position only if x is within the count
 module _ (r : Run) (t : Bool) (unknown : Type 0) (d : Decides t unknown) (x : ℕ) (known : runOut r ≡ false → t ≡ false → pastCount (r .count) x ≡ false) where
-  again-passes : answerMeaning (withdrawAnswer r t) ≡ model.taken → ¬ RunOut (byAnswer (withdrawAnswer r t) (withdrawnIn x r) r)
+  again-passes : answerMeaning (withdrawAnswer r t) ≡ answers.taken → ¬ RunOut (byAnswer (withdrawAnswer r t) (withdrawnIn x r) r)
   again-passes e =
       let parts = taken-parts r t e in
       let next : Run = withdrawnIn x r in
@@ -128,18 +129,18 @@ known-from r p e =
     let last : ¬ (r .count < p) = λ z. no (inr z) in
     (omega arith, omega arith)
 
-known-within : (r : Run) (p : ℕ) → unknownIn r p ≡ false → pastCount (r .count) (model.singleton p) ≡ false
+known-within : (r : Run) (p : ℕ) → unknownIn r p ≡ false → pastCount (r .count) (entries.singleton p) ≡ false
 known-within r p e = let k = known-from r p e in within-only (r .count) p (k .0) (k .1)
 
 -- so a taken one's is
-pub taken-within : (r : Run) (p : ℕ) → withdrawAnswer r (unknownIn r p) ≡ Taken → pastCount (r .count) (model.singleton p) ≡ false
+pub taken-within : (r : Run) (p : ℕ) → withdrawAnswer r (unknownIn r p) ≡ Taken → pastCount (r .count) (entries.singleton p) ≡ false
 taken-within r p e = known-within r p (taken-parts r (unknownIn r p) (ap answerMeaning e) .2)
 
 -- a value that is the withdrawal's by definition meets the contract of a withdrawal
 pub withdraw-of : (r : Run) (p : ℕ) (a : Advanced) → a ≡ withdrawOf r p → WithdrawOf r p a
 withdraw-of r p a q = rw q record {
   value = refl;
-  exact = unfold withdrawOf in withdrawn-of r (unknownIn r p) (NoSuchPosition r p) (unknown-decides r p) (model.singleton p) (λ o e. known-within r p e);
+  exact = unfold withdrawOf in withdrawn-of r (unknownIn r p) (NoSuchPosition r p) (unknown-decides r p) (entries.singleton p) (λ o e. known-within r p e);
 }
 
 -- what is taken is in the set, so that it is not added again
@@ -175,8 +176,8 @@ unfolding withdrawOf withdrawnIn
 withdraw-twice r p = go (withdrawAnswer r (unknownIn r p)) refl
   where
     next : Run
-    next = withdrawnIn (model.singleton p) r
+    next = withdrawnIn (entries.singleton p) r
 
     go : (a : Answer) → withdrawAnswer r (unknownIn r p) ≡ a → withdrawOf (byAnswer a next r) p ≡ record { answer = a; run = byAnswer a next r }
-    go Taken e = rw (same-answer r (unknownIn r p) (model.singleton p) e (taken-within r p e), twice (model.singleton p) r)
+    go Taken e = rw (same-answer r (unknownIn r p) (entries.singleton p) e (taken-within r p e), twice (entries.singleton p) r)
     go (Refused n q) e = rw e

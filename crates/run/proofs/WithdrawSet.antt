@@ -10,8 +10,8 @@ use lib.Bits.{bitOr, or-zero-r}
 use lib.ListN.{length, replicate}
 use borrow.Author.Tests.{le-ltb, ne-eqb}
 use Rattle.model.specs.Search.{member}
-use Rattle.model.specs.Book as model
-use Rattle.model.specs.Book.{singleton}
+use Rattle.model.specs.Refusals as model
+use Rattle.model.specs.Advance.{singleton}
 use Rattle.model.specs.Firm.{FirmRule}
 use Rattle.model.specs.WithdrawSet.{Enumerates, SetBelow}
 use Rattle.model.proofs.Bools.{not-true-false}

@@ -7,7 +7,7 @@ use Prim.Native.Nat.{ℕ, suc}
 use lib.ListN.{drop}
 use lib.Dec.{ltb}
 use Rattle.model.specs.Search.{bit}
-use Rattle.model.specs.Book as model
+use Rattle.model.specs.Refusals as model
 use Rattle.table.specs.Numbers.{FirstOf, NoneOf}
 use Rattle.run.specs.declared.Run.{Run}
 use Rattle.run.specs.declared.Answer.{Answer}

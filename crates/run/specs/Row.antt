@@ -8,7 +8,7 @@ use Prim.Native.Nat.{ℕ, suc}
 use lib.ListN.{replicate}
 use lib.Dec.{ltb}
 use Rattle.model.specs.Row.{row}
-use Rattle.model.specs.Book as model
+use Rattle.model.specs.Refusals as model
 use Rattle.model.specs.Sizes.{mostCores}
 use Rattle.table.specs.Numbers.{FirstOf, NoneOf}
 use Rattle.run.specs.declared.Run.{Run}

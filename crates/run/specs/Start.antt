@@ -5,7 +5,7 @@ use mathlib.Core.List.{List, map, _++_}
 use Prim.Native.Nat.{ℕ, _-_}
 use lib.ListN.{length, replicate}
 use Rattle.model.specs.Task as model
-use Rattle.model.specs.Book as book
+use Rattle.model.specs.Refusals as book
 use Rattle.model.specs.Verdict as verdict
 use Rattle.model.specs.Sizes.{mostTasks}
 use Rattle.table.specs.Words.{rule, tableOf}

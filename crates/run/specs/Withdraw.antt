@@ -6,7 +6,8 @@ use mathlib.Core.Bool.{Bool, cond}
 use mathlib.Core.List.{List, [], _∷_}
 use Prim.Native.Nat.{ℕ, suc}
 use lib.ListN.{drop, length, replicate}
-use Rattle.model.specs.Book as model
+use Rattle.model.specs.Advance as entries
+use Rattle.model.specs.Refusals as answers
 use Rattle.model.specs.WithdrawSet.{Enumerates, SetBelow}
 use Rattle.table.specs.Numbers.{FirstOf, NoneOf}
 use Rattle.run.specs.declared.Run.{Run}
@@ -25,7 +26,7 @@ withdrawAnswer r unknown = cond (runOut r) (Refused 14 0) (cond (firmIn r) (cond
 unfoldable pub withdrawOf : Run → ℕ → Advanced
 withdrawOf r p = record {
   answer = withdrawAnswer r (unknownIn r p);
-  run = byAnswer (withdrawAnswer r (unknownIn r p)) (withdrawnIn (model.singleton p) r) r;
+  run = byAnswer (withdrawAnswer r (unknownIn r p)) (withdrawnIn (entries.singleton p) r) r;
 }
 
 -- the run with all positions of a set withdrawn; where refused, the run as given
@@ -38,14 +39,14 @@ withdrawAllOf r x = record {
 -- what a withdrawal of the positions of set x from run r guarantees; `unknownPosition` is the statement that one of them is not in the run
 pub record WithdrawnOf (r : Run) (unknown : Type 0) (x : ℕ) (a : Advanced) : Type 0 where
   -- refused with n and p exactly if number n applies with position p and no earlier one does; taken exactly if none applies
-  pub refused : (n p : ℕ) → (answerMeaning (a .answer) ≡ model.refused n p) ↔ FirstOf (WithdrawApplies r unknown) n p
-  pub taken : (answerMeaning (a .answer) ≡ model.taken) ↔ NoneOf (WithdrawApplies r unknown)
+  pub refused : (n p : ℕ) → (answerMeaning (a .answer) ≡ answers.refused n p) ↔ FirstOf (WithdrawApplies r unknown) n p
+  pub taken : (answerMeaning (a .answer) ≡ answers.taken) ↔ NoneOf (WithdrawApplies r unknown)
   -- taken: only the withdrawn set changes
-  pub on : answerMeaning (a .answer) ≡ model.taken → a .run ≡ withdrawnIn x r
+  pub on : answerMeaning (a .answer) ≡ answers.taken → a .run ≡ withdrawnIn x r
   -- refused: the run as given
-  pub as-given : (n p : ℕ) → answerMeaning (a .answer) ≡ model.refused n p → a .run ≡ r
+  pub as-given : (n p : ℕ) → answerMeaning (a .answer) ≡ answers.refused n p → a .run ≡ r
   -- the run after a taken withdrawal passes 14 again
-  pub passes : answerMeaning (a .answer) ≡ model.taken → ¬ RunOut (a .run)
+  pub passes : answerMeaning (a .answer) ≡ answers.taken → ¬ RunOut (a .run)
   -- places past the count are as given
   pub past : drop (r .count) (a .run .tasks) ≡ drop (r .count) (r .tasks)
 
@@ -54,7 +55,7 @@ pub record WithdrawOf (r : Run) (p : ℕ) (a : Advanced) : Type 0 where
   -- its value
   pub value : a ≡ withdrawOf r p
   -- and the meaning of it
-  pub exact : WithdrawnOf r (NoSuchPosition r p) (model.singleton p) a
+  pub exact : WithdrawnOf r (NoSuchPosition r p) (entries.singleton p) a
 
 -- SEVERAL TOGETHER
 

@@ -10,7 +10,7 @@ use lib.ListN.{length}
 use borrow.Author.Tests.{ltb-true, ltb-false}
 use Rattle.model.specs.Search.{any, least}
 use Rattle.model.specs.Task.{Table, AllValid}
-use Rattle.model.specs.Book.{NeverMissed}
+use Rattle.model.specs.Lists.{NeverMissed}
 use Rattle.model.specs.Horizon.{horizon, lastS, hyperperiod}
 use Rattle.model.specs.Firm.{firm}
 use Rattle.model.specs.Verdict.{Verdict, Firm, Full, Miss, verdict, firstMiss, missedIn, missedAt, FirstMiss}

@@ -9,7 +9,9 @@ use native.Mathlib.Omega.{arith}
 use lib.ListN.{length, getD, replicate}
 use Rattle.model.specs.Search.{bit, upFrom}
 use Rattle.model.specs.Task.{Table, AllValid, Task, task, release, due}
-use Rattle.model.specs.Book.{Book, Job, full, inRow, Missed}
+use Rattle.model.specs.Jobs.{Book, Job}
+use Rattle.model.specs.Claims.{inRow}
+use Rattle.model.specs.Lists.{full, Missed}
 use Rattle.model.specs.Verdict.{FirstMiss}
 use Rattle.model.proofs.Jobs.{newest-is}
 use Rattle.table.specs.declared.Loaded.{Loaded}

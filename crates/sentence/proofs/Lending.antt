@@ -5,7 +5,8 @@ use mathlib.Core.Path.{_≡_, refl, ap, ap₂, _∙_, fun-ext}
 use Prim.Native.Nat.{ℕ, suc}
 use lib.Dec.{eqb, leb}
 use lib.ListN.{length, getD}
-use Rattle.model.specs.Book.{Book, claims, inRow, taskClaims, widths}
+use Rattle.model.specs.Jobs.{Book}
+use Rattle.model.specs.Claims.{claims, inRow, taskClaims, widths}
 use Rattle.model.specs.Fence.{unfencedCores}
 use Rattle.model.specs.Grants.{Claimant, claimants, given, grants, left, some}
 use Rattle.model.specs.Horizon.{horizon}

@@ -11,7 +11,10 @@ use lib.ListN.{length, getD, length-map, List·getD-eq-default}
 use borrow.Author.Tests.{leb-true, leb-false, not-true}
 use Rattle.model.specs.Search.{upFrom}
 use Rattle.model.specs.Task.{Table, AllValid, task, release}
-use Rattle.model.specs.Book.{Book, Job, full, work, served, jobClaims, inRow}
+use Rattle.model.specs.Jobs.{Book, Job}
+use Rattle.model.specs.Claims.{served, jobClaims, inRow}
+use Rattle.model.specs.Advance.{work}
+use Rattle.model.specs.Lists.{full}
 use Rattle.model.specs.Verdict.{FirstMiss}
 use Rattle.model.proofs.Bools.{and-left, and-right, not-true-false}
 use Rattle.model.proofs.Jobs.{after-release}

@@ -11,7 +11,9 @@ use lib.Seq.{getD-take, length-take-le, ext-getD}
 use borrow.Author.Tests.{leb-true, leb-false, le-leb, lt-leb}
 use Rattle.model.specs.Search.{bit, upFrom}
 use Rattle.model.specs.Task.{Table, AllValid, task, release, due}
-use Rattle.model.specs.Book.{Book, full, inRow, Missed, shownOf}
+use Rattle.model.specs.Jobs.{Book}
+use Rattle.model.specs.Claims.{inRow, shownOf}
+use Rattle.model.specs.Lists.{full, Missed}
 use Rattle.model.specs.Grants.{some}
 use Rattle.model.specs.Verdict.{FirstMiss}
 use Rattle.model.proofs.FullLength.{empty-full, full-length}

@@ -2,7 +2,7 @@
 use mathlib.Core.List.{List}
 use Prim.Native.Nat.{ℕ, _<_}
 use lib.ListN.{length}
-use Rattle.model.specs.Book.{NeverMissed}
+use Rattle.model.specs.Lists.{NeverMissed}
 use Rattle.table.specs.Words.{tableOf}
 use Rattle.table.specs.Numbers.{FirstOf, NoneOf}
 use Rattle.table.specs.Numbers as table

@@ -7,7 +7,9 @@ use lib.Dec.{leb}
 use lib.ListN.{length, replicate}
 use Rattle.model.specs.Search.{least, upFrom}
 use Rattle.model.specs.Task.{Table, task, newest}
-use Rattle.model.specs.Book.{Book, book, noReports, inRow}
+use Rattle.model.specs.Jobs.{Book}
+use Rattle.model.specs.Claims.{inRow}
+use Rattle.model.specs.Lists.{book, noReports}
 use Rattle.model.specs.Verdict.{missedAt, firstMiss}
 use Rattle.table.specs.Words.{tableOf}
 use Rattle.sentence.specs.Facts.{Facts, named}

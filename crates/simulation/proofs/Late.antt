@@ -9,7 +9,7 @@ use lib.Dec.{eqb, ltb}
 use borrow.Author.Tests.{eqb-true, eq-eqb, ltb-true, lt-ltb}
 use Rattle.model.specs.Search.{any, least, bit}
 use Rattle.model.specs.Task.{Table, task, AllValid}
-use Rattle.model.specs.Book.{full, Missed}
+use Rattle.model.specs.Lists.{full, Missed}
 use Rattle.model.specs.Verdict.{missedAt, missedIn}
 use Rattle.model.proofs.Bools.{and-left, and-right, and-both, same-test, not-true-false}
 use Rattle.model.proofs.Search.{any-some, any-of, least-any, least-lowest}

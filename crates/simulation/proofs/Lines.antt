@@ -4,7 +4,9 @@ use mathlib.Core.Bool.{Bool, true, false, _&&_, cond}
 use Prim.Native.Nat.{ℕ, suc}
 use lib.Dec.{leb}
 use Rattle.model.specs.Task.{Task, Rule}
-use Rattle.model.specs.Book.{Job, claims, work}
+use Rattle.model.specs.Jobs.{Job}
+use Rattle.model.specs.Claims.{claims}
+use Rattle.model.specs.Advance.{work}
 use Rattle.model.proofs.Jobs.{mk}
 
 -- a line after a tick in which its task had cores or not, with no report

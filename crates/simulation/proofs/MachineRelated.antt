@@ -12,7 +12,9 @@ use lib.Dec.{leb}
 use borrow.Author.Tests.{leb-true, leb-false}
 use Rattle.model.specs.Search.{bit}
 use Rattle.model.specs.Task.{Task, Table, task, AllValid}
-use Rattle.model.specs.Book.{Job, emptyBook, inRow, served, full}
+use Rattle.model.specs.Jobs.{Job, emptyBook}
+use Rattle.model.specs.Claims.{inRow, served}
+use Rattle.model.specs.Lists.{full}
 use Rattle.model.proofs.Runs.{full-tick, full-claimed, full-next}
 use Rattle.model.proofs.Digits.{bit-none}
 use Rattle.simulation.specs.Machine.{Machine, started, withRelease, finishes, workedTick, Sized}

@@ -9,7 +9,7 @@ use lib.ListN.{length, getD}
 use lib.Seq.{getD-set-other}
 use Rattle.model.specs.Search.{bit}
 use Rattle.model.specs.Task.{Table, task, AllValid}
-use Rattle.model.specs.Book.{full}
+use Rattle.model.specs.Lists.{full}
 use Rattle.simulation.specs.Machine.{Machine, withRelease, finishes, workedTick}
 use Rattle.simulation.proofs.Place.{pass-related, event-first}
 use Rattle.simulation.proofs.Moves.{worked-event}

@@ -8,7 +8,8 @@ use native.Mathlib.Omega.{arith}
 use lib.Dec.{leb, ltb, eqb}
 use borrow.Author.Tests.{leb-true, leb-false, eqb-true, eqb-false, le-leb, lt-leb, lt-ltb}
 use Rattle.model.specs.Task.{Task, ValidTask, Rule, release, due, newest}
-use Rattle.model.specs.Book.{Job, fresh, claims}
+use Rattle.model.specs.Jobs.{Job, fresh}
+use Rattle.model.specs.Claims.{claims}
 use Rattle.model.proofs.Jobs.{mk, claims-if, newest-is, others, done-off}
 use Rattle.model.proofs.Faithful.{no-claim-before}
 use Rattle.simulation.specs.PlaceRelation.{PlaceWorks, PlaceRests, PlaceRelatedAt}

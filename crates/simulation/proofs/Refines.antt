@@ -8,7 +8,7 @@ use Rattle.model.specs.Fence.{unfencedCores}
 use Rattle.model.specs.Search.{bit}
 use Rattle.model.specs.Task.{Table, AllValid}
 use Rattle.model.specs.Grants.{claimants, grants, some}
-use Rattle.model.specs.Book.{Missed}
+use Rattle.model.specs.Lists.{Missed}
 use Rattle.rule.specs.Widths.{widthsIn}
 use Rattle.simulation.specs.Machine.{Machine, started, releasedDue, workedTick}
 use Rattle.simulation.specs.TickState.{toggledBy}

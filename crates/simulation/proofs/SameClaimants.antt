@@ -13,7 +13,8 @@ use Rattle.model.specs.Search.{bit, upFrom}
 use Rattle.model.specs.Task.{Table, task, absentTask, AllValid, newest, widthOf}
 use Rattle.model.specs.Grants.{Claimant, claimants, grants, some}
 use Rattle.model.specs.Row.{byteOf, owner, row}
-use Rattle.model.specs.Book.{claims, taskClaims, widths, grantsOf, bookRow, inRow, full}
+use Rattle.model.specs.Claims.{claims, taskClaims, widths, grantsOf, bookRow, inRow}
+use Rattle.model.specs.Lists.{full}
 use Rattle.model.proofs.Bools.{not-false-true}
 use Rattle.simulation.specs.Machine.{Machine, GrantedOwed}
 use Rattle.model.proofs.Runs.{full-tick, full-claimed, full-row}

@@ -11,7 +11,7 @@ use lib.Seq.{getD-set-other}
 use lib.Dec.{eqb}
 use borrow.Author.Tests.{eq-eqb, ne-eqb, eqb-true, eqb-false}
 use Rattle.model.specs.Task.{Table, AllValid}
-use Rattle.model.specs.Book.{Missed}
+use Rattle.model.specs.Lists.{Missed}
 use Rattle.simulation.specs.Machine.{Machine, withRelease, releasedDue, earliest}
 use Rattle.simulation.proofs.MachineRelated.{Walked, MachineRelated, Columns, walk-pass, walk-release}
 use Rattle.simulation.proofs.NextEvent.{NextEventBound, next-event-more}

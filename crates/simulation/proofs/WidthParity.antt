@@ -10,7 +10,8 @@ use lib.Dec.{eqb}
 use borrow.Author.Tests.{eqb-true}
 use Rattle.model.specs.Search.{bit}
 use Rattle.model.specs.Task.{Task, Table, task, ValidTask, AllValid, release, widthOf, newest}
-use Rattle.model.specs.Book.{Job, full}
+use Rattle.model.specs.Jobs.{Job}
+use Rattle.model.specs.Lists.{full}
 use Rattle.model.proofs.Runs.{full-claimed}
 use Rattle.rule.specs.Widths.{widthIn}
 use Rattle.simulation.specs.Machine.{Machine, started, workedTick}

@@ -4,7 +4,7 @@ use mathlib.Core.Bool.{Bool, true, false, not, _&&_}
 use Prim.Native.Nat.{ℕ, suc, _+_, _%_, _≤_, _<_}
 use lib.Dec.{eqb}
 use Rattle.model.specs.Task.{Task, release, due}
-use Rattle.model.specs.Book.{Job, fresh}
+use Rattle.model.specs.Jobs.{Job, fresh}
 
 -- `handledTo` counts the ticks whose due events have been handled: it is t before those of tick t are, and t + 1 after.
 

@@ -15,7 +15,10 @@ use Rattle.model.proofs.Grants.{runs-if}
 use Rattle.model.proofs.Jobs.{claims-if, mk, newest-is, next, next-ended}
 use Rattle.model.proofs.Runs.{full-next, full-tick, bounds-full}
 use Rattle.model.proofs.Search.{least-found, least-most}
-use Rattle.model.specs.Book.{Job, NeverMissed, full, inRow, jobClaims, served, taskClaims, work}
+use Rattle.model.specs.Jobs.{Job}
+use Rattle.model.specs.Claims.{inRow, jobClaims, served, taskClaims}
+use Rattle.model.specs.Advance.{work}
+use Rattle.model.specs.Lists.{NeverMissed, full}
 use Rattle.model.specs.Fence.{unfencedCores, unfencedCount}
 use Rattle.model.specs.Grants.{claimants, grants}
 use Rattle.model.specs.Search.{filtered, least, upFrom}

@@ -7,8 +7,8 @@ use native.Mathlib.Nat.{le-trans}
 use native.Mathlib.Omega.{arith}
 use lib.ListN.{getD, length}
 use Rattle.model.proofs.Lists.{getD-zeros}
-use Rattle.model.specs.Book as book
-use Rattle.model.specs.Book.{NeverMissed}
+use Rattle.model.specs.Refusals as book
+use Rattle.model.specs.Lists.{NeverMissed}
 use Rattle.model.specs.Task.{AllValid, Table, task}
 use Rattle.table.proofs.Exact.{passed-exact, refusal-exact}
 use Rattle.table.proofs.Order.{first-only, later, not-before-itself, number-most}

@@ -9,7 +9,7 @@ use lib.ListN.{drop, length, replicate}
 use Rattle.model.proofs.Computing.{computing}
 use Rattle.model.proofs.Examples.{on, t}
 use Rattle.model.proofs.Verdict.{verdict-exact}
-use Rattle.model.specs.Book.{NeverMissed}
+use Rattle.model.specs.Lists.{NeverMissed}
 use Rattle.model.specs.Sizes.{mostTasks}
 use Rattle.model.specs.Task.{AllValid, Rule, Table, greedy, idling, lending}
 use Rattle.model.specs.Verdict.{Firm, Full, Miss, Verdict, verdict}

@@ -10,7 +10,7 @@ use lib.ListN.{length}
 use borrow.Author.Tests.{ltb-false, ltb-true}
 use Rattle.model.proofs.Bools.{not-false-true}
 use Rattle.model.proofs.Search.{least-found, least-lowest, least-most}
-use Rattle.model.specs.Book.{Missed, NeverMissed}
+use Rattle.model.specs.Lists.{Missed, NeverMissed}
 use Rattle.model.specs.Search.{least}
 use Rattle.model.specs.Task.{AllValid, Table, Task, task}
 use Rattle.table.specs.Limits.{mostTime}

@@ -8,7 +8,7 @@ use native.Mathlib.Nat.{add-zero, le-refl, le-trans, suc-inj, suc-ne-zero}
 use native.Mathlib.Omega.{arith}
 use lib.ListN.{getD, length, length-set, set}
 use lib.Seq.{getD-set-same, set-getD}
-use Rattle.model.specs.Book.{NeverMissed}
+use Rattle.model.specs.Lists.{NeverMissed}
 use Rattle.model.specs.Firm.{ParallelismMonotonic}
 use Rattle.model.specs.Horizon.{S, horizon, hyperperiod, lastS}
 use Rattle.model.specs.Task.{AllValid, ValidTask, Table, Task, absentTask, task}

@@ -10,7 +10,7 @@ use lib.Dec.{leb}
 use lib.ListN.{length}
 use borrow.Author.Tests.{leb-false, leb-true}
 use Rattle.model.proofs.Verdict.{verdict-exact}
-use Rattle.model.specs.Book.{Missed, NeverMissed}
+use Rattle.model.specs.Lists.{Missed, NeverMissed}
 use Rattle.model.specs.Firm.{FirmRule}
 use Rattle.model.specs.Horizon.{hyperperiod, lastS}
 use Rattle.model.specs.Task.{AllValid, Table, task}

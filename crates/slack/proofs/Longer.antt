@@ -14,7 +14,10 @@ use Rattle.model.proofs.Jobs.{Releasing, after-release, before-due, claims-if, 
 use Rattle.model.proofs.Lists.{map-at}
 use Rattle.model.proofs.Runs.{full-next, full-tick, missed-at}
 use Rattle.model.proofs.Sustain.{GrantsMono, mono-greedy, mono-limited, monotonic-widths}
-use Rattle.model.specs.Book.{Job, NeverMissed, claims, full, holds, inRow, jobClaims, served, taskClaims, widths, work}
+use Rattle.model.specs.Jobs.{Job}
+use Rattle.model.specs.Claims.{claims, holds, inRow, jobClaims, served, taskClaims, widths}
+use Rattle.model.specs.Advance.{work}
+use Rattle.model.specs.Lists.{NeverMissed, full}
 use Rattle.model.specs.Fence.{unfencedCores, unfenced}
 use Rattle.model.specs.Grants.{claimants, grants, some}
 use Rattle.model.specs.Task.{AllValid, Rule, Table, Task, due, newest, absentTask, release, task, widthOf}

@@ -12,7 +12,10 @@ use Rattle.model.proofs.Horizon.{horizon-enough}
 use Rattle.model.proofs.Jobs.{mk, next}
 use Rattle.model.proofs.Runs.{full-fresh, full-next, full-whole, missed-at}
 use Rattle.model.proofs.Search.{any-of, any-some}
-use Rattle.model.specs.Book.{Job, Missed, NeverMissed, full, served, work}
+use Rattle.model.specs.Jobs.{Job}
+use Rattle.model.specs.Claims.{served}
+use Rattle.model.specs.Advance.{work}
+use Rattle.model.specs.Lists.{Missed, NeverMissed, full}
 use Rattle.model.specs.Horizon.{horizon}
 use Rattle.model.specs.Task.{AllValid, Table, due, release, task}
 use Rattle.model.specs.Verdict.{missedIn}

@@ -8,7 +8,7 @@ use native.Mathlib.Omega.{arith}
 use borrow.Author.Tests.{not-true}
 use Rattle.model.proofs.Bools.{and-both, and-left, and-right}
 use Rattle.model.proofs.Verdict.{monotonic-exact}
-use Rattle.model.specs.Book.{NeverMissed}
+use Rattle.model.specs.Lists.{NeverMissed}
 use Rattle.model.specs.Task.{AllValid, Rule, Table, greedy, idling, lending, limited, ruleOf}
 use Rattle.table.proofs.Passed.{passed-rule}
 use Rattle.table.specs.Numbers.{NoneApplies}

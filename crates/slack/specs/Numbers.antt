@@ -1,7 +1,7 @@
 -- Numbers for what `slack` turns down: the table's, then 23 (request 111); when each applies, and which is the first.
 use mathlib.Core.List.{List}
 use Prim.Native.Nat.{ℕ}
-use Rattle.model.specs.Book.{NeverMissed}
+use Rattle.model.specs.Lists.{NeverMissed}
 use Rattle.table.specs.Numbers.{FirstOf, NoneOf}
 use Rattle.table.specs.Numbers as table
 use Rattle.table.specs.Words.{tableOf}

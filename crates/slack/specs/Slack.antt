@@ -2,7 +2,7 @@
 use mathlib.Core.Bool.{Bool}
 use mathlib.Core.Logic.{_⊎_}
 use Prim.Native.Nat.{ℕ, suc, _+_, _-_, _<_, _≤_}
-use Rattle.model.specs.Book.{Missed, NeverMissed}
+use Rattle.model.specs.Lists.{Missed, NeverMissed}
 use Rattle.model.specs.Horizon.{horizon}
 use Rattle.model.specs.Search.{any, least}
 use Rattle.model.specs.Task.{Table, task}

@@ -4,7 +4,8 @@ use Prim.Native.Char.{code}
 use Prim.Native.Nat.{ℕ, zero, suc, _+_, _*_}
 use Prim.Native.String.{String}
 use Rattle.model.specs.Task.{Table}
-use Rattle.model.specs.Book.{full, bookRow}
+use Rattle.model.specs.Claims.{bookRow}
+use Rattle.model.specs.Lists.{full}
 use Rattle.model.specs.Horizon.{horizon}
 use Rattle.model.specs.Verdict.{Verdict, Firm, Full, Miss, verdict}
 use Rattle.model.specs.Sizes.{mostCores}

@@ -1,7 +1,7 @@
 -- `capi::run_buffer::withdraw` meets its contract: a withdrawal of the run that the buffer holds, or 14.
 -- Assumes nothing.
 use mathlib.Core.Path.{sym, _∙_}
-use Rattle.model.specs.Book.{Entry, withdraw}
+use Rattle.model.specs.Advance.{Entry, withdraw}
 use Rattle.capi.proofs.Places.{held-long, held-few}
 use Rattle.capi.proofs.Keeping.{entry-few, entry-held, entry-none}
 use borrow.Author.Needs.{needs}

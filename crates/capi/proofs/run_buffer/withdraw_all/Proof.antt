@@ -1,7 +1,7 @@
 -- `capi::run_buffer::withdraw_all` meets its contract: a withdrawal of a set from the run that the buffer holds, or 14.
 -- Assumes nothing.
 use mathlib.Core.Path.{sym, _∙_}
-use Rattle.model.specs.Book.{Entry, withdrawAll}
+use Rattle.model.specs.Advance.{Entry, withdrawAll}
 use Rattle.capi.proofs.Places.{held-long, held-few}
 use Rattle.capi.proofs.Keeping.{entry-few, entry-held, entry-none}
 use borrow.Author.Needs.{needs}

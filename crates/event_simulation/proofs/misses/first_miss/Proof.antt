@@ -8,7 +8,7 @@ use mathlib.Core.Path.{_≡_, refl, sym, ap, _∙_, subst}
 use mathlib.Core.List.{List}
 use Prim.Native.Nat.{ℕ, zero, suc, _+_, _-_, _≤_, _<_}
 use lib.ListN.{getD}
-use Rattle.model.specs.Book.{Missed}
+use Rattle.model.specs.Lists.{Missed}
 use Rattle.table.specs.declared.Loaded.{Loaded}
 use Rattle.simulation.specs.declared.columns.Setting.{Setting}
 use Rattle.simulation.specs.Machine.{machineOf}

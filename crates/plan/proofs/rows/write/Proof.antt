@@ -8,7 +8,7 @@ use mathlib.Core.Logic.{⊎-elim}
 use native.Mathlib.Nat.{mul-le-mul}
 use Prim.Native.Nat.{ℕ, _+_, _-_, _*_, _≤_}
 use lib.ListN as list
-use Rattle.model.specs.Book.{Missed}
+use Rattle.model.specs.Lists.{Missed}
 use Rattle.model.specs.Sizes.{mostCores}
 use Rattle.table.specs.declared.Loaded.{Loaded}
 use Rattle.simulation.specs.TickState.{Numbers, numbersBy, loadedNumbers, TickState, tickStateOf, afterEvents, nextEventAfter, evenAtTick, Steppable, nextTickState}

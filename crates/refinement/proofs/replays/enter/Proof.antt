@@ -6,7 +6,7 @@ use Prim.Native.Nat.{ℕ}
 use lib.Dec.{eqb}
 use borrow.Author.Needs.{needs}
 use borrow.Author.Tests.{eq-eqb, ne-eqb}
-use Rattle.model.specs.Book.{advance, withdraw, withdrawAll}
+use Rattle.model.specs.Advance.{advance, withdraw, withdrawAll}
 use Rattle.run.specs.declared.Run.{Run}
 use Rattle.run.specs.declared.Advanced.{Advanced}
 use Rattle.refinement.specs.Entries.{entryOf}

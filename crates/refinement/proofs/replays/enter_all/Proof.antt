@@ -10,7 +10,7 @@ use borrow.Author.Needs.{needs}
 use Rattle.run.specs.declared.Run.{Run}
 use Rattle.run.specs.declared.Advanced.{Advanced}
 use Rattle.run.specs.Answer.{answerMeaning}
-use Rattle.model.specs.Book.{Entry}
+use Rattle.model.specs.Advance.{Entry}
 use Rattle.model.specs.Search.{upFrom}
 use Rattle.refinement.specs.Entries.{entryOf, answers, runAfterList}
 use Rattle.refinement.specs.Listing.{entryCount, entryAt}
