@@ -33,7 +33,7 @@ extern "C" {
 /* The version of this header; sivorandra_version returns that of the library that is linked. One number, which grows with the version:
    major * 10000 + minor * 100 + patch. */
 #define SIVORANDRA_VERSION_MAJOR 0
-#define SIVORANDRA_VERSION_MINOR 17
+#define SIVORANDRA_VERSION_MINOR 20
 #define SIVORANDRA_VERSION_PATCH 0
 #define SIVORANDRA_VERSION (SIVORANDRA_VERSION_MAJOR * 10000 + SIVORANDRA_VERSION_MINOR * 100 + SIVORANDRA_VERSION_PATCH)
 #define SIVORANDRA_VERSION_TEXT "0.20.0"
