@@ -258,7 +258,7 @@ class Lines:
 
     def tasks(self, rows: List[Row], header: int) -> List[Task]:
         found = [self.task(row) for row in rows if not row.empty() and not self.second_header(row)]
-        if not found:
+        if not found and not any(fault.line > header for fault in self.faults.found):
             self.faults.at(header, "no task stands below the header; one or more were expected")
         return found
 

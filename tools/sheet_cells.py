@@ -161,7 +161,7 @@ def rows(text: str, delimiter: str) -> Tuple[List[Row], Optional[Fault]]:
 
 def broken(text: str, line: int, delimiter: str) -> Fault:
     """The cell that is no cell, in the row that begins at this line: its quotation marks do not pair, or something stands behind the second."""
-    quoted = re.compile(rf' *(?:"(?:[^"]|"")*"|[^"{delimiter}\r\n][^{delimiter}\r\n]*|)(?=[{delimiter}\r\n]|\Z)')
+    quoted = re.compile(rf' *(?:"(?:[^"]|"")*"|[^" {delimiter}\r\n][^{delimiter}\r\n]*|)(?=[{delimiter}\r\n]|\Z)')
     rest = "".join(list(io.StringIO(text, newline=""))[line - 1:])
     column = at = 0
     found = quoted.match(rest)
