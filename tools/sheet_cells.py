@@ -7,7 +7,7 @@ import io
 import re
 import unicodedata
 from dataclasses import dataclass
-from typing import Iterator, List, Optional, Tuple
+from typing import Iterator, List, Optional, Sequence, Tuple
 
 MOST_BYTES = 1_000_000  # of a sheet
 MOST_FAULTS = 20  # that are told; so with notes
@@ -78,9 +78,9 @@ class Faults:
         self.at(cell.line, words, cell.column)
 
     def lines(self) -> List[str]:
-        """The faults in the order of their places; of more than 20 the first 20 and then how many there are."""
+        """The faults in the order of their places, 20 at most and then their number."""
         ordered = sorted(self.found, key=lambda fault: (fault.line, -1 if fault.column is None else fault.column))
-        return first_lines([str(fault) for fault in ordered], "faults")
+        return first_lines(ordered, "faults")
 
 
 class Faulty(Exception):
@@ -99,8 +99,10 @@ def line_ends(text: str) -> int:
     return len(LINE_END.findall(text)) if "\n" in text or "\r" in text else 0
 
 
-def first_lines(lines: List[str], what: str) -> List[str]:
-    return lines if len(lines) <= MOST_FAULTS else [*lines[:MOST_FAULTS], f"{len(lines)} {what} in all, of which these are the first {MOST_FAULTS}"]
+def first_lines(found: Sequence[object], what: str) -> List[str]:
+    """What was found, a line each; of more than 20 the first 20 and then how many there are."""
+    lines = [str(one) for one in found[:MOST_FAULTS]]
+    return lines if len(found) <= MOST_FAULTS else [*lines, f"{len(found)} {what} in all, of which these are the first {MOST_FAULTS}"]
 
 
 def letters(column: int) -> str:
@@ -126,6 +128,8 @@ def shown(text: str, most: Optional[int] = MOST_SHOWN) -> str:
     """A text as it may be shown: control characters, and those that turn the direction of writing, are escaped; a long one is cut."""
     cut = most is not None and len(text) > most
     text = text[:most] if cut else text
+    if text.isprintable():
+        return text + ("..." if cut else "")
     return "".join(one if one.isprintable() else escaped(one) for one in text) + ("..." if cut else "")
 
 
@@ -147,12 +151,13 @@ def decoded(data: bytes) -> str:
 
 
 def rows(text: str, delimiter: str) -> Tuple[List[Row], Optional[Fault]]:
-    """The lines of cells by this delimiter, and the fault at which reading ends, if any."""
+    """The lines of cells by this delimiter, without empty ones, and the fault at which reading ends, if any."""
     lines = csv.reader(io.StringIO(text, newline=""), delimiter=delimiter, strict=True, skipinitialspace=True)
     found, line, has_nul = [], 1, NUL in text
     try:
         for texts in lines:
-            found.append(Row([one.replace(NUL, "\0") for one in texts] if has_nul else texts, line))
+            if any(texts):
+                found.append(Row([one.replace(NUL, "\0") for one in texts] if has_nul else texts, line))
             line = lines.line_num + 1
     except csv.Error:
         return found, broken(text, line, delimiter)
