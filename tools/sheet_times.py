@@ -86,7 +86,7 @@ def quantity(text: str, form: Form, unit: Optional[str], expected: str) -> Tuple
         raise Wrong(f"{shown(text)} has more than {LONGEST} digits; {expected} was expected")
     if sign == "," and not form.comma:
         raise Wrong(f"{shown(text)} has a comma; a decimal comma is read in sheets with semicolons only, and no separator of thousands anywhere")
-    if sign == "." and not form.point and len(after) == 3 and THOUSANDS.fullmatch(before):
+    if sign == "." and (own or unit) and not form.point and len(after) == 3 and THOUSANDS.fullmatch(before):
         raise Wrong(f"{shown(text)} can be read in two ways; {before}{after} or {before}.{after}0 was expected")
     return Fraction(int(before + (after or "")), 10 ** len(after or "")), own or unit
 

@@ -127,6 +127,8 @@ class Times(unittest.TestCase):
         self.assertEqual(self.time("1.5 ms", semicolons), "6")
         self.assertEqual(self.time("0.125 s", semicolons), "500")
         self.assertEqual(self.time("1.000 ms", semicolons), "1.000 ms can be read in two ways; 1000 or 1.0000 was expected")
+        self.assertEqual(self.time("1.000", semicolons), f"1.000 is no whole number of ticks, and has no unit; {EXPECTED}")
+        self.assertEqual(self.time("1.000", semicolons, "ms"), "1.000 can be read in two ways; 1000 or 1.0000 was expected")
         self.assertEqual(self.time("1.0000 ms", semicolons), "4")
         self.assertEqual(self.time("1.000 ms"), "4")
         self.assertEqual(self.time("1,5 ms"), "1,5 ms has a comma; a decimal comma is read in sheets with semicolons only, and no separator of thousands anywhere")
