@@ -51,6 +51,10 @@ class Cells(unittest.TestCase):
         text = MS + 'name,length,period\n"a\nb",1.3 ms,5 ms\nc,1.3 ms,5 ms\n'
         self.assertEqual(faults(text), ["line 6, column B: 1.3 ms is 5.2 ticks of 0.25 ms", "line 7, column B: 1.3 ms is 5.2 ticks of 0.25 ms"])
 
+    def test_lines_of_a_header_with_line_ends(self):
+        text = SETTINGS + '"name\nof it",length,"period\n(ticks)",task,"why\nso"\na,1,5,b,c\n'
+        self.assertEqual(tool.read(text.encode()).notes, ["line 3, column A: the column 'name\\nof it' is ignored", "line 5, column E: the column 'why\\nso' is ignored"])
+
     def test_lines_of_every_kind_of_line_end(self):
         for end in ("\n", "\r\n", "\r"):
             text = (MS + 'name,length,period\n"a\n\nb",1,5\n\nc,x,5\n').replace("\n", end)
@@ -261,6 +265,7 @@ class Tasks(unittest.TestCase):
         self.assertEqual(record(head + "a,4/2,,1,5\n")[2::4], ["4", "2"])
         self.assertEqual(record(head + "a,4,2,1,5\n")[2::4], ["4", "2"])
         self.assertEqual(record(head + "a,,3,1,5\n")[2::4], ["1", "3"])
+        self.assertEqual(record(head + "a,4,,1,5\n")[2::4], ["4", "4"])
         self.assertEqual(faults(head + "a,4/2,2,1,5\nb,x,-1,1,5\n"), [
             "line 4, column C: a second width stands in column B already",
             "line 5, column B: 'x' stands there; a whole number of cores, or two as 4/2, was expected",
