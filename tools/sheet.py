@@ -6,11 +6,11 @@ proved program answers; times with units become ticks where that is exact. What 
 import os
 import sys
 from dataclasses import dataclass, field
-from typing import Dict, List, Optional
+from typing import Callable, Dict, List, Optional, Tuple
 
 import sheet_cells
 from sheet_back import NoTable, sheet_of
-from sheet_cells import Cell, Faults, Faulty, Row, Wrong, first_lines, letters, normal, shown
+from sheet_cells import Cell, Fault, Faults, Faulty, Row, Wrong, first_lines, letters, normal, shown
 from sheet_columns import Column, columns_of, is_header, missing
 from sheet_times import Form, Tick, cores_of, order, rule_of, tick_of, time_of, whole, widths_of
 
@@ -96,7 +96,8 @@ class Sheet:
 
 def read(data: bytes) -> Sheet:
     """A sheet from its bytes; where it has faults they are raised."""
-    faults, notes = Faults(), []
+    faults = Faults()
+    notes: List[str] = []
     text = sheet_cells.decoded(data)
     rows, at, delimiter = header_in(text, faults)
     not_utf8(text, rows, faults)
@@ -111,11 +112,11 @@ def read(data: bytes) -> Sheet:
     return Sheet(settings, tasks, sorted(range(len(tasks)), key=lambda index: rank(tasks[index], index)), first_lines(notes, "notes"))
 
 
-def rank(task: Task, index: int) -> "tuple[int, str]":
+def rank(task: Task, index: int) -> Tuple[int, str]:
     return order(task.priority.digits if task.priority else str(index + 1))
 
 
-def header_in(text: str, faults: Faults) -> "tuple[List[Row], int, str]":
+def header_in(text: str, faults: Faults) -> Tuple[List[Row], int, str]:
     """The lines of cells by the delimiter with which one of them is a header, and the index of that one."""
     tried = []
     for delimiter in sheet_cells.DELIMITERS:
@@ -129,10 +130,10 @@ def header_in(text: str, faults: Faults) -> "tuple[List[Row], int, str]":
     raise Faulty(faults)
 
 
-def no_header(tried: "list[tuple]", faults: Faults) -> None:
+def no_header(tried: List[Tuple[List[Row], Optional[Fault]]], faults: Faults) -> None:
     """The fault of a sheet in which no line is a header."""
     if all(broken for _, broken in tried):
-        faults.found.append(max((broken for _, broken in tried), key=lambda fault: fault.line))
+        faults.found.append(max((broken for _, broken in tried if broken), key=lambda fault: fault.line))
         return
     near = next((near for near in (missing(rows) for rows, _ in tried) if near), None)
     line, words = (near[0], f"the header names no column for the {near[1]}") if near else (1, "no line names the columns length and period")
@@ -176,7 +177,7 @@ def given_in(rows: List[Row], faults: Faults) -> Dict[str, List[Cell]]:
     return given
 
 
-def settings_of(rows: List[Row], header: int, form: Form, faults: Faults) -> "tuple[Settings, Form]":
+def settings_of(rows: List[Row], header: int, form: Form, faults: Faults) -> Tuple[Settings, Form]:
     """The settings, and how numbers are written with the tick that they give."""
     given = given_in(rows, faults)
     for key in NEEDED:
@@ -189,7 +190,7 @@ def settings_of(rows: List[Row], header: int, form: Form, faults: Faults) -> "tu
     return settings, Form(form.comma, form.point, tick, tick is None and "tick" in given)
 
 
-def single(cells: Optional[List[Cell]], parse, faults: Faults) -> Value:
+def single(cells: Optional[List[Cell]], parse: Callable[[str], str], faults: Faults) -> Value:
     """The value of a setting that has one."""
     if not cells:
         return Value("0")
@@ -202,7 +203,7 @@ def single(cells: Optional[List[Cell]], parse, faults: Faults) -> Value:
     return Value("0")
 
 
-def tried(parse, cell: Cell, faults: Faults) -> Value:
+def tried(parse: Callable[[str], str], cell: Cell, faults: Faults) -> Value:
     """What a cell gives; a fault where it gives nothing."""
     try:
         return Value(parse(cell.text), cell)
@@ -254,7 +255,7 @@ class Lines:
     def __init__(self, columns: Dict[str, Column], form: Form, faults: Faults):
         self.columns, self.form, self.faults = columns, form, faults
         self.names: Dict[str, int] = {}
-        self.priorities: Dict["tuple[int, str]", int] = {}
+        self.priorities: Dict[Tuple[int, str], int] = {}
 
     def tasks(self, rows: List[Row], header: int) -> List[Task]:
         found = [self.task(row) for row in rows if not row.empty() and not self.second_header(row)]
@@ -265,7 +266,7 @@ class Lines:
     def second_header(self, row: Row) -> bool:
         if any(text[:1].isdigit() for text in row.texts) or not is_header(row):
             return False
-        self.faults.at(row.line, "a second header; one was expected")
+        self.faults.add(next(row.filled()), "a second header; one was expected")
         return True
 
     def task(self, row: Row) -> Task:
@@ -318,7 +319,7 @@ class Lines:
             self.faults.add(cell, f"the {name} is empty; a time was expected")
         return empty or Value("0", cell)
 
-    def widths(self, row: Row) -> "tuple[Value, Value]":
+    def widths(self, row: Row) -> Tuple[Value, Value]:
         """Both widths, from one cell or two."""
         cell, other = self.cell(row, "width"), self.cell(row, "second width")
         first, second = Value("1"), None

@@ -2,7 +2,7 @@
 import functools
 import re
 from dataclasses import dataclass
-from typing import Dict, List, Optional
+from typing import Dict, List, Optional, Tuple
 
 from sheet_cells import Cell, Faults, Row, SPACES, letters, place, shown
 from sheet_times import UNITS
@@ -109,7 +109,7 @@ def columns_of(row: Row, faults: Faults, notes: List[str]) -> Dict[str, Column]:
     return named
 
 
-def missing(rows: List[Row]) -> Optional["tuple[int, str]"]:
+def missing(rows: List[Row]) -> Optional[Tuple[int, str]]:
     """Where no line is a header: the line that is most like one, and what it lacks."""
     best = max(rows, key=lambda row: len(set(fields(row))), default=None)
     if best is None or len(set(fields(best))) < 2:

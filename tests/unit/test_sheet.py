@@ -200,7 +200,7 @@ class Columns(unittest.TestCase):
         self.assertEqual(len(faults(SETTINGS + "name,length,period,width,width of even jobs,priority class,offset?\na,1,5,4,2,1,0\n")), 3)
 
     def test_second_header(self):
-        self.assertEqual(faults(SETTINGS + HEADER + "a,1,5\nperiod,name,length\nb,1,5\n"), ["line 5: a second header; one was expected"])
+        self.assertEqual(faults(SETTINGS + HEADER + "a,1,5\nperiod,name,length\nb,1,5\n"), ["line 5, column A: a second header; one was expected"])
 
     def test_unit_without_tick(self):
         self.assertEqual(faults(SETTINGS + "name,length (ms),period\na,1,5\nb,1,5\n"), ["line 3, column B: the unit ms is given, and no line before the header gives the tick, such as 0.25 ms"])
