@@ -118,26 +118,22 @@ def rank(task: Task, index: int) -> Tuple[int, str]:
 
 def header_in(text: str, faults: Faults) -> Tuple[List[Row], int, str]:
     """The lines of cells by the delimiter with which one of them is a header, and the index of that one."""
-    tried = []
     for delimiter in sheet_cells.DELIMITERS:
         rows, broken = sheet_cells.rows(text, delimiter)
         at = next((at for at, row in enumerate(rows) if is_header(row)), None)
         if at is not None:
             faults.found += [broken] if broken else []
             return rows, at, delimiter
-        tried.append((rows, broken))
-    no_header(tried, faults)
+    faults.found.append(no_header(text))
     raise Faulty(faults)
 
 
-def no_header(tried: List[Tuple[List[Row], Optional[Fault]]], faults: Faults) -> None:
-    """The fault of a sheet in which no line is a header."""
-    if all(broken for _, broken in tried):
-        faults.found.append(max((broken for _, broken in tried if broken), key=lambda fault: fault.line))
-        return
-    near = next((near for near in (missing(rows) for rows, _ in tried) if near), None)
+def no_header(text: str) -> Fault:
+    """The fault of a sheet in which no line is a header: by the delimiter that stands there most, where reading ends or what is most like a header."""
+    rows, broken = sheet_cells.rows(text, max(sheet_cells.DELIMITERS, key=text.count))
+    near = missing(rows)
     line, words = (near[0], f"the header names no column for the {near[1]}") if near else (1, "no line names the columns length and period")
-    faults.at(line, f"{words}; a header such as name, length, period was expected, its cells apart by commas, semicolons or tabs")
+    return broken or Fault(line, None, f"{words}; a header such as name, length, period was expected, its cells apart by commas, semicolons or tabs")
 
 
 def not_utf8(text: str, rows: List[Row], faults: Faults) -> None:

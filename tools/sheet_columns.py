@@ -21,8 +21,8 @@ NAMES = {
 FIELD = {name: field for field, names in NAMES.items() for name in names}
 NEEDED = ("name", "length", "period")
 # A column that is not known, has one of these words, and could be meant for a column that would else have its default: better asked than ignored.
-MEANT = {"priority": {"priority", "prio"}, "offset": {"offset", "phase"}, "width": {"width", "cores", "processors"}, "deadline": {"deadline"}}
-MEANT_SECOND = {"second", "even"}, {"width", "cores"}
+MEANT = {"priority": {"priority", "prio"}, "offset": {"offset", "phase"}, "width": {"width", "core", "processor"}, "deadline": {"deadline"}}
+MEANT_SECOND = {"second", "even"}, {"width", "core"}
 LONGEST = 60  # characters: no name of a column that is known is longer
 IN_BRACKETS = re.compile(r"(.*?)\s*[(\[]\s*([^()\[\]]*?)\s*[)\]]", re.S)
 BEHIND = re.compile(r"(.+?)[\s_]+(?:in[\s_]+)?(ns|us|\u00b5s|\u03bcs|ms|s)", re.S)
@@ -79,7 +79,7 @@ def is_header(row: Row) -> bool:
 
 def meant(text: str, named: Dict[str, Column]) -> Optional[str]:
     """The column that a name that is not known could be meant for, where no other has it."""
-    words = set(re.findall("[a-z]+", plain(text)))
+    words = {word.rstrip("s") for word in re.findall("[a-z]+", plain(text))}
     if "second width" not in named and all(words & some for some in MEANT_SECOND):
         return "second width"
     return next((field for field, some in MEANT.items() if field not in named and words & some), None)

@@ -65,6 +65,8 @@ class Cells(unittest.TestCase):
         self.assertEqual(faults(SETTINGS + HEADER + '"a"b,1,5\n'), ["line 4, column A: something stands behind the closing quotation mark"])
         self.assertEqual(faults(SETTINGS + HEADER + '"a\n",1,"5"x\n'), ["line 5, column C: something stands behind the closing quotation mark"])
         self.assertEqual(faults('"cores,4\n'), ["line 1, column A: a quotation mark is opened and not closed"])
+        self.assertEqual(faults('cores,4\nrule,"greedy"x\n' + HEADER + "a,1,5\n"), ["line 2, column B: something stands behind the closing quotation mark"])
+        self.assertEqual(faults('"cores";4\n"rule";1\n"name";"period"\n')[0].split(";")[0], "line 3: the header names no column for the length")
         self.assertEqual(tool.read((SETTINGS + HEADER + '"a ""b"", c", "1",5\n').encode()).names(), ['a "b", c'])
 
     def test_size(self):
@@ -198,6 +200,7 @@ class Columns(unittest.TestCase):
                          ["line 3, column D: 'deadline (relative)' is not known, and no other column is named deadline; deadline was expected, or a name without that word"])
         self.assertEqual(faults(SETTINGS + "name,length,period,deadline,deadline type\na,1,5,4,hard\n"), [])
         self.assertEqual(len(faults(SETTINGS + "name,length,period,width,width of even jobs,priority class,offset?\na,1,5,4,2,1,0\n")), 3)
+        self.assertEqual(len(faults(SETTINGS + "name,length,period,core count\na,1,5,2\n")), 1)
 
     def test_second_header(self):
         self.assertEqual(faults(SETTINGS + HEADER + "a,1,5\nperiod,name,length\nb,1,5\n"), ["line 5, column A: a second header; one was expected"])
