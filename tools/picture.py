@@ -633,4 +633,4 @@ def answer_clash(call: Call):
 
 def answer_list(call: Call):
     asked = Asked(call.since, call.until)
-    return written(draw_list(call.program("replay"), call.table, system.Source(call.list, "the list"), asked))
+    return written(draw_list(call.program("replay"), call.table, system.list_of(call), asked))

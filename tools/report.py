@@ -726,6 +726,6 @@ def answer(call: Call):
     asked, listed = picture.Asked(call.since, call.until), None
     name = system.shown(call.file.rpartition("/")[2]) if call.file not in ("", "-") else "a table without a file name"
     if call.list:
-        source = system.Source(call.list, "the list")
+        source = system.list_of(call)
         listed = source.name, *lines_of(source)
     return picture.written(report(call.program("sivorandra"), call.table, name, asked, listed))

@@ -181,6 +181,14 @@ class Source:
         return self.tried(lambda: self.bytes.read1(most))
 
 
+def list_of(call: Call) -> Source:
+    """The list of a call; where the table is a sheet, its lines may have names."""
+    if call.sheet is None:
+        return Source(call.list, "the list")
+    from sheet_lists import NamedSource  # which only sheets need
+    return NamedSource(call.list, "the list", call.sheet.names())
+
+
 # ---- The programs
 
 _running: List[subprocess.Popen] = []
