@@ -164,8 +164,8 @@ def head_lines(table, *lines):
 
 
 # What a number means, in lines.
-def refusal_lines(number, position, names=named.NONE):
-    lines = {**REFUSALS, **(SHEET_REFUSALS if names else {})}.get(number, ["The program gave this number; nothing is drawn."])
+def refusal_lines(number, position, names=named.NONE, unknown="The program gave this number; nothing is drawn."):
+    lines = {**REFUSALS, **(SHEET_REFUSALS if names else {})}.get(number, [unknown])
     return [line.format(names.at(position)) for line in lines]
 
 
