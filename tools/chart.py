@@ -311,6 +311,10 @@ class Cells(Sheet):
         self.add("path", id="late", d=f"M{self.x(tick) - 6} {base - 14}l12 12m0 -12l-12 12", stroke=RED, stroke_width=3, fill="none")
         self.beside(base, f"had {had} of {self.tasks[position - 1].C}{self.table.names.time(had, self.tasks[position - 1].C)}", 12, fill=RED, id="had")
 
+    # What stands at the line of a miss.
+    def miss_words(self, what, tick, position, more=""):
+        return f"{what} at tick {self.table.names.tick(tick)}{more}, position {self.table.names.at(position)}"
+
     # A tick at which something is refused: its number over the column.
     def refused(self, tick, number):
         self.number = number
@@ -454,6 +458,10 @@ class Inset(Cells):
     def worked(self, found, base, fill):
         with self.group(stroke="#555"):
             super().worked(found, base, fill)
+
+    # Short, so that a phone shows it whole; the name stands beside the strip.
+    def miss_words(self, what, tick, position, more=""):
+        return f"{what} at tick {tick}{more}, position {position}"
 
     # Thousands apart, as in the page's words.
     def figure(self, number):

@@ -249,14 +249,14 @@ def longest_jobs(figures, table, start, rows):
 
 # Draws the rows of a verdict that is no refusal: the cells, the strips, the longest answers, the miss with what the late job had, S and the first repeat. What the legend has more.
 def draw_rows(sheet, word, first, second, figures, had):
-    seen, at, tick = word == "miss" and sheet.end == first, sheet.table.names.at, sheet.table.names.tick
+    seen, tick = word == "miss" and sheet.end == first, sheet.table.names.tick
     sheet.cells()
     sheet.strips((first, second) if seen else None)
     marked = longest_jobs(figures, sheet.table, sheet.start, sheet.rows)
     for position, figure in enumerate(figures, 1):
         sheet.longest(position, figure, marked.get(position))
     if seen:
-        sheet.late(first, second, had, f"miss at tick {tick(first)}, position {at(second)}", sheet.top - 10)
+        sheet.late(first, second, had, sheet.miss_words("miss", first, second), sheet.top - 10)
     elif word != "miss":
         sheet.mark("S", first, f"S, tick {tick(first)}", sheet.top - 26, BLUE, "6 3")
         sheet.mark("repeat", first + second, f"first repeat, S + P, tick {tick(first + second)}", sheet.top - 10, BLUE, "2 3")
@@ -532,7 +532,7 @@ def draw_listed(sheet, listed):
     for tick, position in listed.out:
         sheet.withdrawn(tick, position)
     if late:
-        sheet.late(*late, f"refused at tick {late[0]}, number {LATE}, position {sheet.table.names.at(late[1])}", sheet.top - 26)
+        sheet.late(*late, sheet.miss_words("refused", late[0], late[1], f", number {LATE}"), sheet.top - 26)
     for tick, number in sorted(listed.marks.items()):
         sheet.refused(tick, number)
     sheet.ticks()

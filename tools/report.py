@@ -428,16 +428,17 @@ def change_section(programs, word, table, late=None, kept=()):
 # Of a judged table each task, and where there are figures how close it comes; `spare` has the figures, or the words why there are none.
 def answers_section(programs, word, table, longest, spare, listed=None, bounds=None):
     items, names = [], table.names
+    in_units = lambda *counts: (element("br"), names.time(*counts)) if names.step else ()
     for position, task in enumerate(table.tasks, 1):
         fill, figures = colour(position)[0], []
-        line = lambda what, drawn, said: [element("div", element("span", what, class_="what"), drawn, element("span", said, class_="number"))]
+        line = lambda what, drawn, *said: [element("div", element("span", what, class_="what"), drawn, element("span", *said, class_="number"))]
         if longest:
-            figures += line("longest answer", page.bar(task.D, [(longest[position - 1], fill)]), f"{number(longest[position - 1])} of {ticks(task.D)}{names.time(longest[position - 1], task.D)}")
+            figures += line("longest answer", page.bar(task.D, [(longest[position - 1], fill)]), f"{number(longest[position - 1])} of {ticks(task.D)}", *in_units(longest[position - 1], task.D))
         elif bounds:
-            figures += line("bound", page.bar(task.D, [(bounds[position - 1], fill)]), f"at most {number(bounds[position - 1])} of {ticks(task.D)}{names.time(bounds[position - 1], task.D)}")
+            figures += line("bound", page.bar(task.D, [(bounds[position - 1], fill)]), f"at most {number(bounds[position - 1])} of {ticks(task.D)}", *in_units(bounds[position - 1], task.D))
         if isinstance(spare, list):
             grown = spare[position - 1]
-            figures += line("length and spare", page.bar(task.D, [(task.C, fill), (grown, "spare")]), f"{number(task.C)} + {number(grown)} to spare{names.time(grown)}")
+            figures += line("length and spare", page.bar(task.D, [(task.C, fill), (grown, "spare")]), f"{number(task.C)} + {number(grown)} to spare", *in_units(grown))
         items.append(element("li", chip(position), element("div", element("b", names.name(position) or f"Position {position}"), element("span", f" position {position}, {names.origin(position, 0)}" if names else f" record {table.records[position - 1]}", class_="soft"), element("br"),
                                                           element("span", task_words(task, names), class_="soft")),
                              element("div", *figures, class_="figures") if figures else None, id=f"task-{position}"))
