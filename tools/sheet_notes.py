@@ -5,10 +5,11 @@ from typing import List
 import notes
 from sheet import Sheet, Word
 from sheet_cells import place, shown
-from sheet_names import quoted
+from sheet_names import moment, quoted
 
 MOST_DIGITS = 10
 FIELD = re.compile(r"\b([OvCDTw]) of record (\d+) \(position (\d+)\) is (\d+)")
+MISS = re.compile(r"miss ([0-9]+) ([0-9]+)")
 LINE = re.compile(r"lines? (\d+)(?: and \d+)?: ")
 
 
@@ -54,8 +55,19 @@ def in_cells(note: str, sheet: Sheet) -> str:
     return FIELD.sub(named, note)
 
 
+def on_a_miss(sheet: Sheet, at: int, position: int) -> List[str]:
+    """Which task a miss is of, and when."""
+    if not 1 <= position <= len(sheet.tasks):
+        return []
+    task = sheet.in_order()[position - 1]
+    return [f"line {task.line}: {quoted(task.name)} (position {position}) misses its deadline at {moment(at, sheet.settings.tick)}"]
+
+
 def notes_on(sheet: Sheet, answer: str) -> List[str]:
     """What is to be told beside this answer to the words of a sheet."""
+    found = MISS.fullmatch(answer)
+    if found:
+        return on_a_miss(sheet, int(found[1]), int(found[2]))
     if answer.split()[:2] == ["refused", "1"]:
         return too_large(sheet)
     return [in_cells(note, sheet) for note in notes.notes(sheet.text(), answer)]
