@@ -95,7 +95,7 @@ def played(program: List[str], table: bytes, lines: Iterable[bytes], name: str) 
 
 
 def answer(call: Call):
-    source, status, first = Source(call.list, "the list"), FINE, ""
+    source, status, first = system.list_of(call), FINE, ""
     for line in played(call.program("replay"), call.table, lines_of(source), source.name):
         first = first or line.decode("ascii", "replace")
         status = REFUSED if b"refused" in line else status

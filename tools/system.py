@@ -13,9 +13,12 @@ import signal
 import stat
 import subprocess
 import time
-from typing import Callable, Iterator, List, NamedTuple, Optional
+from typing import TYPE_CHECKING, Callable, Iterator, List, NamedTuple, Optional, Sequence
 
 import notes
+
+if TYPE_CHECKING:
+    from sheet import Sheet
 
 FINE, MISSED, REFUSED, TROUBLE, USAGE = 0, 1, 2, 3, 64
 ANSWERED = 100  # stands before a status, so that the end of a Python that could not start is never taken for one
@@ -27,9 +30,9 @@ EVERY = 0.5  # seconds between two words
 class Trouble(Exception):
     """What went wrong, and the status."""
 
-    def __init__(self, words: str, status: int = TROUBLE):
+    def __init__(self, words: str, status: int = TROUBLE, more: Sequence[str] = ()):
         super().__init__(words)
-        self.status = status
+        self.status, self.lines = status, [words, *more]
 
 
 class Declined(Trouble):
@@ -46,13 +49,16 @@ class Stopped(BaseException):
 
 @dataclasses.dataclass(frozen=True)
 class Call:
-    """What was asked for: the folder of the programs, the table and its file, the list and the ticks."""
+    """What was asked for: the folder of the programs, the table and its file, the list and the ticks; the mode, the sheet that the table was written as, and whether names go behind lines."""
     programs: str = ""
     table: bytes = b""
     file: str = ""
     list: str = ""
     since: Optional[int] = None
     until: Optional[int] = None
+    mode: str = ""
+    sheet: "Optional[Sheet]" = None
+    names: bool = False
 
     def program(self, name: str) -> List[str]:
         return [os.path.join(self.programs, name)]
@@ -175,6 +181,14 @@ class Source:
         return self.tried(lambda: self.bytes.read1(most))
 
 
+def list_of(call: Call) -> Source:
+    """The list of a call; where the table is a sheet, its lines may have names."""
+    if call.sheet is None:
+        return Source(call.list, "the list")
+    from sheet_lists import NamedSource  # which only sheets need
+    return NamedSource(call.list, "the list", call.sheet.names())
+
+
 # ---- The programs
 
 _running: List[subprocess.Popen] = []
@@ -268,7 +282,8 @@ def ended(mode: Callable[[Call], "tuple[int, str]"], call: Call) -> int:
         return TROUBLE
     except Trouble as trouble:
         LINE.clear()
-        say(trouble)
+        for line in trouble.lines:
+            say(line)
         return trouble.status
     except Exception as error:
         LINE.clear()
