@@ -146,7 +146,7 @@ static uint32_t take(const uint8_t *row_lent, size_t len) { return sivorandra_ch
 static uint32_t response_times(const uint32_t *table, size_t len) { return sivorandra_response_times(table, len, words_at(&numbers), numbers.len, ANSWER); }
 static uint32_t slack(const uint32_t *table, size_t len) { return sivorandra_slack(table, len, words_at(&numbers), numbers.len, ANSWER); }
 
-static uint32_t bounds(const uint32_t *table, size_t len) { return sivorandra_bounds(table, len, words_at(&numbers), numbers.len, ANSWER); }
+static uint32_t bounded(const uint32_t *table, size_t len) { return sivorandra_bounds(table, len, words_at(&numbers), numbers.len, ANSWER); }
 
 /* A slice of length 0 whose pointer is NULL. */
 #define NONE(slice) ((slice).len = 0, (slice).null = 1)
@@ -278,8 +278,8 @@ static void figures(void)
     figures_by(response_times, full, 0, response_times_of_full, miss, 13);
     figures_by(slack, limited, 0, slack_of_limited, miss, 23);
     figures_by(slack, limited, 0, slack_of_limited, full, 23); /* rule 1 out of the width order */
-    figures_by(bounds, limited, 1, bounds_of_limited, miss, 0);
-    figures_by(bounds, limited, 1, bounds_of_limited, full, 0); /* accepted, and does not pass */
+    figures_by(bounded, limited, 1, bounds_of_limited, miss, 0);
+    figures_by(bounded, limited, 1, bounds_of_limited, full, 0); /* accepted, and does not pass */
 }
 
 /* Every lent slice afresh, and a plan of the table in `run`: the run at tick 0, and its phases noted, S being 0. */
