@@ -2,7 +2,7 @@
 
 NOTES is the descriptor that notes go to, PROGRAMS the folder of the proved programs, TABLE a path to the table's bytes, FILE the table's name; what is not there is empty.
 Where SHEET is not empty the table is a sheet, and FILE itself is read; where NAMES is not, names go behind the lines of an answer.
-Until all is loaded standard error is whatever the front has put there: it says in a note why a Python could not start."""
+Until all is loaded standard error is what the front has put there: the front notes why a Python could not start."""
 import importlib
 import os
 import sys

@@ -32,7 +32,7 @@ def luminance(*colours):
     return sum(part * (level / 12.92 if level <= 0.03928 else ((level + 0.055) / 1.055) ** 2.4) for part, level in zip((0.2126, 0.7152, 0.0722), colours))
 
 
-# 32 colours: neighbours differ in hue and in lightness, so that a grey print tells them apart too; and the ink that is read best on each.
+# 32 colours: neighbours differ in hue and in lightness, so that a grey print shows them apart too; and the ink that is read best on each.
 def colour(position):
     turn = (position - 1) * 0.618034 % 1
     light = (0.74, 0.46, 0.84, 0.58)[(position - 1) % 4]
@@ -69,7 +69,7 @@ class Sheet:
     def hatching(self, name):
         self.parts.append(f'<defs><pattern id="{self.own}{name}" width="8" height="8" patternUnits="userSpaceOnUse">{HATCHES[name]}</pattern></defs>')
 
-    # The whole, with a title and a description for those who do not see it.
+    # The whole, with a title and a description for screen readers.
     def out(self, title, about):
         wide, high = round(self.right + 16), round(self.bottom + 12)
         return "\n".join([
@@ -222,7 +222,7 @@ class Cells(Sheet):
         for at, length in found:
             self.bar(self.start + at, self.start + at + length, base, fill=fill)
 
-    # What stands over the strips' names, and a name.
+    # The head over the strips' names, and a name.
     def heading(self):
         self.add("text", "position", x=22, y=self.under + 38, font_size=11, fill="#333")
 
@@ -265,7 +265,7 @@ class Cells(Sheet):
     def ring(self, x, y):
         self.add("circle", cx=round(x, 2), cy=round(y, 2), r=4 if self.wide >= 12 else 3, fill="#fff", stroke="#000", stroke_width=1.5)
 
-    # The longest answer of a task beside its strip, against its D; and over a job that takes so long a bracket from release to end.
+    # The worst-case response time of a task beside its strip, against its D; a bracket over a job with this response time.
     def longest(self, position, figure, release):
         base = self.base(position)
         self.beside(base, f"longest {figure} of {self.tasks[position - 1].D}{self.table.names.time(figure, self.tasks[position - 1].D)}", 11, fill="#333", id=f"figure{position}")
@@ -276,7 +276,7 @@ class Cells(Sheet):
                 self.bracket(since, until, base - 11)
                 self.over(figure, (since + until) / 2, base - 12)
 
-    # What stands over a bracket, and at the end of a strip.
+    # The text over a bracket, and at the end of a strip.
     def over(self, figure, x, y):
         self.add("text", str(figure), x=round(x, 2), y=y, font_size=8, text_anchor="middle", fill="#000")
 
@@ -300,7 +300,7 @@ class Cells(Sheet):
             else:
                 self.text(at + 5, y, words, 12, fill=ink)
 
-    # Whether words of this room stand left of a mark.
+    # Whether words of this width go left of a mark.
     def leftward(self, at, room):
         return at + room > max(self.x(self.end), 560)
 
@@ -311,7 +311,7 @@ class Cells(Sheet):
         self.add("path", id="late", d=f"M{self.x(tick) - 6} {base - 14}l12 12m0 -12l-12 12", stroke=RED, stroke_width=3, fill="none")
         self.beside(base, f"had {had} of {self.tasks[position - 1].C}{self.table.names.time(had, self.tasks[position - 1].C)}", 12, fill=RED, id="had")
 
-    # What stands at the line of a miss.
+    # The text at the line of a miss.
     def miss_words(self, what, tick, position, more=""):
         return f"{what} at tick {self.table.names.tick(tick)}{more}, position {self.table.names.at(position)}"
 
@@ -340,14 +340,14 @@ class Cells(Sheet):
                 self.add("rect", x=round(self.x(tick) - room / 2, 2), y=self.under + 5, width=round(room, 2), height=14, fill="#fff")
                 self.add("text", self.figure(tick), x=self.x(tick), y=self.under + 16)
 
-    # A number as it is written, and so many things.
+    # A number as it is written, and n things.
     def figure(self, number):
         return str(number)
 
     def amount(self, number, thing):
         return f"{number} {thing}s"
 
-    # A sample of what a name of the legend says, 28 wide and 12 high.
+    # The sample of a name of the legend, 28 wide and 12 high.
     def sample(self, name, x, y):
         self.add("rect", x=x, y=y, width=28, height=12, **LOOKS[name])
         if name == "ends":
@@ -366,7 +366,7 @@ class Cells(Sheet):
         return [("fenced", "a fenced core: it belongs to the hydraulics, and no task has it"), *more] if self.fenced else list(more)
 
 
-# A chart that is a picture of its own. `head` is what stands over it, the title first, and `red` what follows it in red.
+# A chart that is a picture of its own. `head` is the text over it, the title first, and `red` what follows it in red.
 class Chart(Cells):
     LABEL = 24  # letters of a name beside a strip
 
@@ -413,7 +413,7 @@ class Chart(Cells):
             self.text(50, at + 10, words)
 
 
-# A chart in a page, which says the rest in its own words. The names of cores and strips are a drawing of their own, `side`, that stays where the ticks are scrolled.
+# A chart in a page, which has the rest in its own words. The names of cores and strips are a drawing of their own, `side`, that stays where the ticks are scrolled.
 class Inset(Cells):
     HREF = "href"
     WIDE, MOST, ROOM, NAMES, PHONE = 26, 48, 900, 58, 318  # of a tick at least and at most, of all ticks where they are few, of the names, of what a phone shows
@@ -459,7 +459,7 @@ class Inset(Cells):
         with self.group(stroke="#555"):
             super().worked(found, base, fill)
 
-    # Short, so that a phone shows it whole; the name stands beside the strip.
+    # Short, so that a phone shows it whole; the name is beside the strip.
     def miss_words(self, what, tick, position, more=""):
         return f"{what} at tick {tick}{more}, position {position}"
 
@@ -467,7 +467,7 @@ class Inset(Cells):
     def figure(self, number):
         return f"{number:,}"
 
-    # Of a miss in a narrow picture the words stand over the line, so that a phone shows them whole.
+    # Of a miss in a narrow picture the words are over the line, so that a phone shows them whole.
     def mark(self, name, tick, words, y, ink, dashes):
         words = re.sub(r"\d{4,}", lambda found: self.figure(int(found[0])), words)
         at, wide = self.x(tick), breadth(words) * 12 * 0.6
@@ -483,7 +483,7 @@ class Inset(Cells):
     def amount(self, number, thing):
         return f"{number} {thing}{'' if number == 1 else 's'}"
 
-    def over(self, figure, x, y):  # the page says it
+    def over(self, figure, x, y):  # the page has it
         pass
 
     def beside(self, base, words, size, **more):  # and this

@@ -1,4 +1,4 @@
-"""How positions and ticks are told to a reader: as numbers, and where the table is a sheet with its names and with times in its units. It is given what to tell, and decides nothing."""
+"""How positions and ticks are shown to a reader: as numbers, and where the table is a sheet with its names and times in its units. It is given what to show, and decides nothing."""
 import unicodedata
 from typing import TYPE_CHECKING, Callable, List, Optional
 
@@ -16,7 +16,7 @@ def breadth(words: str) -> int:
 
 
 def cut(words: str, most: int) -> str:
-    """Words as they may be shown, so many letters wide at most."""
+    """Words as they may be shown, at most n letters wide."""
     words = shown(words[:most + 1])
     if breadth(words) <= most:
         return words
@@ -50,7 +50,7 @@ class Names:
         return figure(at) + self.time(at)
 
     def time(self, *ticks: int) -> str:
-        """So many ticks in units, to stand behind them; of two the first of the second."""
+        """Ticks in units, to be put behind them; of two the first of the second."""
         return f" ({' of '.join(self.step.time(count) for count in ticks)})" if self.step else ""
 
     def origin(self, position: int, record: int) -> str:

@@ -1,13 +1,13 @@
 """Draws what the program prints for a table as an SVG 1.1: the modes of --picture.
 
 It decides nothing. The cells are the program's rows and the words are the program's verdict; releases, deadlines, the fence and the
-numbers beside each task are the table's; the longest answers are what the program `query` says, which stands beside it, and the job
+numbers beside each task are the table's; the response times are what the program `query` beside it prints, and the job
 that is marked is found by its cells. The program's output is read as a stream: only the rows that are drawn are kept, and
 after the last of them the program is stopped. Of a list the program is `replay`: it is fed the table and the operations,
-with a row asked at each tick, and the rows of the list are drawn. A list is read on after the last of these, to say how many there
-are and whether something is refused, but no more than a million lines. Of the clash the tasks in it alone are drawn: the program is
+with a row asked at each tick, and the rows of the list are drawn. A list is read on after these, to show how many there
+are and whether something is refused, but no more than a million lines. Of a conflict only its tasks are drawn: the program is
 handed the table with its chain linked over the others.
-The status is 0 where nothing is refused or missed, or the clash is drawn, 1 for a miss, 2 for a refusal."""
+The status is 0 where nothing is refused or missed, or for a conflict, 1 for a miss, 2 for a refusal."""
 import collections
 import functools
 import math
@@ -40,7 +40,7 @@ MISTAKES = {
 Task = collections.namedtuple("Task", "O v C D T w")
 
 
-# The core count, the rule, the fenced cores, and the tasks with their records' numbers; the positions in the clash, where these alone are drawn; how positions are called.
+# The core count, the rule, the fenced cores, and the tasks with their records' numbers; the positions in the conflict, if only these are drawn; how positions are called.
 class Table(collections.namedtuple("Table", "cores rule fenced tasks records clash names", defaults=[None, named.NONE])):
     # the positions that are drawn, in the order in which the program counts them
     @property
@@ -121,7 +121,7 @@ class Asked:
     def __bool__(self):
         return (self.since, self.until) != (None, None)
 
-    # Where there are rows of so many ticks: the first tick to draw, the one after the last, and what they are in words.
+    # Where there are rows of n ticks: the first tick to draw, the one after the last, and what they are in words.
     def within(self, count, whose):
         for name, tick in (("--from", self.since), ("--to", self.until)):
             if tick is not None and tick >= count:
@@ -148,7 +148,7 @@ def about(table):
     return f"{tasks} on {number_of(table.cores, 'core')}{kept}, rule {table.rule} ({RULES[table.rule]})"
 
 
-# A verdict in words; of the clash alone it is a miss.
+# A verdict in words; of a conflict it is a miss.
 def verdict_words(word, first, second, table):
     at, tick = table.names.at, table.names.tick
     if not table.clash:
@@ -158,7 +158,7 @@ def verdict_words(word, first, second, table):
     return f"The clash of {positions} alone: position {at(second)} misses its deadline at tick {tick(first)}"
 
 
-# What stands over a picture: these lines, and the length of a tick, where the table gives it.
+# The text over a picture: these lines, and the length of a tick, where the table gives it.
 def head_lines(table, *lines):
     return [*lines, *([f"A tick is {table.names.step}."] if table.names.step else [])]
 
@@ -180,7 +180,7 @@ def refusal(number, position, names=named.NONE):
     return Made(sheet.out(title, lines), REFUSED, f"refused {number} {position}")
 
 
-# The program's lines after so many, which are passed over by whole blocks, up to a moment.
+# The program's lines after the first n, which are skipped by whole blocks, up to a time.
 def lines_after(source, count, until=math.inf):
     rest = b""
     while count:
@@ -227,7 +227,7 @@ def rows_of(source, start, end, table, since, position, until=math.inf):
     return rows, had
 
 
-# The longest answers of the tasks, from the lines of `query`.
+# The response times of the tasks, from the lines of `query`.
 def figures_of(source, table):
     lines = [line.split() for line in source.read().splitlines()]
     if [line[0] for line in lines if len(line) == 2 and line[1].isdigit()] != [b"%d" % position for position in range(1, len(table.tasks) + 1)]:
@@ -247,7 +247,7 @@ def longest_jobs(figures, table, start, rows):
     return found
 
 
-# Draws the rows of a verdict that is no refusal: the cells, the strips, the longest answers, the miss with what the late job had, S and the first repeat. What the legend has more.
+# Draws the rows of a verdict that is no refusal: the cells, the strips, the response times, the miss with what the late job had, S and the first repeat. What the legend has more.
 def draw_rows(sheet, word, first, second, figures, had):
     seen, tick = word == "miss" and sheet.end == first, sheet.table.names.tick
     sheet.cells()
@@ -264,7 +264,7 @@ def draw_rows(sheet, word, first, second, figures, had):
     return [("longest", "longest: the most ticks that a job takes from its release to its end, of its D; marked is the first job drawn that takes so many")] if figures else []
 
 
-# The picture of a verdict that is no refusal, and of the rows that it needs from the program's output; `answers` is what `query` says to `longest`.
+# The picture of a verdict that is no refusal, and of the rows that it needs from the program's output; `answers` is `query`'s answer to `longest`.
 def chart(word, first, second, table, source, asked, answers):
     count = first + (0 if word == "miss" else second)
     second = table.drawn[second - 1] if word == "miss" else second
@@ -419,11 +419,11 @@ class Listed:
         self.tick += 1
         self.row(line)
 
-    # What is said to a row asked, as sets too: nothing changes, but it can be refused.
+    # The answer to a row asked, as sets too: nothing changes, but it can be refused.
     def question(self, answer):
         self.questions += answer.startswith(b"refused ")
 
-    # A move that is refused. Where a task is late the row has said it.
+    # A refused move. Where a task is late the row has shown it.
     def refused(self, operation, answer):
         number, position = numbers_in(answer)
         self.refusals += 1
@@ -434,7 +434,7 @@ class Listed:
                 why = f": {MISTAKES[number]}" if number in MISTAKES else ""
                 self.words.append(f"At tick {self.tick} '{operation}' is refused, number {number}{f', position {self.table.names.at(position)}' if position else ''}{why}.")
 
-    # What the program says to each line of the list; they are sent in parts, with a row asked after each.
+    # The program's answer to each line of the list; they are sent in parts, with a row asked after each.
     def follow(self, name, source, process):
         self.row(next_line(process.stdout))
         read = since = 0
@@ -495,7 +495,7 @@ def stands(line):
     return repr(line)[1:] + (" (Windows line ends)" if line.endswith(b"\r") else "") if line else "an empty line"
 
 
-# What stands over the picture of a list, and what of it is red.
+# The text over the picture of a list, and what of it is red.
 def list_words(listed, ticks):
     at, tick_of = listed.table.names.at, listed.table.names.tick
     advances = number_of(listed.advances, "advance") + (f" and {number_of(listed.withdrawals, 'withdrawal')}" if listed.withdrawals else "")
@@ -566,7 +566,7 @@ def list_chart(listed):
     return Made(sheet.out(head[0], head[1:] + red + [words for _, words in told(listed)]), REFUSED if listed.late or listed.refusals or listed.questions else FINE, "ok")
 
 
-# What `query`, which stands beside the program, says to a question on a table.
+# The answer of `query`, beside the program, to a question on a table.
 def answering(program, question, text):
     return running([os.path.join(os.path.dirname(program[-1]), "query")], question + text)
 
@@ -592,7 +592,7 @@ def relinked(text, records, kept):
     return b"".join(word + b"\n" for word in words)
 
 
-# The picture of a table; of the clash in it, where the table says so.
+# The picture of a table; of the conflict in it, if `table` has one.
 def draw(program, text, asked=Asked(), table=None, sheet=None):
     with running(program, text) as process, answering(program, b"longest\n", text) as answers:
         word, first, second = verdict_in(system.first_line(process))
@@ -603,7 +603,7 @@ def draw(program, text, asked=Asked(), table=None, sheet=None):
         return chart(word, first, second, table or table_of(text, sheet), process.stdout, asked, answers.stdout)
 
 
-# The table with the positions in its clash, by what `query` answered.
+# The table with the positions in its conflict, by `query`'s answer.
 def clash_in(answer, table):
     kept = [int(field) for field in answer.split()]
     if not kept or kept != sorted({*kept} & {*range(1, len(table.tasks) + 1)}):
@@ -611,7 +611,7 @@ def clash_in(answer, table):
     return table._replace(clash=kept)
 
 
-# The picture of the clash in a table by what `query` answered.
+# The picture of the conflict in a table by `query`'s answer.
 def draw_clash(program, text, answer, asked=Asked(), sheet=None):
     if answer.startswith("refused"):
         return refusal(*numbers_in(answer.encode()), named.Names(sheet))

@@ -1,4 +1,4 @@
-"""Hands an answer on to standard output as it is, and says on a terminal from the second second on that a table is being judged, and then how many of the rows have gone by.
+"""Hands an answer on to standard output as it is. From the second second on a terminal shows that a table is being judged, and then how many of the rows have gone by.
 
 How many there will be it reads from the verdict line. The mode `judging` is silent from the first line on."""
 import contextlib

@@ -1,6 +1,6 @@
 """Plain questions on a sheet, the words of a sheet, and a sheet of a table: the modes of a sheet that draw nothing.
 
-The program's answer is handed on as it is; with --names each of its lines has names and times behind it. Its first line tells the status."""
+The program's answer is handed on as it is; with --names each of its lines has names and times behind it. Its first line gives the status."""
 import os
 import re
 import subprocess
@@ -11,7 +11,7 @@ from sheet_back import sheet_of as sheet_of_words
 from sheet_names import behind
 from system import Call, FINE, MISSED, REFUSED, Trouble
 
-PROGRAMS = {"rows": "sivorandra", "verdict": "verdict"}  # of other modes it is `query`, which is told the mode
+PROGRAMS = {"rows": "sivorandra", "verdict": "verdict"}  # of other modes it is `query`, which gets the mode
 TWO = r" [0-9]+ [0-9]+"
 STATUSES = {rf"(firm|full){TWO}|task .*\.|none|[1-9][0-9]*( [0-9]+)*": FINE, rf"miss{TWO}": MISSED, rf"refused{TWO}": REFUSED}
 
@@ -25,7 +25,7 @@ def status_of(first: str, name: str) -> int:
 
 
 def with_names(call: Call, process: subprocess.Popen) -> bytes:
-    """Prints the answer with names and times behind its lines, all at once; its first line as the program has said it."""
+    """Prints the answer with names and times behind its lines, all at once; its first line as the program printed it."""
     first = system.first_line(process)
     lines = (first + process.stdout.read()).decode("ascii", "replace").splitlines()
     names, tick = call.sheet.names(), call.sheet.settings.tick
@@ -51,7 +51,7 @@ def words(call: Call):
 
 
 def sheet_of(call: Call):
-    """A sheet of a table, unless the program refuses that; its bounds are asked, which tell it at once."""
+    """A sheet of a table, unless the program refuses that; its bounds are asked, which show it at once."""
     with system.running(call.program("query"), b"bounds\n" + call.table) as process:
         first = system.first_line(process).decode("ascii", "replace").removesuffix("\n")
     status = status_of(first, "query")

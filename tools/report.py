@@ -1,9 +1,9 @@
 """Writes a page on a table: the modes of --report.
 
-It decides nothing. The verdict, the rows, the sentence on a miss, the clash, the longest answers, their bounds and the spare ticks are what the proved programs print, which stand beside
+It decides nothing. The verdict, the rows, the sentence on a miss, the conflict, the response times, their bounds and the slack are what the proved programs print, which are beside
 PROGRAM; the tasks are the table's. What could be changed is the same table with one change, and the verdict on it the program's. It counts cells of printed rows, or where they are
 too many the jobs of one P by the table, and no more.
-What takes long is waited for so many seconds; then the page says that it is not there.
+What takes long is waited for some seconds; then the page shows that it is missing.
 The status is 0 where nothing is refused or missed, 1 for a miss, 2 for a refusal."""
 import collections
 import contextlib
@@ -81,10 +81,10 @@ def ticks(count):
 class Programs:
     def __init__(self, program, text):
         self.program, self.text, self.stack = program, text, contextlib.ExitStack()
-        self.notes = []  # what standard error is told
+        self.notes = []  # lines for standard error
         self.begun, self.patience = time.monotonic(), PATIENCE
 
-    # The verdict is there: so many seconds is waited for what is asked on.
+    # The verdict is there: what is asked next has this many seconds.
     def judged(self):
         self.patience = max(PATIENCE, round(2 * (time.monotonic() - self.begun)))
         self.wait()
@@ -109,7 +109,7 @@ class Programs:
     def start(self, command, given):
         return self.stack.enter_context(system.running(command, given))
 
-    # What a program says in time, or None. A terminal shows that it is waited for.
+    # A program's output in time, or None. A terminal shows that it is waited for.
     def heard(self, process):
         process.stdin = None
         while True:
@@ -130,7 +130,7 @@ class Programs:
         return said and picture.verdict_in(said)
 
 
-# How many ticks a picture of a page shows, where there are so many pictures.
+# How many ticks a picture of a page shows, where there are n pictures.
 def most(table, pictures):
     tick = CELL * table.cores + sum(STRIP + JOB / task.T for task in table.tasks)
     return min(SHOWN, int(BYTES / pictures / tick))
@@ -185,7 +185,7 @@ def task_words(task, names=named.NONE):
     return f"{width_words(task)} for {ticks(task.C)}{names.time(task.C)}, {every}{names.time(task.T)} from tick {names.tick(task.O, number)}, due {ticks(task.D)}{names.time(task.D)} after release"
 
 
-# ---- What is said of every table that is judged
+# ---- What is shown of every judged table
 
 def verdict_header(word, name, lead, more=None, look="lead"):
     return element("header", paragraph("Timing report on ", element("b", name), class_="over"),
@@ -334,7 +334,7 @@ def rows_again(programs):
     return source
 
 
-# The tasks in the clash, with their own picture. Its positions are called as in the table.
+# The tasks in the conflict, with their picture. Its positions are called as in the table.
 def clash_section(programs, said, table, pictures):
     title = "The clash"
     if said is None:
@@ -526,7 +526,7 @@ def refusal_words(refused, position, names=named.NONE):
     return " ".join(picture.refusal_lines(refused, position, names, "The program gave this number."))
 
 
-# What a line of a table stands for.
+# What a line of a table means.
 def line_words(line):
     if line <= HEAD:
         return ("head: the first record", "cores", "rule", "fence, cores 0 to 31", "fence, cores 32 to 63")[line - 1]
@@ -534,7 +534,7 @@ def line_words(line):
     return f"{notes.FIELDS[field]} of record {record + 1}"
 
 
-# A line of an input of any bytes, and no more than so many of them.
+# A line of an input of any bytes, and no more than n of them.
 def shown_line(line, most=80):
     return (repr(line[:most])[2:-1] + ("\u2026" if len(line) > most else "")) if line else "(an empty line)"
 
@@ -574,7 +574,7 @@ def refused_page(text, name, refused, position):
 
 # ---- A list
 
-# A run of a list, of which the row of each tick is kept as it was said last.
+# A run of a list, of which the last printed row of each tick is kept.
 class Followed(picture.Listed):
     def __init__(self, table, asked):
         super().__init__(table, asked)
@@ -590,7 +590,7 @@ class Followed(picture.Listed):
             self.lines[self.tick] = line
 
 
-# The lines of a list, at most so many, whether there are more, and what is said of one with a name that no task has. After one that is no operation nothing counts.
+# The lines of a list, at most n, whether there are more, and the fault of one with a name that no task has. After one that is no operation nothing counts.
 def lines_of(source):
     kept = []
     try:
@@ -608,7 +608,7 @@ def lines_of(source):
         return kept, False, str(declined)
 
 
-# Plays lines through the program `replay`: what became of them, and what is said of one that is no operation.
+# Plays lines through the program `replay`: what became of them, and the fault of one that is no operation.
 def play(programs, table, name, lines, asked):
     with system.running([programs.path("replay")]) as process:
         if picture.begun(process, programs.text) != b"ok":
@@ -636,7 +636,7 @@ def difference(table, run, full):
     return differs, paragraph(element("b", f"The first difference is in tick {number(tick)}: "), "at full length the cores have ", element("code", spelled(full.lines[tick])), ", ", *words, id="difference")
 
 
-# The class of a table of rows with so many columns of cores: where they are many they are narrow on paper.
+# The class of a table of rows with n columns of cores: where they are many they are narrow on paper.
 def rows_look(columns):
     return "rows" if columns <= 2 * WIDE else "rows many" if columns <= NARROW else "rows many most"
 

@@ -2,7 +2,7 @@
 """A sheet, as people write a table: sheet.py --words [FILE] prints the words of a sheet, sheet.py --sheet-of [FILE] a sheet of the words of a table.
 
 It decides nothing. A sheet has lines of settings, a header that names its columns and then a task a line. Whole numbers without a sign go through as they are written, and the
-proved program answers; times with units become ticks where that is exact. What is wrong with the sheet itself is told with line and column, and then there are no words."""
+proved program answers; times with units become ticks where that is exact. A fault of the sheet itself is shown with line and column, and then there are no words."""
 import os
 import sys
 from dataclasses import dataclass, field
@@ -22,7 +22,7 @@ FINE, REFUSED, TROUBLE, USAGE = 0, 2, 3, 64
 
 @dataclass(frozen=True)
 class Value:
-    """Digits, and the cell that gives them; without a cell they are what stands for an empty one."""
+    """Digits, and the cell that gives them; without a cell they are the default of an empty one."""
     digits: str
     cell: Optional[Cell] = None
 
@@ -61,7 +61,7 @@ class Word:
 
 @dataclass(frozen=True)
 class Sheet:
-    """What a sheet says. Tasks are in the order of their lines, which is that of the records; `order` has their indices in priority order."""
+    """A sheet's content. Tasks are in the order of their lines, which is that of the records; `order` has their indices in priority order."""
     settings: Settings
     tasks: List[Task]
     order: List[int]
@@ -129,7 +129,7 @@ def header_in(text: str, faults: Faults) -> Tuple[List[Row], int, str]:
 
 
 def no_header(text: str) -> Fault:
-    """The fault of a sheet in which no line is a header: by the delimiter that stands there most, where reading ends or what is most like a header."""
+    """The fault of a sheet in which no line is a header: by the delimiter that occurs most, where reading ends or what is most like a header."""
     rows, broken = sheet_cells.rows(text, max(sheet_cells.DELIMITERS, key=text.count))
     near = missing(rows)
     line, words = (near[0], f"the header names no column for the {near[1]}") if near else (1, "no line names the columns length and period")
@@ -220,7 +220,7 @@ def fence_of(cells: List[Cell], faults: Faults) -> int:
 
 
 def tick_in(cells: Optional[List[Cell]], form: Form, faults: Faults) -> Optional[Tick]:
-    """The length of a tick; its number and its unit may stand in two cells."""
+    """The length of a tick; its number and its unit may be in two cells."""
     if not cells:
         return None
     if len(cells) == 1:
@@ -234,7 +234,7 @@ def tick_in(cells: Optional[List[Cell]], form: Form, faults: Faults) -> Optional
 
 
 def units_of(header: Row, columns: Dict[str, Column], form: Form, faults: Faults) -> Form:
-    """Where columns have units and the sheet has no tick, that is told once."""
+    """Without a tick, units of columns are faults in the header alone."""
     units = [column for column in columns.values() if column.unit]
     if not units or form.tick or form.tick_at_fault:
         return form
@@ -307,7 +307,7 @@ class Lines:
         return value
 
     def time(self, row: Row, name: str, empty: Optional[Value]) -> Value:
-        """A time in ticks; `empty` is what an empty cell stands for."""
+        """A time in ticks; `empty` is the value of an empty cell."""
         cell = self.cell(row, name)
         if cell is not None and cell.text:
             return tried(lambda text: time_of(text, self.form, self.columns[name].unit), cell, self.faults)

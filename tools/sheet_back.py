@@ -1,4 +1,4 @@
-"""A sheet of a table: the words of a table into lines of settings, a header and a task a line, in priority order. It reads what the programs take; whether they take it they say."""
+"""A sheet of a table: the words of a table into lines of settings, a header and a task a line, in priority order. It reads what the programs take; they alone decide that."""
 import csv
 import io
 from typing import List

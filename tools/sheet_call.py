@@ -1,4 +1,4 @@
-"""A question on a sheet: the sheet is read once, its words become the table that the programs are asked about, and notes speak of its cells."""
+"""A question on a sheet: the sheet is read once, its words become the table that the programs are asked about, and notes name its cells."""
 import dataclasses
 from typing import Callable, List, Tuple
 
@@ -16,7 +16,7 @@ Mode = Callable[[Call], Tuple[int, str]]
 
 
 def bytes_of(file: str) -> bytes:
-    """The bytes of a sheet, and of one that is too long so many that this shows."""
+    """The bytes of a sheet; of one that is too long, enough to show this."""
     data, most = b"", sheet_cells.MOST_BYTES + 1
     try:
         source = Source(file, file)
@@ -40,7 +40,7 @@ def read(file: str) -> sheet.Sheet:
 
 
 def reading(mode: Mode) -> Mode:
-    """A mode that reads a sheet first, and says what is to be said of it."""
+    """A mode that reads a sheet first, and prints the notes on it."""
     def answer(call: Call) -> Tuple[int, str]:
         found = read(call.file)
         say_all(found.notes)

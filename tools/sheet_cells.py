@@ -10,11 +10,11 @@ from dataclasses import dataclass
 from typing import Iterator, List, Optional, Sequence, Tuple
 
 MOST_BYTES = 1_000_000  # of a sheet
-MOST_FAULTS = 20  # that are told; so with notes
+MOST_FAULTS = 20  # that are shown; notes too
 MOST_SHOWN = 40  # characters of a cell in a fault
 DELIMITERS = (",", ";", "\t")
 SPACES = " \t\r\n\u00a0"  # around a cell they do not count
-NUL = "\udc00"  # stands for a NUL while csv reads, which older versions refuse to; no decoded text has it
+NUL = "\udc00"  # replaces a NUL while csv reads, which older versions refuse to; no decoded text has it
 LINE_END = re.compile(r"\r\n|\r|\n")
 NOT_UTF8 = re.compile("[\udc80-\udcff]")
 csv.field_size_limit(MOST_BYTES + 1)
@@ -22,7 +22,7 @@ csv.field_size_limit(MOST_BYTES + 1)
 
 @dataclass(frozen=True)
 class Cell:
-    """What stands in a cell, without the spaces around it, and where: lines from 1, columns from 0."""
+    """The text of a cell, without the spaces around it, and where: lines from 1, columns from 0."""
     text: str
     line: int
     column: int
@@ -165,7 +165,7 @@ def rows(text: str, delimiter: str) -> Tuple[List[Row], Optional[Fault]]:
 
 
 def broken(text: str, line: int, delimiter: str) -> Fault:
-    """The cell that is no cell, in the row that begins at this line: its quotation marks do not pair, or something stands behind the second."""
+    """The cell that is no cell, in the row that begins at this line: its quotation marks do not pair, or something follows the second."""
     quoted = re.compile(rf' *(?:"(?:[^"]|"")*"|[^" {delimiter}\r\n][^{delimiter}\r\n]*|)(?=[{delimiter}\r\n]|\Z)')
     rest = "".join(list(io.StringIO(text, newline=""))[line - 1:])
     column = at = 0

@@ -37,7 +37,7 @@ class Heading:
 
 @dataclass(frozen=True)
 class Column:
-    """A column of a sheet: where it stands, and the unit of its times."""
+    """A column of a sheet: where it is, and the unit of its times."""
     index: int
     unit: Optional[str]
 

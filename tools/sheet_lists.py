@@ -1,4 +1,4 @@
-"""A list for a table that is a sheet: names in its lines become numbers as they are read, so that whoever reads the list sees numbers alone."""
+"""A list for a table that is a sheet: names in its lines become numbers as they are read, so that a reader of the list gets only numbers."""
 from typing import List
 
 from sheet_cells import Wrong

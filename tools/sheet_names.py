@@ -1,4 +1,4 @@
-"""The names of a sheet beside positions: read in the lines of a list, and put beside what the programs print. Times are told in units where the sheet gives its tick."""
+"""The names of a sheet beside positions: read in the lines of a list, and put beside what the programs print. Times are in units where the sheet gives its tick."""
 import re
 from typing import List, Optional
 
@@ -31,7 +31,7 @@ def position(item: str, names: List[str]) -> int:
 
 
 def number_of(part: str, names: List[str], alone: bool) -> str:
-    """What a list's number says by names: the set of some tasks, or where one is to stand alone its position. A number stays."""
+    """The number for names in a list: the set of some tasks, or the position where only one is allowed. A number stays."""
     if re.fullmatch("[0-9]+", part):
         return part
     positions = [position(item, names) for item in re.findall(ITEM, part, re.S)]
@@ -41,7 +41,7 @@ def number_of(part: str, names: List[str], alone: bool) -> str:
 
 
 def operation(line: str, names: List[str]) -> str:
-    """A line of a list with numbers for its names; what is no operation stays, and the program says so."""
+    """A list's line with numbers for its names; what is no operation stays, and the program reports it."""
     found = OPERATION.fullmatch(line)
     if not found:
         return line
@@ -50,7 +50,7 @@ def operation(line: str, names: List[str]) -> str:
 
 
 def time(ticks: int, tick: Optional[Tick]) -> str:
-    """So many ticks in units; where the sheet gives no tick as they are."""
+    """Ticks in units; where the sheet gives no tick, as they are."""
     return tick.time(ticks) if tick else f"{ticks} tick{'' if ticks == 1 else 's'}"
 
 

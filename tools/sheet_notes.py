@@ -1,4 +1,4 @@
-"""What is told beside a program's answer to the words of a sheet: the notes of tools/notes.py, with the sheet's cells for lines of words and its names for records."""
+"""The notes beside a program's answer to the words of a sheet: those of tools/notes.py, with the sheet's cells for lines of words and its names for records."""
 import re
 from typing import List
 
@@ -64,7 +64,7 @@ def on_a_miss(sheet: Sheet, at: int, position: int) -> List[str]:
 
 
 def notes_on(sheet: Sheet, answer: str) -> List[str]:
-    """What is to be told beside this answer to the words of a sheet."""
+    """The notes beside this answer to the words of a sheet."""
     found = MISS.fullmatch(answer)
     if found:
         return on_a_miss(sheet, int(found[1]), int(found[2]))

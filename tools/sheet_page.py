@@ -9,7 +9,7 @@ from sheet_times import RULES, ranges
 
 COLUMNS = ("line", "position", "name", "offset", "width", "second width", "length", "deadline", "period")
 TIMES = ("offset", "length", "deadline", "period")
-MOST_TASKS, AROUND = 64, 8  # lines of tasks that are shown, and so many before the one that is marked
+MOST_TASKS, AROUND = 64, 8  # lines of tasks that are shown, and how many before the marked one
 MOST_SHOWN = 24
 REMEDIES = {
     1: "A table has at most 32 tasks, and no number in it is above 4,294,967,295: take tasks out, or write a longer tick.",

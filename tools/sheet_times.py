@@ -1,6 +1,6 @@
 """The numbers of a sheet: whole ones, times with units, the length of a tick, widths and cores. Everything is exact; nothing is rounded.
 
-A whole number stays the digits that were written: the proved program says what it thinks of them."""
+A whole number stays the digits that were written: the proved program judges them."""
 import re
 from dataclasses import dataclass
 from fractions import Fraction
@@ -30,7 +30,7 @@ class Tick:
         return f"{decimal(self.number)} {self.unit}"
 
     def time(self, ticks: int) -> str:
-        """So many ticks as a time: in the tick's own unit, or where that is 1,000 or more in a larger one."""
+        """Ticks as a time: in the tick's own unit, or where that is 1,000 or more in a larger one."""
         length = ticks * self.length
         units = LARGER[LARGER.index("us" if UNITS[self.unit] == 1_000 else self.unit):]
         unit = next((unit for unit in units if length < 1_000 * UNITS[unit]), "s")
