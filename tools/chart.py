@@ -32,7 +32,7 @@ def luminance(*colours):
     return sum(part * (level / 12.92 if level <= 0.03928 else ((level + 0.055) / 1.055) ** 2.4) for part, level in zip((0.2126, 0.7152, 0.0722), colours))
 
 
-# 32 colours: neighbours differ in hue and in lightness, so that a grey print shows them apart too; and the ink that is read best on each.
+# 32 colours: neighbours differ in hue and in lightness, so that a grey print keeps them apart too; and the ink that is read best on each.
 def colour(position):
     turn = (position - 1) * 0.618034 % 1
     light = (0.74, 0.46, 0.84, 0.58)[(position - 1) % 4]

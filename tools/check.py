@@ -1,6 +1,6 @@
 """Hands a table and a supplied plan to the program `plan_checker` and prints its answer: the mode of --check.
 
-It reads no row: it hands the plan on as it comes, which may be a pipe, and stops where the program has answered. Where the program finds a line that is no row, it
+It reads no row: it hands the plan on as it comes, which may be a pipe, and stops where the program has answered. If the program finds a line that is no row, that line
 is shown on standard error and nothing is printed. From the second second on a terminal shows how many lines have gone by. Status: 0 accepted, 1 a fault or rows
 missing, 2 refused or a line that is no row."""
 import collections

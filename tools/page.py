@@ -63,7 +63,7 @@ def icon(name):
     return element("svg", element("path", d=ICONS[name]), class_="icon", viewBox="0 0 50 50", aria_hidden="true")
 
 
-# A bar of `whole`, in which parts (length, class or colour) follow each other. The text beside has the same.
+# A bar of `whole`, in which parts (length, class or colour) follow each other. The text beside it has the same.
 def bar(whole, parts, thick=False):
     drawn, at = [element("rect", class_="track", width=1000, height=10)], 0
     for length, look in parts:

@@ -1,7 +1,7 @@
 """Writes a page on a table: the modes of --report.
 
-It decides nothing. The verdict, the rows, the sentence on a miss, the conflict, the response times, their bounds and the slack are what the proved programs print, which are beside
-PROGRAM; the tasks are the table's. What could be changed is the same table with one change, and the verdict on it the program's. It counts cells of printed rows, or where they are
+It decides nothing. The proved programs beside PROGRAM print the verdict, the rows, the sentence on a miss, the conflict, the response times, their bounds and the slack.
+The tasks are the table's. What could be changed is the same table with one change, and the verdict on it the program's. It counts cells of printed rows, or where they are
 too many the jobs of one P by the table, and no more.
 What takes long is waited for some seconds; then the page shows that it is missing.
 The status is 0 where nothing is refused or missed, 1 for a miss, 2 for a refusal."""

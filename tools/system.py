@@ -216,7 +216,7 @@ def start(command: List[str], given: Optional[bytes] = None) -> subprocess.Popen
 
 
 def send(process: subprocess.Popen, data: bytes) -> None:
-    """Sends bytes to a program. Where it has ended, its output shows."""
+    """Sends bytes to a program. If it has ended, its output shows that."""
     with contextlib.suppress(BrokenPipeError):
         process.stdin.write(data)
         process.stdin.flush()
