@@ -34,10 +34,10 @@ extern "C" {
 /* The version of this header; sivorandra_version returns that of the library that is linked. One number, which grows with the version:
    major * 10000 + minor * 100 + patch. */
 #define SIVORANDRA_VERSION_MAJOR 0
-#define SIVORANDRA_VERSION_MINOR 21
+#define SIVORANDRA_VERSION_MINOR 23
 #define SIVORANDRA_VERSION_PATCH 0
 #define SIVORANDRA_VERSION (SIVORANDRA_VERSION_MAJOR * 10000 + SIVORANDRA_VERSION_MINOR * 100 + SIVORANDRA_VERSION_PATCH)
-#define SIVORANDRA_VERSION_TEXT "0.21.0"
+#define SIVORANDRA_VERSION_TEXT "0.23.0"
 
 /* No call uses more bytes of the stack. */
 #define SIVORANDRA_STACK_BYTES 20480

@@ -1,7 +1,8 @@
-"""The modes that Python answers: python3 -I -S tools NOTES MODE PROGRAMS TABLE FILE LIST FROM TO
+"""The modes that Python answers: python3 -I -S tools NOTES MODE PROGRAMS TABLE FILE LIST FROM TO SHEET NAMES
 
 NOTES is the descriptor that notes go to, PROGRAMS the folder of the proved programs, TABLE a path to the table's bytes, FILE the table's name; what is not there is empty.
-Until all is loaded standard error is whatever the front has put there: it says in a note why a Python could not start."""
+Where SHEET is not empty the table is a sheet, and FILE itself is read; where NAMES is not, names go behind the lines of an answer.
+Until all is loaded standard error is what the front has put there: the front notes why a Python could not start."""
 import importlib
 import os
 import sys
@@ -9,6 +10,9 @@ import sys
 import system
 
 MODES = {  # module and function
+    **{mode: ("question", "answer") for mode in ("rows", "verdict", "why", "longest", "bounds", "spare", "clash")},  # of a sheet
+    "words": ("question", "words"),
+    "sheet-of": ("question", "sheet_of"),
     "picture": ("picture", "answer"),
     "clash picture": ("picture", "answer_clash"),
     "picture replay": ("picture", "answer_list"),
@@ -29,10 +33,12 @@ def bytes_of(path: str) -> bytes:
         return source.read()
 
 
-def main(noted: str, mode: str, programs: str = "", table: str = "", file: str = "", listed: str = "", since: str = "", until: str = "") -> None:
+def main(noted: str, mode: str, programs: str = "", table: str = "", file: str = "", listed: str = "", since: str = "", until: str = "", sheet: str = "", names: str = "") -> None:
     name, function = MODES[mode]
     answer = getattr(importlib.import_module(name), function)
-    call = system.Call(programs, bytes_of(table), file, listed, int(since) if since else None, int(until) if until else None)
+    if sheet:
+        answer = importlib.import_module("sheet_call").reading(answer)
+    call = system.Call(programs, bytes_of(table), file, listed, int(since) if since else None, int(until) if until else None, mode, names=bool(names))
     os.dup2(int(noted), 2)
     system.LINE = system.Line()
     system.main(answer, call)

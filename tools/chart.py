@@ -5,6 +5,8 @@ import contextlib
 import re
 from xml.sax.saxutils import escape, quoteattr
 
+from named import breadth
+
 RED, BLUE = "#c00000", "#00459c"
 MONO = {"font_size": 10, "font_family": "DejaVu Sans Mono, Menlo, Consolas, monospace", "xml:space": "preserve", "fill": "#333"}
 HATCHES = {
@@ -30,7 +32,7 @@ def luminance(*colours):
     return sum(part * (level / 12.92 if level <= 0.03928 else ((level + 0.055) / 1.055) ** 2.4) for part, level in zip((0.2126, 0.7152, 0.0722), colours))
 
 
-# 32 colours: neighbours differ in hue and in lightness, so that a grey print tells them apart too; and the ink that is read best on each.
+# 32 colours: neighbours differ in hue and in lightness, so that a grey print keeps them apart too; and the ink that is read best on each.
 def colour(position):
     turn = (position - 1) * 0.618034 % 1
     light = (0.74, 0.46, 0.84, 0.58)[(position - 1) % 4]
@@ -55,8 +57,7 @@ class Sheet:
         self.right, self.bottom = max(self.right, x), max(self.bottom, y)
 
     def text(self, x, y, words, size=11, **more):
-        room = len(words) * size * 0.6
-        self.reach(x + room * {"middle": 0.5, "end": 0}.get(more.get("text_anchor"), 1), y + 4)
+        self.reach(x + breadth(words) * size * 0.6 * {"middle": 0.5, "end": 0}.get(more.get("text_anchor"), 1), y + 4)
         self.add("text", words, x=round(x, 2), y=round(y, 2), font_size=size, **more)
 
     @contextlib.contextmanager
@@ -68,7 +69,7 @@ class Sheet:
     def hatching(self, name):
         self.parts.append(f'<defs><pattern id="{self.own}{name}" width="8" height="8" patternUnits="userSpaceOnUse">{HATCHES[name]}</pattern></defs>')
 
-    # The whole, with a title and a description for those who do not see it.
+    # The whole, with a title and a description for screen readers.
     def out(self, title, about):
         wide, high = round(self.right + 16), round(self.bottom + 12)
         return "\n".join([
@@ -221,7 +222,7 @@ class Cells(Sheet):
         for at, length in found:
             self.bar(self.start + at, self.start + at + length, base, fill=fill)
 
-    # What stands over the strips' names, and a name.
+    # The head over the strips' names, and a name.
     def heading(self):
         self.add("text", "position", x=22, y=self.under + 38, font_size=11, fill="#333")
 
@@ -240,7 +241,7 @@ class Cells(Sheet):
     def ends(self, tick, position):
         thick, at = 3 if self.wide >= 24 else 2, self.x(tick + 1)
         with self.group(id=f"end{position}-{tick}"):
-            self.add("title", f"position {position} ends in tick {tick}")
+            self.add("title", f"position {self.table.names.at(position)} ends in tick {tick}")
             for core, having in enumerate(self.rows[tick - self.start]):
                 if having == position:
                     self.stop(at, self.top + core * self.high + 1, self.high - 2, thick)
@@ -249,13 +250,13 @@ class Cells(Sheet):
     # Where an empty job is released: a ring in its strip.
     def empty(self, tick, position):
         with self.group(id=f"empty{position}-{tick}"):
-            self.add("title", f"the job that position {position} releases in tick {tick} is empty")
+            self.add("title", f"the job that position {self.table.names.at(position)} releases in tick {tick} is empty")
             self.ring(self.x(tick) + min(8, self.wide / 2), self.base(position) - 4)
 
     # Where a position is withdrawn: a bar with a foot over the beginning of the tick, in its strip.
     def withdrawn(self, tick, position):
         with self.group(id=f"out{position}-{tick}"):
-            self.add("title", f"position {position} is withdrawn in tick {tick}")
+            self.add("title", f"position {self.table.names.at(position)} is withdrawn in tick {tick}")
             self.gate(self.x(tick) + 1.5, self.base(position))
 
     def gate(self, x, y):
@@ -264,18 +265,18 @@ class Cells(Sheet):
     def ring(self, x, y):
         self.add("circle", cx=round(x, 2), cy=round(y, 2), r=4 if self.wide >= 12 else 3, fill="#fff", stroke="#000", stroke_width=1.5)
 
-    # The longest answer of a task beside its strip, against its D; and over a job that takes so long a bracket from release to end.
+    # The worst-case response time of a task beside its strip, against its D; a bracket over a job with this response time.
     def longest(self, position, figure, release):
         base = self.base(position)
-        self.beside(base, f"longest {figure} of {self.tasks[position - 1].D}", 11, fill="#333", id=f"figure{position}")
+        self.beside(base, f"longest {figure} of {self.tasks[position - 1].D}{self.table.names.time(figure, self.tasks[position - 1].D)}", 11, fill="#333", id=f"figure{position}")
         if release is not None:
             since, until = self.x(release), self.x(release + figure)
             with self.group(id=f"longest{position}"):
-                self.add("title", f"the job that position {position} releases in tick {release} ends {self.amount(figure, 'tick')} later")
+                self.add("title", f"the job that position {self.table.names.at(position)} releases in tick {release} ends {self.amount(figure, 'tick')} later")
                 self.bracket(since, until, base - 11)
                 self.over(figure, (since + until) / 2, base - 12)
 
-    # What stands over a bracket, and at the end of a strip.
+    # The text over a bracket, and at the end of a strip.
     def over(self, figure, x, y):
         self.add("text", str(figure), x=round(x, 2), y=y, font_size=8, text_anchor="middle", fill="#000")
 
@@ -294,12 +295,12 @@ class Cells(Sheet):
         if self.start <= tick <= self.end:
             at = self.x(tick)
             self.add("line", id=name, x1=at, x2=at, y1=y - 8, y2=self.foot + 2, stroke=ink, stroke_width=2, stroke_dasharray=dashes)
-            if self.leftward(at, len(words) * 12 * 0.6):
+            if self.leftward(at, breadth(words) * 12 * 0.6):
                 self.text(at - 5, y, words, 12, fill=ink, text_anchor="end")
             else:
                 self.text(at + 5, y, words, 12, fill=ink)
 
-    # Whether words of this room stand left of a mark.
+    # Whether words of this width go left of a mark.
     def leftward(self, at, room):
         return at + room > max(self.x(self.end), 560)
 
@@ -308,7 +309,11 @@ class Cells(Sheet):
         base = self.base(position)
         self.mark("miss", tick, words, y, RED, "none")
         self.add("path", id="late", d=f"M{self.x(tick) - 6} {base - 14}l12 12m0 -12l-12 12", stroke=RED, stroke_width=3, fill="none")
-        self.beside(base, f"had {had} of {self.tasks[position - 1].C}", 12, fill=RED, id="had")
+        self.beside(base, f"had {had} of {self.tasks[position - 1].C}{self.table.names.time(had, self.tasks[position - 1].C)}", 12, fill=RED, id="had")
+
+    # The text at the line of a miss.
+    def miss_words(self, what, tick, position, more=""):
+        return f"{what} at tick {self.table.names.tick(tick)}{more}, position {self.table.names.at(position)}"
 
     # A tick at which something is refused: its number over the column.
     def refused(self, tick, number):
@@ -335,14 +340,14 @@ class Cells(Sheet):
                 self.add("rect", x=round(self.x(tick) - room / 2, 2), y=self.under + 5, width=round(room, 2), height=14, fill="#fff")
                 self.add("text", self.figure(tick), x=self.x(tick), y=self.under + 16)
 
-    # A number as it is written, and so many things.
+    # A number as it is written, and n things.
     def figure(self, number):
         return str(number)
 
     def amount(self, number, thing):
         return f"{number} {thing}s"
 
-    # A sample of what a name of the legend says, 28 wide and 12 high.
+    # The sample of a name of the legend, 28 wide and 12 high.
     def sample(self, name, x, y):
         self.add("rect", x=x, y=y, width=28, height=12, **LOOKS[name])
         if name == "ends":
@@ -361,12 +366,14 @@ class Cells(Sheet):
         return [("fenced", "a fenced core: it belongs to the hydraulics, and no task has it"), *more] if self.fenced else list(more)
 
 
-# A chart that is a picture of its own. `head` is what stands over it, the title first, and `red` what follows it in red.
+# A chart that is a picture of its own. `head` is the text over it, the title first, and `red` what follows it in red.
 class Chart(Cells):
+    LABEL = 24  # letters of a name beside a strip
+
     def __init__(self, table, start, rows, head, red=()):
         super().__init__(table, start, rows)
-        self.names = {position: f"{position} (record {table.records[position - 1]})" for position in self.drawn}
-        self.box = 12 + 6 * max(map(len, self.names.values()))
+        self.names = {position: f"{position} {table.names.name(position, self.LABEL)}" if table.names else f"{position} (record {table.records[position - 1]})" for position in self.drawn}
+        self.box = 12 + 6 * max(map(breadth, self.names.values()))
         self.over_fields = "O", "v/w" if self.pairs else "v", "C", "D", "T"
         self.fields = {position: fields_of(self.tasks[position - 1]) for position in self.drawn}
         self.columns = [max(len(field) for field in column) + 2 for column in zip(self.over_fields, *self.fields.values())]
@@ -406,15 +413,17 @@ class Chart(Cells):
             self.text(50, at + 10, words)
 
 
-# A chart in a page, which says the rest in its own words. The names of cores and strips are a drawing of their own, `side`, that stays where the ticks are scrolled.
+# A chart in a page, which has the rest in its own words. The names of cores and strips are a drawing of their own, `side`, that stays where the ticks are scrolled.
 class Inset(Cells):
     HREF = "href"
     WIDE, MOST, ROOM, NAMES, PHONE = 26, 48, 900, 58, 318  # of a tick at least and at most, of all ticks where they are few, of the names, of what a phone shows
+    LABEL = 15  # letters of a name beside a strip
 
     def __init__(self, own, table, start, rows):
         super().__init__(table, start, rows, own)
         self.pad = max(10, 4 * len(self.figure(self.end)))  # for a number under the first tick and the last
         self.side = []
+        self.NAMES = Inset.NAMES + (round(6.4 * max(breadth(table.names.name(position, self.LABEL)) for position in self.drawn)) if table.names else 0)
         self.lay_out(round(min(self.MOST, max(self.WIDE, self.ROOM / len(rows))), 2), self.NAMES + self.pad, 42)
 
     @contextlib.contextmanager
@@ -442,23 +451,29 @@ class Inset(Cells):
         with self.aside():
             self.add("rect", x=self.NAMES - 36, y=base - 12, width=28, height=14, fill=fill)
             self.add("text", str(position), x=self.NAMES - 22, y=base - 1, font_size=11, fill=ink, text_anchor="middle")
+            if self.table.names:
+                self.add("text", self.table.names.name(position, self.LABEL), x=self.NAMES - 41, y=base - 1, font_size=11, fill="#333", text_anchor="end")
 
     # With an edge: some colours are as light as what is behind them.
     def worked(self, found, base, fill):
         with self.group(stroke="#555"):
             super().worked(found, base, fill)
 
+    # Short, so that a phone shows it whole; the name is beside the strip.
+    def miss_words(self, what, tick, position, more=""):
+        return f"{what} at tick {tick}{more}, position {position}"
+
     # Thousands apart, as in the page's words.
     def figure(self, number):
         return f"{number:,}"
 
-    # Of a miss in a narrow picture the words stand over the line, so that a phone shows them whole.
+    # Of a miss in a narrow picture the words are over the line, so that a phone shows them whole.
     def mark(self, name, tick, words, y, ink, dashes):
         words = re.sub(r"\d{4,}", lambda found: self.figure(int(found[0])), words)
-        at, room = self.x(tick), len(words) * 12 * 0.6
-        if name == "miss" and self.start <= tick <= self.end and not self.leftward(at, room) and at + 5 + room > self.PHONE:
+        at, wide = self.x(tick), breadth(words) * 12 * 0.6
+        if name == "miss" and self.start <= tick <= self.end and not self.leftward(at, wide) and at + 5 + wide > self.PHONE:
             self.add("line", id=name, x1=at, x2=at, y1=y + 4, y2=self.foot + 2, stroke=ink, stroke_width=2, stroke_dasharray=dashes)
-            self.text(max(self.left, self.PHONE - room), y, words, 12, fill=ink)
+            self.text(max(self.left, self.PHONE - wide), y, words, 12, fill=ink)
         else:
             super().mark(name, tick, words, y, ink, dashes)
 
@@ -468,7 +483,7 @@ class Inset(Cells):
     def amount(self, number, thing):
         return f"{number} {thing}{'' if number == 1 else 's'}"
 
-    def over(self, figure, x, y):  # the page says it
+    def over(self, figure, x, y):  # the page has it
         pass
 
     def beside(self, base, words, size, **more):  # and this

@@ -1,7 +1,7 @@
 """Hands a table and a supplied plan to the program `plan_checker` and prints its answer: the mode of --check.
 
-It reads no row: it hands the plan on as it comes, which may be a pipe, and stops where the program has answered. Where the program says which line is no row, that line
-is shown on standard error and nothing is printed. On a terminal it says from the second second on how many lines have gone by. Status: 0 accepted, 1 a fault or rows
+It reads no row: it hands the plan on as it comes, which may be a pipe, and stops where the program has answered. If the program finds a line that is no row, that line
+is shown on standard error and nothing is printed. From the second second on a terminal shows how many lines have gone by. Status: 0 accepted, 1 a fault or rows
 missing, 2 refused or a line that is no row."""
 import collections
 import select
@@ -12,7 +12,7 @@ from replay import with_end
 from system import Call, Declined, FINE, MISSED, REFUSED, Source, Trouble
 
 BLOCK = 1 << 16  # bytes that are handed on at once
-BEHIND = 1 << 18  # bytes that a pipe and the program may hold unread; of so many the lines are kept
+BEHIND = 1 << 18  # bytes that a pipe and the program may hold unread; the lines of these are kept
 MOST = 60  # bytes that are shown of a line
 EXPECTED = "the tick and a number from 0 to 255 for each core, a space before each number, was expected"
 STATUSES = {b"accepted": FINE, b"fault": MISSED, b"unfinished": MISSED, b"refused": REFUSED}
@@ -55,7 +55,7 @@ def hand_on(process, source: Source, gone: Gone) -> None:
 
 
 def answered(program: List[str], table: bytes, source: Source, gone: Gone) -> bytes:
-    """What the program says to a table and a plan."""
+    """The program's answer to a table and a plan."""
     with system.running(program) as process:
         system.send(process, with_end(table))
         hand_on(process, source, gone)

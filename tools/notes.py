@@ -1,6 +1,6 @@
-"""Says where a refused table is at fault, and of one that is not refused which records are on no chain.
+"""Shows where a refused table is at fault. For one that is not refused: the records on no chain.
 
-It decides nothing: the number is the program's, and where the table has no such fault nothing is said. Lines count from 1, so word k stands on line k + 1."""
+It decides nothing: the number is the program's, and where the table has no such fault there is no note. Lines count from 1, so word k is on line k + 1."""
 import math
 
 HEAD, RECORD = 5, 7  # words of a table and of a record
@@ -11,7 +11,7 @@ TAKEN_FOR = {b"O": 0, b"o": 0, b"l": 1, b"I": 1}  # letters that look like digit
 
 
 def strange(line, at):
-    """What stands in a line at this place, the first that has no digit."""
+    """The text in a line at this place, the first that has no digit."""
     byte, rest = line[at:at + 1], line[at:].lstrip(b" \t")
     comment = next((mark for mark in (b"#", b"//", b";") if rest.startswith(mark)), None)
     if comment:
@@ -141,7 +141,7 @@ class Table:
         return f"S is {start:,}, P is {period:,} and S + P is {start + period:,}; {HORIZON:,} is the most"
 
     def no_spare(self):
-        """Why no spare ticks are given for a table that passes."""
+        """Why no slack is given for a table that passes."""
         order = "1 (greedy) where no width is above one of the next"
         if self.rule in (3, 4):
             return f"line 3: the rule is {self.rule}; spare ticks are given under 2 (limited), and under {order}"
@@ -159,7 +159,7 @@ class Table:
 
 
 def notes(text, answer):
-    """What is to be said beside this answer to a text."""
+    """The notes beside this answer to a text."""
     word, number, position = (*answer.split(), "", "", "")[:3]
     number, position = (int(field) if field.isascii() and field.isdigit() else 0 for field in (number, position))
     text = text[:MOST_BYTES + 1]
@@ -186,5 +186,5 @@ def notes(text, answer):
 
 
 def answer(call):
-    """The mode of the notes alone: the program's first line stands where a list would. What is to be said is said at its end."""
+    """The mode of the notes alone: the program's first line is in the place of a list. The notes are printed at its end."""
     return 0, call.list

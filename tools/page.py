@@ -63,7 +63,7 @@ def icon(name):
     return element("svg", element("path", d=ICONS[name]), class_="icon", viewBox="0 0 50 50", aria_hidden="true")
 
 
-# A bar of `whole`, in which parts (length, class or colour) follow each other. The text beside it says the same.
+# A bar of `whole`, in which parts (length, class or colour) follow each other. The text beside it has the same.
 def bar(whole, parts, thick=False):
     drawn, at = [element("rect", class_="track", width=1000, height=10)], 0
     for length, look in parts:
@@ -85,7 +85,7 @@ def reach(sheet):
     return max(sheet.right, sheet.x(sheet.end)) + sheet.pad
 
 
-# A chart: its names stay, its ticks are scrolled; on paper it is cut into lines of so many ticks. `title` says it to those who do not see it.
+# A chart: its names stay, its ticks are scrolled; on paper it is cut into lines. `title` is its description for screen readers.
 def drawing(sheet, title, farthest):
     high, right = sheet.bottom + 10, reach(sheet)
     names = view("".join(sheet.side), 0, sheet.NAMES, high, width=sheet.NAMES, height=high, class_="names", aria_hidden="true")
@@ -118,7 +118,7 @@ def panes(sheet, right, high):
     return drawn
 
 
-# Charts over each other whose ticks stand under each other, each with its title, what they are called where they are several, and links to some ticks.
+# Charts over each other with their ticks aligned, each with its title, what they are called where they are several, and links to some ticks.
 def charts(sheets, titles, called, end=False):
     first, inner, printed = sheets[0], [], []
     for sheet, title, name in zip(sheets, titles, called or [None] * len(sheets)):

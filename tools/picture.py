@@ -1,13 +1,13 @@
 """Draws what the program prints for a table as an SVG 1.1: the modes of --picture.
 
 It decides nothing. The cells are the program's rows and the words are the program's verdict; releases, deadlines, the fence and the
-numbers beside each task are the table's; the longest answers are what the program `query` says, which stands beside it, and the job
+numbers beside each task are the table's; the response times are what the program `query` beside it prints, and the job
 that is marked is found by its cells. The program's output is read as a stream: only the rows that are drawn are kept, and
 after the last of them the program is stopped. Of a list the program is `replay`: it is fed the table and the operations,
-with a row asked at each tick, and the rows of the list are drawn. A list is read on after the last of these, to say how many there
-are and whether something is refused, but no more than a million lines. Of the clash the tasks in it alone are drawn: the program is
+with a row asked at each tick, and the rows of the list are drawn. A list is read on after these, to show how many there
+are and whether something is refused, but no more than a million lines. Of a conflict only its tasks are drawn: the program is
 handed the table with its chain linked over the others.
-The status is 0 where nothing is refused or missed, or the clash is drawn, 1 for a miss, 2 for a refusal."""
+The status is 0 where nothing is refused or missed, or for a conflict, 1 for a miss, 2 for a refusal."""
 import collections
 import functools
 import math
@@ -16,6 +16,7 @@ import re
 import time
 
 import system
+import named
 from chart import BLUE, Chart, Sheet, moments
 from system import Call, Declined, FINE, MISSED, Made, REFUSED, Trouble, USAGE, running
 
@@ -39,8 +40,8 @@ MISTAKES = {
 Task = collections.namedtuple("Task", "O v C D T w")
 
 
-# The core count, the rule, the fenced cores, and the tasks with their records' numbers; the positions in the clash, where these alone are drawn.
-class Table(collections.namedtuple("Table", "cores rule fenced tasks records clash", defaults=[None])):
+# The core count, the rule, the fenced cores, and the tasks with their records' numbers; the positions in the conflict, if only these are drawn; how positions are called.
+class Table(collections.namedtuple("Table", "cores rule fenced tasks records clash names", defaults=[None, named.NONE])):
     # the positions that are drawn, in the order in which the program counts them
     @property
     def drawn(self):
@@ -67,6 +68,14 @@ REFUSALS = {
     17: ["The table misses no deadline at full length, so no task is in a clash.", "A picture without --clash shows its rows."],
     19: ["The fence (words 3 and 4) names a core past the count, or all cores."],
 }
+SHEET_REFUSALS = {  # in words of a sheet
+    1: ["This is no table: a number is above 4,294,967,295, or there are more than 32 tasks."],
+    2: ["The number of cores is not 1 to 64."],
+    3: ["The rule is not 1 to 4."],
+    7: ["A width of the task at position {} is 0 or above the number of unfenced cores."],
+    8: ["The offset, length, deadline or period of the task at position {} is outside its limits."],
+    19: ["The fence names a core past the count, or all cores."],
+}
 
 
 # What is waited for has not come in time.
@@ -75,7 +84,7 @@ class TooLong(Exception):
 
 
 # The table that the program took, its tasks in the order of its chain.
-def table_of(text):
+def table_of(text, sheet=None):
     words = [int(line) for line in text.split()]
     tasks, records, at = [], [], words[0]
     while at and len(tasks) < 32:
@@ -83,7 +92,7 @@ def table_of(text):
         tasks.append(Task(*record[1:]))
         records.append(at)
         at = record[0]
-    return Table(words[1], words[2], {core for core in range(words[1]) if words[3 + core // 32] >> core % 32 & 1}, tasks, records)
+    return Table(words[1], words[2], {core for core in range(words[1]) if words[3 + core // 32] >> core % 32 & 1}, tasks, records, names=named.Names(sheet))
 
 
 # The first tick to draw and the one after the last where none are asked for, and what they are in words.
@@ -112,7 +121,7 @@ class Asked:
     def __bool__(self):
         return (self.since, self.until) != (None, None)
 
-    # Where there are rows of so many ticks: the first tick to draw, the one after the last, and what they are in words.
+    # Where there are rows of n ticks: the first tick to draw, the one after the last, and what they are in words.
     def within(self, count, whose):
         for name, tick in (("--from", self.since), ("--to", self.until)):
             if tick is not None and tick >= count:
@@ -139,27 +148,39 @@ def about(table):
     return f"{tasks} on {number_of(table.cores, 'core')}{kept}, rule {table.rule} ({RULES[table.rule]})"
 
 
-# A verdict in words; of the clash alone it is a miss.
+# A verdict in words; of a conflict it is a miss.
 def verdict_words(word, first, second, table):
+    at, tick = table.names.at, table.names.tick
     if not table.clash:
-        return VERDICTS[word].format(first, second)
-    *others, last = map(str, table.clash)
+        return VERDICTS[word].format(tick(first), at(second))
+    *others, last = map(at, table.clash)
     positions = f"positions {', '.join(others)} and {last}" if others else f"position {last}"
-    return f"The clash of {positions} alone: position {second} misses its deadline at tick {first}"
+    return f"The clash of {positions} alone: position {at(second)} misses its deadline at tick {tick(first)}"
+
+
+# The text over a picture: these lines, and the length of a tick, where the table gives it.
+def head_lines(table, *lines):
+    return [*lines, *([f"A tick is {table.names.step}."] if table.names.step else [])]
+
+
+# What a number means, in lines.
+def refusal_lines(number, position, names=named.NONE, unknown="The program gave this number; nothing is drawn."):
+    lines = {**REFUSALS, **(SHEET_REFUSALS if names else {})}.get(number, [unknown])
+    return [line.format(names.at(position)) for line in lines]
 
 
 # A refusal, in words.
-def refusal(number, position):
+def refusal(number, position, names=named.NONE):
     sheet = Sheet()
-    title = f"Refused, number {number}" + (f", position {position}" if position else "")
-    lines = [line.format(position) for line in REFUSALS.get(number, ["The program gave this number; nothing is drawn."])]
+    title = f"Refused, number {number}" + (f", position {names.at(position)}" if position else "")
+    lines = refusal_lines(number, position, names)
     sheet.text(16, 30, title, 17, font_weight="bold", id="refused")
     for k, line in enumerate(lines):
         sheet.text(16, 56 + 20 * k, line, 13)
     return Made(sheet.out(title, lines), REFUSED, f"refused {number} {position}")
 
 
-# The program's lines after so many, which are passed over by whole blocks, up to a moment.
+# The program's lines after the first n, which are skipped by whole blocks, up to a time.
 def lines_after(source, count, until=math.inf):
     rest = b""
     while count:
@@ -206,7 +227,7 @@ def rows_of(source, start, end, table, since, position, until=math.inf):
     return rows, had
 
 
-# The longest answers of the tasks, from the lines of `query`.
+# The response times of the tasks, from the lines of `query`.
 def figures_of(source, table):
     lines = [line.split() for line in source.read().splitlines()]
     if [line[0] for line in lines if len(line) == 2 and line[1].isdigit()] != [b"%d" % position for position in range(1, len(table.tasks) + 1)]:
@@ -226,36 +247,38 @@ def longest_jobs(figures, table, start, rows):
     return found
 
 
-# Draws the rows of a verdict that is no refusal: the cells, the strips, the longest answers, the miss with what the late job had, S and the first repeat. What the legend has more.
+# Draws the rows of a verdict that is no refusal: the cells, the strips, the response times, the miss with what the late job had, S and the first repeat. What the legend has more.
 def draw_rows(sheet, word, first, second, figures, had):
-    seen = word == "miss" and sheet.end == first
+    seen, tick = word == "miss" and sheet.end == first, sheet.table.names.tick
     sheet.cells()
     sheet.strips((first, second) if seen else None)
     marked = longest_jobs(figures, sheet.table, sheet.start, sheet.rows)
     for position, figure in enumerate(figures, 1):
         sheet.longest(position, figure, marked.get(position))
     if seen:
-        sheet.late(first, second, had, f"miss at tick {first}, position {second}", sheet.top - 10)
+        sheet.late(first, second, had, sheet.miss_words("miss", first, second), sheet.top - 10)
     elif word != "miss":
-        sheet.mark("S", first, f"S, tick {first}", sheet.top - 26, BLUE, "6 3")
-        sheet.mark("repeat", first + second, f"first repeat, S + P, tick {first + second}", sheet.top - 10, BLUE, "2 3")
+        sheet.mark("S", first, f"S, tick {tick(first)}", sheet.top - 26, BLUE, "6 3")
+        sheet.mark("repeat", first + second, f"first repeat, S + P, tick {tick(first + second)}", sheet.top - 10, BLUE, "2 3")
     sheet.ticks()
     return [("longest", "longest: the most ticks that a job takes from its release to its end, of its D; marked is the first job drawn that takes so many")] if figures else []
 
 
-# The picture of a verdict that is no refusal, and of the rows that it needs from the program's output; `answers` is what `query` says to `longest`.
+# The picture of a verdict that is no refusal, and of the rows that it needs from the program's output; `answers` is `query`'s answer to `longest`.
 def chart(word, first, second, table, source, asked, answers):
     count = first + (0 if word == "miss" else second)
     second = table.drawn[second - 1] if word == "miss" else second
     start, end, what = asked.within(count, "there are those of") if asked else stretch(word, first, second)
     seen = word == "miss" and end == first
     rows, had = rows_of(source, start, end, table, first - table.tasks[second - 1].D if seen else end, second if seen else table.drawn[0])
-    head = [verdict_words(word, first, second, table), about(table) + ("" if word == "miss" else f"; S is {first}, P is {second}"), f"{shown(start, end, count)}: {what}."]
+    names = table.names
+    repeats = "" if word == "miss" else f"; S is {names.tick(first)}, P is {names.tick(second)}"
+    head = head_lines(table, verdict_words(word, first, second, table), about(table) + repeats, f"{shown(start, end, count)}: {what}.")
     figures = figures_of(answers, table) if word != "miss" else []
     sheet = Chart(table, start, rows, head)
     sheet.legend(*draw_rows(sheet, word, first, second, figures, had))
-    tell = [f"The late job had {had} of {table.tasks[second - 1].C}."] if seen else []
-    tell += [f"Longest answers: {', '.join(f'position {position} {figure} of {task.D}' for position, (figure, task) in enumerate(zip(figures, table.tasks), 1))}."] if figures else []
+    tell = [f"The late job had {had} of {table.tasks[second - 1].C}{names.time(had, table.tasks[second - 1].C)}."] if seen else []
+    tell += [f"Longest answers: {', '.join(f'position {names.at(position)} {figure} of {task.D}' for position, (figure, task) in enumerate(zip(figures, table.tasks), 1))}."] if figures else []
     return Made(sheet.out(head[0], head[1:] + tell), MISSED if word == "miss" else FINE, word)
 
 
@@ -396,11 +419,11 @@ class Listed:
         self.tick += 1
         self.row(line)
 
-    # What is said to a row asked, as sets too: nothing changes, but it can be refused.
+    # The answer to a row asked, as sets too: nothing changes, but it can be refused.
     def question(self, answer):
         self.questions += answer.startswith(b"refused ")
 
-    # A move that is refused. Where a task is late the row has said it.
+    # A refused move. Where a task is late the row has shown it.
     def refused(self, operation, answer):
         number, position = numbers_in(answer)
         self.refusals += 1
@@ -409,9 +432,9 @@ class Listed:
                 self.marks[self.tick] = number
             if len(self.words) < SENTENCES:
                 why = f": {MISTAKES[number]}" if number in MISTAKES else ""
-                self.words.append(f"At tick {self.tick} '{operation}' is refused, number {number}{f', position {position}' if position else ''}{why}.")
+                self.words.append(f"At tick {self.tick} '{operation}' is refused, number {number}{f', position {self.table.names.at(position)}' if position else ''}{why}.")
 
-    # What the program says to each line of the list; they are sent in parts, with a row asked after each.
+    # The program's answer to each line of the list; they are sent in parts, with a row asked after each.
     def follow(self, name, source, process):
         self.row(next_line(process.stdout))
         read = since = 0
@@ -472,12 +495,13 @@ def stands(line):
     return repr(line)[1:] + (" (Windows line ends)" if line.endswith(b"\r") else "") if line else "an empty line"
 
 
-# What stands over the picture of a list, and what of it is red.
+# The text over the picture of a list, and what of it is red.
 def list_words(listed, ticks):
+    at, tick_of = listed.table.names.at, listed.table.names.tick
     advances = number_of(listed.advances, "advance") + (f" and {number_of(listed.withdrawals, 'withdrawal')}" if listed.withdrawals else "")
     title = f"The first {advances} of a list" if listed.more else f"A list of {advances}" if listed.advances or listed.withdrawals else "A list without an advance"
     if listed.late:
-        title += f": position {listed.late[1]} misses its deadline at tick {listed.late[0]}"
+        title += f": position {at(listed.late[1])} misses its deadline at tick {tick_of(listed.late[0])}"
     elif listed.refusals:
         title += f", {listed.refusals:,} refused"
     elif listed.advances + listed.withdrawals:
@@ -487,10 +511,10 @@ def list_words(listed, ticks):
         red.append(f"In all {number_of(listed.refusals, 'line')} of the list are refused." if listed.withdrawals else f"In all {number_of(listed.refusals, 'advance')} are refused.")
     if listed.late:
         tick, position, had = listed.late
-        red.append(f"At tick {tick} the row is refused, number {LATE}, position {position}: its job is due and had {had} of {listed.table.tasks[position - 1].C}.")
+        red.append(f"At tick {tick_of(tick)} the row is refused, number {LATE}, position {at(position)}: its job is due and had {had} of {listed.table.tasks[position - 1].C}.")
     if listed.questions:
         red.append(f"{number_of(listed.questions, 'question')} for a row {'is' if listed.questions == 1 else 'are'} refused; --replay shows which.")
-    return [title, about(listed.table), ticks, "These are the rows of the list, not of the full-length run."], red
+    return head_lines(listed.table, title, about(listed.table), ticks, "These are the rows of the list, not of the full-length run."), red
 
 
 # Draws the rows of a list and what is marked in them. What the legend has more.
@@ -508,7 +532,7 @@ def draw_listed(sheet, listed):
     for tick, position in listed.out:
         sheet.withdrawn(tick, position)
     if late:
-        sheet.late(*late, f"refused at tick {late[0]}, number {LATE}, position {late[1]}", sheet.top - 26)
+        sheet.late(*late, sheet.miss_words("refused", late[0], late[1], f", number {LATE}"), sheet.top - 26)
     for tick, number in sorted(listed.marks.items()):
         sheet.refused(tick, number)
     sheet.ticks()
@@ -523,9 +547,10 @@ def draw_listed(sheet, listed):
 
 # What is marked in the rows of a list, a sentence each, with its tick.
 def told(listed):
-    ends = [(tick, f"Position {position} ends in tick {tick} with {had} of {listed.table.tasks[position - 1].C}.") for tick, position, had in listed.ended]
-    ends += [(tick, f"The job that position {position} releases in tick {tick} is empty.") for tick, position in listed.empty]
-    return ends + [(tick, f"Position {position} is withdrawn in tick {tick}.") for tick, position in listed.out]
+    at = listed.table.names.at
+    ends = [(tick, f"Position {at(position)} ends in tick {tick} with {had} of {listed.table.tasks[position - 1].C}.") for tick, position, had in listed.ended]
+    ends += [(tick, f"The job that position {at(position)} releases in tick {tick} is empty.") for tick, position in listed.empty]
+    return ends + [(tick, f"Position {at(position)} is withdrawn in tick {tick}.") for tick, position in listed.out]
 
 
 # The picture of the rows of a list.
@@ -541,7 +566,7 @@ def list_chart(listed):
     return Made(sheet.out(head[0], head[1:] + red + [words for _, words in told(listed)]), REFUSED if listed.late or listed.refusals or listed.questions else FINE, "ok")
 
 
-# What `query`, which stands beside the program, says to a question on a table.
+# The answer of `query`, beside the program, to a question on a table.
 def answering(program, question, text):
     return running([os.path.join(os.path.dirname(program[-1]), "query")], question + text)
 
@@ -567,18 +592,18 @@ def relinked(text, records, kept):
     return b"".join(word + b"\n" for word in words)
 
 
-# The picture of a table; of the clash in it, where the table says so.
-def draw(program, text, asked=Asked(), table=None):
+# The picture of a table; of the conflict in it, if `table` has one.
+def draw(program, text, asked=Asked(), table=None, sheet=None):
     with running(program, text) as process, answering(program, b"longest\n", text) as answers:
         word, first, second = verdict_in(system.first_line(process))
         if word == "refused":
-            return refusal(first, second)
+            return refusal(first, second, named.Names(sheet))
         if table and word != "miss":
             raise Trouble(f"the program's verdict is {word!r}")
-        return chart(word, first, second, table or table_of(text), process.stdout, asked, answers.stdout)
+        return chart(word, first, second, table or table_of(text, sheet), process.stdout, asked, answers.stdout)
 
 
-# The table with the positions in its clash, by what `query` answered.
+# The table with the positions in its conflict, by `query`'s answer.
 def clash_in(answer, table):
     kept = [int(field) for field in answer.split()]
     if not kept or kept != sorted({*kept} & {*range(1, len(table.tasks) + 1)}):
@@ -586,11 +611,11 @@ def clash_in(answer, table):
     return table._replace(clash=kept)
 
 
-# The picture of the clash in a table by what `query` answered.
-def draw_clash(program, text, answer, asked=Asked()):
+# The picture of the conflict in a table by `query`'s answer.
+def draw_clash(program, text, answer, asked=Asked(), sheet=None):
     if answer.startswith("refused"):
-        return refusal(*numbers_in(answer.encode()))
-    table = clash_in(answer, table_of(text))
+        return refusal(*numbers_in(answer.encode()), named.Names(sheet))
+    table = clash_in(answer, table_of(text, sheet))
     return draw(program, relinked(text, table.records, table.clash), asked, table)._replace(status=FINE, first=answer)
 
 
@@ -603,12 +628,12 @@ def begun(process, text):
 
 
 # The picture of a list of operations of a table.
-def draw_list(program, text, source, asked=Asked()):
+def draw_list(program, text, source, asked=Asked(), sheet=None):
     with running(program) as process:
         started = begun(process, text)
         if started != b"ok":
-            return refusal(*numbers_in(started))
-        listed = Listed(table_of(text), asked)
+            return refusal(*numbers_in(started), named.Names(sheet))
+        listed = Listed(table_of(text, sheet), asked)
         listed.follow(source.name, source, process)
         return list_chart(listed)
 
@@ -621,16 +646,16 @@ def written(made: Made):
 
 
 def answer(call: Call):
-    return written(draw(call.program("sivorandra"), call.table, Asked(call.since, call.until)))
+    return written(draw(call.program("sivorandra"), call.table, Asked(call.since, call.until), sheet=call.sheet))
 
 
 def answer_clash(call: Call):
     asked, program = Asked(call.since, call.until), call.program("sivorandra")
     with answering(program, b"clash\n", call.table) as clash:
         said = system.first_line(clash).decode("ascii", "replace").removesuffix("\n")
-    return written(draw_clash(program, call.table, said, asked))
+    return written(draw_clash(program, call.table, said, asked, call.sheet))
 
 
 def answer_list(call: Call):
     asked = Asked(call.since, call.until)
-    return written(draw_list(call.program("replay"), call.table, system.Source(call.list, "the list"), asked))
+    return written(draw_list(call.program("replay"), call.table, system.list_of(call), asked, call.sheet))

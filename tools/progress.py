@@ -1,4 +1,4 @@
-"""Hands standard input on to standard output as it is, and says on a terminal from the second second on that a table is being judged, and then how many of the rows have gone by.
+"""Hands an answer on to standard output as it is. From the second second on a terminal shows that a table is being judged, and then how many of the rows have gone by.
 
 How many there will be it reads from the verdict line. The mode `judging` is silent from the first line on."""
 import contextlib
@@ -21,16 +21,17 @@ def rows_after(line: bytes) -> int:
     return int(fields[1]) + (0 if fields[0] == b"miss" else int(fields[2]))
 
 
-def hand_on(counting: bool) -> None:
+def hand_on(counting: bool, source: int = 0) -> bytes:
+    """Hands on all that a descriptor gives; its first line."""
     with contextlib.suppress(OSError):
-        fcntl.fcntl(0, F_SETPIPE_SZ, BLOCK)
+        fcntl.fcntl(source, F_SETPIPE_SZ, BLOCK)
     first, lines, total = b"", 0, None
     buffer = bytearray(BLOCK)
     while True:
-        if system.ready(0, select.POLLIN, system.EVERY):
-            count = os.readv(0, [buffer])
+        if system.ready(source, select.POLLIN, system.EVERY):
+            count = os.readv(source, [buffer])
             if not count:
-                return
+                return first.partition(b"\n")[0]
             if total is None:
                 first += buffer[:count]
                 if b"\n" in first:

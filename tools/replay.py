@@ -1,9 +1,9 @@
 """Plays a list of operations through the program `replay` and prints its answers with their ticks: the mode of --replay.
 
-First start's answer and the row of tick 0; then for each line `a REPORTS EMPTIES` what is said to it, and where it is taken the row of the next tick. Where its empty
+First start's answer and the row of tick 0; then for each line `a REPORTS EMPTIES` its answer, and where it is taken the row of the next tick. Where its empty
 jobs leave another row than was shown, that row comes before the answer. A withdrawal, `w POSITION`, or `W SET` of several together, stays in its tick; where it leaves
 another row, that comes after the answer. A line `r` asks what is shown already, `r EMPTIES` the row that these leave; `s` and `s EMPTIES`
-ask the same as sets of cores, which come as the program says them. It counts the ticks and nothing else, and reads a line when the one before is answered:
+ask the same as sets of cores, which come as the program has them. It counts the ticks and nothing else, and reads a line when the one before is answered:
 the list may be a pipe. Status 2: something is refused, or a line is no operation."""
 import re
 from typing import Iterable, Iterator, List
@@ -64,7 +64,7 @@ class Session:
 
 
 def played(program: List[str], table: bytes, lines: Iterable[bytes], name: str) -> Iterator[bytes]:
-    """The lines that are to be printed, each as soon as the program has said it."""
+    """The lines to be printed, each as soon as the program has printed it."""
     with system.running(program) as process:
         session = Session(process)
         tick, started = 0, session.started(table)
@@ -95,7 +95,7 @@ def played(program: List[str], table: bytes, lines: Iterable[bytes], name: str) 
 
 
 def answer(call: Call):
-    source, status, first = Source(call.list, "the list"), FINE, ""
+    source, status, first = system.list_of(call), FINE, ""
     for line in played(call.program("replay"), call.table, lines_of(source), source.name):
         first = first or line.decode("ascii", "replace")
         status = REFUSED if b"refused" in line else status

@@ -1,18 +1,20 @@
 """Writes a page on a table: the modes of --report.
 
-It decides nothing. The verdict, the rows, the sentence on a miss, the clash, the longest answers, their bounds and the spare ticks are what the proved programs print, which stand beside
-PROGRAM; the tasks are the table's. What could be changed is the same table with one change, and the verdict on it the program's. It counts cells of printed rows, or where they are
+It decides nothing. The proved programs beside PROGRAM print the verdict, the rows, the sentence on a miss, the conflict, the response times, their bounds and the slack.
+The tasks are the table's. What could be changed is the same table with one change, and the verdict on it the program's. It counts cells of printed rows, or where they are
 too many the jobs of one P by the table, and no more.
-What takes long is waited for so many seconds; then the page says that it is not there.
+What takes long is waited for some seconds; then the page shows that it is missing.
 The status is 0 where nothing is refused or missed, 1 for a miss, 2 for a refusal."""
 import collections
 import contextlib
+import importlib
 import io
 import os
 import re
 import subprocess
 import time
 
+import named
 import notes
 import page
 import picture
@@ -79,10 +81,10 @@ def ticks(count):
 class Programs:
     def __init__(self, program, text):
         self.program, self.text, self.stack = program, text, contextlib.ExitStack()
-        self.notes = []  # what standard error is told
+        self.notes = []  # lines for standard error
         self.begun, self.patience = time.monotonic(), PATIENCE
 
-    # The verdict is there: so many seconds is waited for what is asked on.
+    # The verdict is there: what is asked next has this many seconds.
     def judged(self):
         self.patience = max(PATIENCE, round(2 * (time.monotonic() - self.begun)))
         self.wait()
@@ -107,7 +109,7 @@ class Programs:
     def start(self, command, given):
         return self.stack.enter_context(system.running(command, given))
 
-    # What a program says in time, or None. A terminal shows that it is waited for.
+    # A program's output in time, or None. A terminal shows that it is waited for.
     def heard(self, process):
         process.stdin = None
         while True:
@@ -128,7 +130,7 @@ class Programs:
         return said and picture.verdict_in(said)
 
 
-# How many ticks a picture of a page shows, where there are so many pictures.
+# How many ticks a picture of a page shows, where there are n pictures.
 def most(table, pictures):
     tick = CELL * table.cores + sum(STRIP + JOB / task.T for task in table.tasks)
     return min(SHOWN, int(BYTES / pictures / tick))
@@ -167,18 +169,23 @@ def waited(programs, what, option):
     return paragraph(f"{what} had not been answered after {programs.patience} s. ", element("code", f"./sivorandra {option}"), " waits for it.", class_="note")
 
 
+# A position in its colour, with its name.
+def marked(position, names):
+    return [chip(position), element("span", f" {names.name(position)}", class_="name")] if names else [chip(position)]
+
+
 # A task in words.
 def width_words(task):
     cores = lambda count: f"{count} core{'' if count == 1 else 's'}"
     return cores(task.v) if task.v == task.w else f"{cores(task.v)} in odd jobs and {task.w} in even ones"
 
 
-def task_words(task):
+def task_words(task, names=named.NONE):
     every = "every tick" if task.T == 1 else f"every {ticks(task.T)}"
-    return f"{width_words(task)} for {ticks(task.C)}, {every} from tick {number(task.O)}, due {ticks(task.D)} after release"
+    return f"{width_words(task)} for {ticks(task.C)}{names.time(task.C)}, {every}{names.time(task.T)} from tick {names.tick(task.O, number)}, due {ticks(task.D)}{names.time(task.D)} after release"
 
 
-# ---- What is said of every table that is judged
+# ---- What is shown of every judged table
 
 def verdict_header(word, name, lead, more=None, look="lead"):
     return element("header", paragraph("Timing report on ", element("b", name), class_="over"),
@@ -191,12 +198,14 @@ BY_SIMULATION = ("Verdict by", "simulation", "of the full-length run up to the h
 
 
 def facts(word, first, second, table, bounds=None):
+    tick, at = lambda count: table.names.tick(count, number), table.names.at
     fenced = f"{len(table.fenced)} of them fenced: they belong to the hydraulics" if table.fenced else "none of them fenced"
-    found = [("Start of the repeat, S", number(first), "from this tick on everything repeats"), ("Period, P", number(second), f"it repeats every {'tick' if second == 1 else ticks(second)}"),
-             ("Horizon, S + P", number(first + second), "no deadline missed up to this tick means that none ever is")] if word != "miss" else [
-             ("First miss", f"tick {number(first)}", "the earliest; at one tick the highest in priority"), ("Late task", f"position {second}", f"record {table.records[second - 1]} of the table")]
+    found = [("Start of the repeat, S", tick(first), "from this tick on everything repeats"), ("Period, P", tick(second), f"it repeats every {'tick' if second == 1 else ticks(second)}"),
+             ("Horizon, S + P", tick(first + second), "no deadline missed up to this tick means that none ever is")] if word != "miss" else [
+             ("First miss", f"tick {tick(first)}", "the earliest; at one tick the highest in priority"), ("Late task", f"position {at(second)}", table.names.origin(second, table.records[second - 1]))]
     found += [("Tasks", len(table.tasks), "position 1 has the highest priority"), ("Cores", table.cores, fenced),
               ("Rule", f"{table.rule}, {picture.RULES[table.rule]}", RULES[table.rule])]
+    found += [("Tick", table.names.step, "as the sheet gives it; times in brackets are so many of it")] if table.names.step else []
     found += [BY_TEST if bounds else BY_SIMULATION] if word != "miss" else []
     promises = [(element("b", f"{known.capitalize()}: ", class_="good" if known == "firm" else "fair"), words, element("b", f" This table is {word}.") if known == word else None) for known, words in PROMISES.items()] + ([element("b", "This table is neither.")] if word == "miss" else [])
     return section("In short", paragraph(WORDS, class_="soft") if word != "miss" else None, element("dl", *(element("div", element("dt", what), element("dd", figure, element("small", words))) for what, figure, words in found), class_="facts"),
@@ -215,9 +224,15 @@ def table_section(text, table, answer):
     head = element("tr", *(head_cell(field) for field in ("record", "position", "next", "O", "v", "C", "D", "T", "w")))
     rows = [fields(record, table.records.index(record) + 1 if record in table.records else "\u2013", *words[HEAD + RECORD * (record - 1):HEAD + RECORD * record])
             for record in range(1, (len(words) - HEAD) // RECORD + 1)]
-    return section("The table", paragraph(f"As it was read: head {words[0]}, cores {words[1]}, rule {words[2]}, fence {words[3]} and {words[4]}; then each record. O is the first release, v the cores of odd jobs and w of even ones, "
+    sheet = sheet_page().sheet_parts(table.names.sheet) if table.names else []
+    return section("The table", *sheet, paragraph(f"{'As words' if sheet else 'As it was read'}: head {words[0]}, cores {words[1]}, rule {words[2]}, fence {words[3]} and {words[4]}; then each record. O is the first release, v the cores of odd jobs and w of even ones, "
                                           "C the length, D the deadline after release, T the period."),
-                   off_chain(text, answer), page.wide_table([head, *rows], "the records", class_="words"), id="table")
+                   None if sheet else off_chain(text, answer), page.wide_table([head, *rows], "the records", class_="words"), id="table")
+
+
+# What only sheets need is loaded where there is one.
+def sheet_page():
+    return importlib.import_module("sheet_page")
 
 
 def footer():
@@ -251,7 +266,7 @@ def picture_section(programs, word, first, second, table, start, end, what, rows
         return section("The picture", paragraph(f"The program's rows of ticks {number(start)} to {number(end - 1)} had not come after {programs.patience} s. ", element("code", "./sivorandra --picture"), " waits for them."), id="picture")
     sheet = Inset("t-", table, start, rows)
     keys = picture.draw_rows(sheet, word, first, second, figures, had)
-    title = f"{picture.VERDICTS[word].format(first, second)}. {picture.shown(start, end, count)}, core by core; below a strip for each task."
+    title = f"{picture.verdict_words(word, first, second, table)}. {picture.shown(start, end, count)}, core by core; below a strip for each task."
     shown = page.charts([sheet], [title], None, end=word == "miss")
     others = (" ", element("code", "./sivorandra --report --from TICK --to TICK FILE"), " shows others.") if end - start < count else ()
     return section("The picture", caption(start, end, count, what, after=others, id="ticks"), *shown, *page.legend(sheet, keys), id="picture")
@@ -265,24 +280,33 @@ def sentence_section(said, first, second, table):
         raise Trouble(f"the sentence is {said!r}")
     late, due, had, length = (int(field) for field in found.groups()[:4])
     others = [tuple(map(int, pair)) for pair in re.findall(r"task (\d+) ran (\d+)", found[5])]
-    inner = [paragraph(chip(late), f" The job of position {late} that is due at tick {number(due)} had {number(had)} of its {ticks(length)}. It takes {width_words(table.tasks[late - 1])}{', together or not at all' if max(table.tasks[late - 1].v, table.tasks[late - 1].w) > 1 else ''}.")]
+    names = table.names
+    inner = [paragraph(chip(late), f" The job of position {names.at(late)} that is due at tick {names.tick(due, number)} had {number(had)} of its {ticks(length)}{names.time(had, length)}. It takes {width_words(table.tasks[late - 1])}{', together or not at all' if max(table.tasks[late - 1].v, table.tasks[late - 1].w) > 1 else ''}.")]
     if others:
-        inner += [paragraph("Tasks above it ran in so many of the ticks in which it waited:"), listing([(chip(position), f" {ticks(count)}") for position, count in others], class_="shares", id="ran")]
+        inner += [paragraph("Tasks above it ran in so many of the ticks in which it waited:"), listing([(*marked(position, names), f" {ticks(count)}{names.time(count)}") for position, count in others], class_="shares", id="ran")]
     else:
         inner.append(paragraph("No task above it ran in a tick in which it waited."))
     if table.rule == LIMITED and late > 1:
         inner.append(paragraph("Under rule 2 the first task that does not fit in the free cores ends the choosing, so in that tick every task below it waits, even where enough cores are idle for it.", id="limited"))
-    return had, why_section(second, element("blockquote", said, id="sentence"), *inner)
+    return had, why_section(second, table, element("blockquote", said, id="sentence"), named_sentence(said, names), *inner)
+
+
+# The sentence with the names of a sheet and times in its units.
+def named_sentence(said, names):
+    if not names:
+        return None
+    telling = importlib.import_module("sheet_names")
+    return element("blockquote", telling.sentence(said, names.sheet.names(), names.step), id="sentence-names")
 
 
 # Why it misses, after what the words in it mean.
-def why_section(late, *inner):
-    return section("Why it misses", paragraph(f"{WORDS} Task {late} is the task at position {late}.", class_="soft"), *inner, id="why")
+def why_section(late, table, *inner):
+    return section("Why it misses", paragraph(f"{WORDS} Task {late} is the task at position {table.names.at(late)}.", class_="soft"), *inner, id="why")
 
 
 # The rows of the late job up to the miss. Where the picture shows other ticks, the program is asked again.
 def rows_section(programs, first, second, table, start, rows):
-    task = table.tasks[second - 1]
+    task, names = table.tasks[second - 1], table.names
     release = first - task.D
     since = max(release, first - ROWS)
     if rows and start <= since and start + len(rows) == first:
@@ -292,14 +316,14 @@ def rows_section(programs, first, second, table, start, rows):
             rows, _ = picture.rows_of(rows_again(programs), since, first, table, first, table.drawn[0], programs.until)
         except TooLong:
             return section("The rows before the miss", waited(programs, "The question for the rows", "FILE"), id="rows")
-    head = element("tr", head_cell("tick"), *core_heads(table), head_cell("position ", chip(second), class_="word"))
+    head = element("tr", head_cell("tick"), *core_heads(table), head_cell("position ", *marked(second, names), class_="word"))
     width = task.w if (release - task.O) // task.T % 2 else task.v
     beside = "waits, though it would fit"
     said = ["runs" if second in row else beside if table.rule == LIMITED and row.count(0) >= width else "waits" for row in rows]
     lines = [element("tr", element("td", number(tick)), *row_cells(row), element("td", word, class_="word")) for tick, row, word in zip(range(since, first), rows, said)]
-    lines.append(element("tr", element("td", number(first)), element("td", f"position {second} is due here and has not had its {ticks(task.C)}", colspan=table.cores + 1, class_="words"), class_="due"))
-    what = f"The late job of position {second} was released at tick {number(release)}" + ("." if since == release else f"; shown are the last {ticks(first - since)}.")
-    ended = paragraph(f"Where position {second} waits though it would fit in the idle cores, a task above it that does not fit in them has ended the choosing: that is rule {LIMITED}.", id="ended") if beside in said else None
+    lines.append(element("tr", element("td", number(first)), element("td", f"position {names.at(second)} is due here and has not had its {ticks(task.C)}{names.time(task.C)}", colspan=table.cores + 1, class_="words"), class_="due"))
+    what = f"The late job of position {names.at(second)} was released at tick {names.tick(release, number)}" + ("." if since == release else f"; shown are the last {ticks(first - since)}.")
+    ended = paragraph(f"Where position {names.at(second)} waits though it would fit in the idle cores, a task above it that does not fit in them has ended the choosing: that is rule {LIMITED}.", id="ended") if beside in said else None
     return section("The rows before the miss", paragraph(what, class_="soft"), page.wide_table([head, *lines], "the rows before the miss", class_=rows_look(table.cores)), ended, id="rows")
 
 
@@ -310,14 +334,14 @@ def rows_again(programs):
     return source
 
 
-# The tasks in the clash, with their own picture. Its positions are called as in the table.
+# The tasks in the conflict, with their picture. Its positions are called as in the table.
 def clash_section(programs, said, table, pictures):
     title = "The clash"
     if said is None:
         return [], section(title, waited(programs, "The question for the clash", "--clash"), id="clash")
     part = picture.clash_in(said.decode("ascii", "replace"), table)
     kept = part.clash
-    inner = [paragraph("Positions " if len(kept) > 1 else "Position ", *(mark for position in kept for mark in (chip(position), " ")),
+    inner = [paragraph("Positions " if len(kept) > 1 else "Position ", *(mark for position in kept for mark in (*marked(position, table.names), " ")),
                        "clash: by themselves they miss a deadline, and without any one of them the rest does not." if len(kept) > 1 else "misses a deadline by itself, without any other task.", id="kept")]
     if len(kept) == len(table.tasks):
         return kept, section(title, *inner, paragraph("These are all tasks of the table, so their picture is the one above.", class_="soft"), id="clash")
@@ -335,7 +359,7 @@ def clash_section(programs, said, table, pictures):
     sheet = Inset("c-", part, start, rows)
     keys = picture.draw_rows(sheet, word, first, late, [], 0)
     shown = picture.shown(start, end, first)
-    inner.append(caption(start, end, first, what, f"With these alone position {late} misses its deadline at tick {number(first)}. "))
+    inner.append(caption(start, end, first, what, f"With these alone position {table.names.at(late)} misses its deadline at tick {table.names.tick(first, number)}. "))
     return kept, section(title, *inner, *page.charts([sheet], [f"{picture.verdict_words(word, first, late, part)}. {shown}."], None, end=True), *page.legend(sheet, keys)[:1], id="clash")
 
 
@@ -361,7 +385,7 @@ def changes(word, text, table, late, kept):
             yield f"rule {rule} ({name})", other(2, rule), positions
     orders = [("those with fewer cores first", sorted(positions, key=lambda position: sorted((tasks[position - 1].v, tasks[position - 1].w), reverse=True)))]
     if word == "miss":
-        orders.append((f"position {late} first", sorted(positions, key=lambda position: position != late)))
+        orders.append((f"position {table.names.at(late)} first", sorted(positions, key=lambda position: position != late)))
         orders.append(("short deadlines first", sorted(positions, key=lambda position: tasks[position - 1].D)))
     tried = [positions]
     for what, order in orders:
@@ -375,7 +399,7 @@ def changes(word, text, table, late, kept):
             yield f"{table.cores + 1} cores", other(1, table.cores + 1), positions
         for position in kept if len(positions) > 1 else []:
             rest = [one for one in positions if one != position]
-            yield f"without position {position}", picture.relinked(text, table.records, rest), rest
+            yield f"without position {table.names.at(position)}", picture.relinked(text, table.records, rest), rest
 
 
 def change_section(programs, word, table, late=None, kept=()):
@@ -386,9 +410,9 @@ def change_section(programs, word, table, late=None, kept=()):
         if said is None:
             look, answer = "soft", f"not judged after {programs.patience} s"
         elif said[0] == "miss":
-            look, answer = "bad", f"\u2717 misses: position {positions[said[2] - 1]} at tick {number(said[1])}"
+            look, answer = "bad", f"\u2717 misses: position {table.names.at(positions[said[2] - 1])} at tick {table.names.tick(said[1], number)}"
         elif said[0] == "refused":
-            look, answer = "bad", f"\u2717 refused by number {said[1]}: {refusal_words(said[1], said[2])}"
+            look, answer = "bad", f"\u2717 refused by number {said[1]}: {refusal_words(said[1], positions[said[2] - 1] if said[2] else 0, table.names)}"
         else:
             look, answer = ("good" if said[0] == "firm" else "fair"), f"\u2713 fits: {said[0]}, S {number(said[1])}, P {number(said[2])}"
         firm |= look == "good"
@@ -403,19 +427,20 @@ def change_section(programs, word, table, late=None, kept=()):
 
 # Of a judged table each task, and where there are figures how close it comes; `spare` has the figures, or the words why there are none.
 def answers_section(programs, word, table, longest, spare, listed=None, bounds=None):
-    items = []
+    items, names = [], table.names
+    in_units = lambda *counts: (element("br"), names.time(*counts)) if names.step else ()
     for position, task in enumerate(table.tasks, 1):
         fill, figures = colour(position)[0], []
-        line = lambda what, drawn, said: [element("div", element("span", what, class_="what"), drawn, element("span", said, class_="number"))]
+        line = lambda what, drawn, *said: [element("div", element("span", what, class_="what"), drawn, element("span", *said, class_="number"))]
         if longest:
-            figures += line("longest answer", page.bar(task.D, [(longest[position - 1], fill)]), f"{number(longest[position - 1])} of {ticks(task.D)}")
+            figures += line("longest answer", page.bar(task.D, [(longest[position - 1], fill)]), f"{number(longest[position - 1])} of {ticks(task.D)}", *in_units(longest[position - 1], task.D))
         elif bounds:
-            figures += line("bound", page.bar(task.D, [(bounds[position - 1], fill)]), f"at most {number(bounds[position - 1])} of {ticks(task.D)}")
+            figures += line("bound", page.bar(task.D, [(bounds[position - 1], fill)]), f"at most {number(bounds[position - 1])} of {ticks(task.D)}", *in_units(bounds[position - 1], task.D))
         if isinstance(spare, list):
             grown = spare[position - 1]
-            figures += line("length and spare", page.bar(task.D, [(task.C, fill), (grown, "spare")]), f"{number(task.C)} + {number(grown)} to spare")
-        items.append(element("li", chip(position), element("div", element("b", f"Position {position}"), element("span", f" record {table.records[position - 1]}", class_="soft"), element("br"),
-                                                          element("span", task_words(task), class_="soft")),
+            figures += line("length and spare", page.bar(task.D, [(task.C, fill), (grown, "spare")]), f"{number(task.C)} + {number(grown)} to spare", *in_units(grown))
+        items.append(element("li", chip(position), element("div", element("b", names.name(position) or f"Position {position}"), element("span", f" position {position}, {names.origin(position, 0)}" if names else f" record {table.records[position - 1]}", class_="soft"), element("br"),
+                                                          element("span", task_words(task, names), class_="soft")),
                              element("div", *figures, class_="figures") if figures else None, id=f"task-{position}"))
     inner = [element("ul", *items, class_="tasks" if longest or bounds or isinstance(spare, list) else "tasks plain")]
     if word == "miss":
@@ -444,7 +469,7 @@ def no_spare(table):
         return f"Its rule is {table.rule} ({picture.RULES[table.rule]})."
     for position, (task, below) in enumerate(zip(table.tasks, table.tasks[1:]), 1):
         if max(task.v, task.w) > min(below.v, below.w):
-            return f"Position {position} takes {width_words(task)}, and position {position + 1}, next below it, {width_words(below)}."
+            return f"Position {table.names.at(position)} takes {width_words(task)}, and position {table.names.at(position + 1)}, next below it, {width_words(below)}."
     raise Trouble("the spare ticks are refused by 23")
 
 
@@ -491,17 +516,17 @@ def fullness_section(programs, first, second, table, listed):
         by_core = [paragraph(f"Counted in the first {number(length)} printed rows from S on, {where}.", class_="soft") if length < second else None, element("ul", *bars, class_="cores")]
     return section(title, paragraph(element("b", f"{share}: "), f"tasks have {number(busy)} of {number(whole)} core ticks in one P, {source}.", " Fenced cores are left out." if table.fenced else None, NOT_OF_THE_LIST if listed else None, id="full-of"),
                    page.bar(whole, [(count, colour(position)[0]) for position, count in enumerate(had, 1)], thick=True),
-                   listing([*((chip(position), f" {number(count)}") for position, count in enumerate(had, 1)), f"idle {number(whole - busy)}"], class_="shares"),
+                   listing([*((*marked(position, table.names), f" {number(count)}") for position, count in enumerate(had, 1)), f"idle {number(whole - busy)}"], class_="shares"),
                    element("h3", "Core by core"), *by_core, id="fullness")
 
 
 # ---- A refusal
 
-def refusal_words(refused, position):
-    return " ".join(picture.REFUSALS.get(refused, ["The program gave this number."])).format(position)
+def refusal_words(refused, position, names=named.NONE):
+    return " ".join(picture.refusal_lines(refused, position, names, "The program gave this number."))
 
 
-# What a line of a table stands for.
+# What a line of a table means.
 def line_words(line):
     if line <= HEAD:
         return ("head: the first record", "cores", "rule", "fence, cores 0 to 31", "fence, cores 32 to 63")[line - 1]
@@ -509,7 +534,7 @@ def line_words(line):
     return f"{notes.FIELDS[field]} of record {record + 1}"
 
 
-# A line of an input of any bytes, and no more than so many of them.
+# A line of an input of any bytes, and no more than n of them.
 def shown_line(line, most=80):
     return (repr(line[:most])[2:-1] + ("\u2026" if len(line) > most else "")) if line else "(an empty line)"
 
@@ -522,6 +547,18 @@ def excerpt(text, said):
     rows = [element("tr", element("td", f"line {line}"), element("td", element("code", shown_line(lines[line - 1], 24))), element("td", line_words(line)), class_="here" if line in marked else None)
             for line in range(max(1, marked[0] - 3), min(len(lines), marked[-1] + 3) + 1)]
     return page.wide_table([element("tr", head_cell("line"), head_cell("what stands there"), head_cell("what belongs there")), *rows], "the lines around the fault", class_="excerpt")
+
+
+# The page on a sheet that is refused: its cells instead of lines of words.
+def refused_sheet(sheet, name, refused, position):
+    names, parts = named.Names(sheet), sheet_page()
+    said = importlib.import_module("sheet_notes").notes_on(sheet, f"refused {refused} {position}")
+    found = re.match(r"line (\d+)", said[0]) if said else None
+    lead = f"Refused, number {refused}" + (f", position {names.at(position)}" if position else "") + ": the table was turned down before it was judged."
+    return page.document(f"{FITS['refused']} \u2013 {name}", [], verdict_header("refused", name, [lead]),
+                         section("What is wrong", paragraph(refusal_words(refused, position, names), id="meaning"), *(paragraph(element("b", note[0].upper() + note[1:] + "."), id="note") for note in said), id="fault"),
+                         section("What to do", paragraph(parts.REMEDIES.get(refused, "Look the number up in docs/NUMBERS.md."), id="remedy"), paragraph("Whoever wrote the sheet can mend it; this page can be sent back with it.", class_="soft"), id="todo"),
+                         section("The sheet", *parts.sheet_parts(sheet, int(found[1]) if found else None), id="input"), footer())
 
 
 def refused_page(text, name, refused, position):
@@ -537,7 +574,7 @@ def refused_page(text, name, refused, position):
 
 # ---- A list
 
-# A run of a list, of which the row of each tick is kept as it was said last.
+# A run of a list, of which the last printed row of each tick is kept.
 class Followed(picture.Listed):
     def __init__(self, table, asked):
         super().__init__(table, asked)
@@ -553,20 +590,25 @@ class Followed(picture.Listed):
             self.lines[self.tick] = line
 
 
-# The lines of a list, at most so many, and whether there are more. After one that is no operation nothing counts.
+# The lines of a list, at most n, whether there are more, and the fault of one with a name that no task has. After one that is no operation nothing counts.
 def lines_of(source):
     kept = []
-    while len(kept) < LINES:
-        line = source.readline(picture.LINE)
-        if not line:
-            return kept, False
-        kept.append(line if line.endswith(b"\n") else line + b"\n")
-        if picture.operation_in(line.removesuffix(b"\n")) is None:
-            return kept, False
-    return kept, bool(source.readline(1))
+    try:
+        while len(kept) < LINES:
+            line = source.readline(picture.LINE)
+            if not line:
+                return kept, False, None
+            kept.append(line if line.endswith(b"\n") else line + b"\n")
+            if picture.operation_in(line.removesuffix(b"\n")) is None:
+                return kept, False, None
+        return kept, bool(source.readline(1)), None
+    except Declined as declined:
+        if declined.status != REFUSED:
+            raise
+        return kept, False, str(declined)
 
 
-# Plays lines through the program `replay`: what became of them, and what is said of one that is no operation.
+# Plays lines through the program `replay`: what became of them, and the fault of one that is no operation.
 def play(programs, table, name, lines, asked):
     with system.running([programs.path("replay")]) as process:
         if picture.begun(process, programs.text) != b"ok":
@@ -594,7 +636,7 @@ def difference(table, run, full):
     return differs, paragraph(element("b", f"The first difference is in tick {number(tick)}: "), "at full length the cores have ", element("code", spelled(full.lines[tick])), ", ", *words, id="difference")
 
 
-# The class of a table of rows with so many columns of cores: where they are many they are narrow on paper.
+# The class of a table of rows with n columns of cores: where they are many they are narrow on paper.
 def rows_look(columns):
     return "rows" if columns <= 2 * WIDE else "rows many" if columns <= NARROW else "rows many most"
 
@@ -624,16 +666,17 @@ def list_title(run):
     title = f"A list of {parts}" if count else "A list without an advance"
     if run.late:
         tick, position, _ = run.late
-        return f"{title}: position {position} misses its deadline at tick {number(tick)}."
+        return f"{title}: position {run.table.names.at(position)} misses its deadline at tick {run.table.names.tick(tick, number)}."
     if run.refusals:
         return f"{title}; {number(run.refusals)} of these {number_of(count, 'line')} {'is' if run.refusals == 1 else 'are'} refused." if count > 1 else f"{title}; it is refused."
     return f"{title}, {'all taken' if count > 1 else 'taken'}." if count else f"{title}."
 
 
-def list_section(programs, word, first, second, table, name, lines, more, asked):
+def list_section(programs, word, first, second, table, name, lines, more, unknown, asked):
     size = most(table, 2)
     window = picture.Asked(asked.since, asked.until, size)
     run, wrong = play(programs, table, name, lines, window)
+    wrong = wrong or unknown
     zeros = [b"a 0\n"] * run.tick
     full = play(programs, table, name, zeros, window)[0]
     differs, named = difference(table, run, full)
@@ -671,10 +714,10 @@ def miss_page(programs, text, name, first, second, table, source, asked, listed)
     why, clash = programs.asking(b"why"), programs.asking(b"clash")
     start, end, what, rows = picture_rows(programs, "miss", first, second, table, source, asked, 2)
     said = programs.heard(why)
-    had, sentence = sentence_section(said.decode("ascii", "replace").removesuffix("\n"), first, second, table) if said else (0, why_section(second, waited(programs, "The question why", "--why")))
+    had, sentence = sentence_section(said.decode("ascii", "replace").removesuffix("\n"), first, second, table) if said else (0, why_section(second, table, waited(programs, "The question why", "--why")))
     drawn = picture_section(programs, "miss", first, second, table, start, end, what, rows, [], had)
     kept, clashing = clash_section(programs, programs.heard(clash), table, 2)
-    lead = ["The task at ", element("b", f"position {second}"), " misses its deadline at ", element("b", f"tick {number(first)}"), "."]
+    lead = ["The task at ", element("b", f"position {table.names.at(second)}"), " misses its deadline at ", element("b", f"tick {table.names.tick(first, number)}"), "."]
     no_list = section("What the list does", paragraph(element("b", "Refused, number 13: "), refusal_words(13, 0).split(". ")[0] + "."), paragraph(REMEDIES[13]), id="list") if listed else None
     return page.document(f"{FITS['miss']} \u2013 {name}", range(1, len(table.tasks) + 1), verdict_header("miss", name, lead), sentence, no_list, facts("miss", first, second, table), drawn,
                          rows_section(programs, first, second, table, start, rows), clashing, change_section(programs, "miss", table, second, kept),
@@ -706,15 +749,15 @@ def accepted_page(programs, text, name, word, first, second, table, source, aske
                          answers_section(programs, word, table, answers, room, listed, bounds), fullness, changed, table_section(text, table, f"{word} {first} {second}"), footer()), status
 
 
-# The page on a table; `listed` is the list's name, its lines and whether there are more.
-def report(program, text, name, asked=picture.Asked(), listed=None):
+# The page on a table; `listed` is the list's name, and what `lines_of` gives of it.
+def report(program, text, name, asked=picture.Asked(), listed=None, sheet=None):
     with Programs(program, text) as programs:
         process = programs.start(program, text)
         word, first, second = picture.verdict_in(system.first_line(process))
         programs.judged()
         if word == "refused":
-            return Made(refused_page(text, name, first, second), REFUSED, f"refused {first} {second}")
-        table = picture.table_of(text)
+            return Made(refused_sheet(sheet, name, first, second) if sheet else refused_page(text, name, first, second), REFUSED, f"refused {first} {second}")
+        table = picture.table_of(text, sheet)
         if word == "miss":
             made = miss_page(programs, text, name, first, second, table, process.stdout, asked, listed)
             return Made(made, REFUSED, "refused 13 0") if listed else Made(made, MISSED, word)
@@ -724,8 +767,8 @@ def report(program, text, name, asked=picture.Asked(), listed=None):
 # The mode: the table is called by the last part of its file's name.
 def answer(call: Call):
     asked, listed = picture.Asked(call.since, call.until), None
-    name = system.shown(call.file.rpartition("/")[2]) if call.file not in ("", "-") else "a table without a file name"
+    name = system.shown(call.file.rpartition("/")[2]) if call.file not in ("", "-") else f"a {'sheet' if call.sheet else 'table'} without a file name"
     if call.list:
-        source = system.Source(call.list, "the list")
+        source = system.list_of(call)
         listed = source.name, *lines_of(source)
-    return picture.written(report(call.program("sivorandra"), call.table, name, asked, listed))
+    return picture.written(report(call.program("sivorandra"), call.table, name, asked, listed, call.sheet))

@@ -1,4 +1,4 @@
-"""What stands around every mode that Python answers: the programs that it starts, the list that it reads, what it writes and says, and how it ends.
+"""What every mode that Python answers uses: the programs that it starts, the list that it reads, what it writes, and how it ends.
 
 Nothing else in these tools starts a program, opens a list, writes to standard output or error, takes a signal or ends the process."""
 import contextlib
@@ -13,12 +13,15 @@ import signal
 import stat
 import subprocess
 import time
-from typing import Callable, Iterator, List, NamedTuple, Optional
+from typing import TYPE_CHECKING, Callable, Iterator, List, NamedTuple, Optional, Sequence
 
 import notes
 
+if TYPE_CHECKING:
+    from sheet import Sheet
+
 FINE, MISSED, REFUSED, TROUBLE, USAGE = 0, 1, 2, 3, 64
-ANSWERED = 100  # stands before a status, so that the end of a Python that could not start is never taken for one
+ANSWERED = 100  # is added to a status, so that the end of a Python that could not start is never taken for one
 SIGNALS = signal.SIGHUP, signal.SIGINT, signal.SIGTERM
 QUIET = 2.0  # seconds before the first word on a terminal
 EVERY = 0.5  # seconds between two words
@@ -27,9 +30,9 @@ EVERY = 0.5  # seconds between two words
 class Trouble(Exception):
     """What went wrong, and the status."""
 
-    def __init__(self, words: str, status: int = TROUBLE):
+    def __init__(self, words: str, status: int = TROUBLE, more: Sequence[str] = ()):
         super().__init__(words)
-        self.status = status
+        self.status, self.lines = status, [words, *more]
 
 
 class Declined(Trouble):
@@ -46,13 +49,16 @@ class Stopped(BaseException):
 
 @dataclasses.dataclass(frozen=True)
 class Call:
-    """What was asked for: the folder of the programs, the table and its file, the list and the ticks."""
+    """What was asked for: the folder of the programs, the table and its file, the list and the ticks; the mode, the sheet that the table was written as, and whether names go behind lines."""
     programs: str = ""
     table: bytes = b""
     file: str = ""
     list: str = ""
     since: Optional[int] = None
     until: Optional[int] = None
+    mode: str = ""
+    sheet: "Optional[Sheet]" = None
+    names: bool = False
 
     def program(self, name: str) -> List[str]:
         return [os.path.join(self.programs, name)]
@@ -65,7 +71,7 @@ class Made(NamedTuple):
     first: str
 
 
-# ---- What is said and written
+# ---- What is written
 
 def shown(words: str) -> str:
     """Words as they may be shown: what cannot be printed, and what turns the direction of writing, is escaped; so is a byte that is no UTF-8."""
@@ -128,7 +134,7 @@ LINE = Line()
 # ---- What is read
 
 class Bytes(io.RawIOBase):
-    """A descriptor that is read from where it stands; one that does not wait is waited for."""
+    """A descriptor that is read from where it is; one that does not wait is waited for."""
 
     def __init__(self, descriptor: int):
         super().__init__()
@@ -175,6 +181,14 @@ class Source:
         return self.tried(lambda: self.bytes.read1(most))
 
 
+def list_of(call: Call) -> Source:
+    """The list of a call; where the table is a sheet, its lines may have names."""
+    if call.sheet is None:
+        return Source(call.list, "the list")
+    from sheet_lists import NamedSource  # which only sheets need
+    return NamedSource(call.list, "the list", call.sheet.names())
+
+
 # ---- The programs
 
 _running: List[subprocess.Popen] = []
@@ -202,7 +216,7 @@ def start(command: List[str], given: Optional[bytes] = None) -> subprocess.Popen
 
 
 def send(process: subprocess.Popen, data: bytes) -> None:
-    """Sends bytes to a program. Where it has ended, what it said tells."""
+    """Sends bytes to a program. If it has ended, its output shows that."""
     with contextlib.suppress(BrokenPipeError):
         process.stdin.write(data)
         process.stdin.flush()
@@ -231,7 +245,7 @@ def running(command: List[str], given: Optional[bytes] = None) -> Iterator[subpr
 
 
 def first_line(process: subprocess.Popen, most: int = 1 << 12) -> bytes:
-    """The first line that a program says. A terminal shows that it is waited for."""
+    """The first line of a program. A terminal shows that it is waited for."""
     while not ready(process.stdout.fileno(), select.POLLIN, EVERY):
         LINE.say("still judging")
     LINE.clear()
@@ -249,7 +263,7 @@ def stop(number: int, _frame) -> None:
 
 
 def fault(error: Exception) -> str:
-    """A fault of these tools, or of what a program said, with its place."""
+    """A fault of these tools, or of a program's output, with its place."""
     at = error.__traceback__
     while at.tb_next:
         at = at.tb_next
@@ -257,7 +271,7 @@ def fault(error: Exception) -> str:
 
 
 def ended(mode: Callable[[Call], "tuple[int, str]"], call: Call) -> int:
-    """The status of a mode; what is to be said beside its answer is said."""
+    """The status of a mode; the notes beside its answer are printed."""
     try:
         status, first = mode(call)
         LINE.clear()
@@ -268,7 +282,8 @@ def ended(mode: Callable[[Call], "tuple[int, str]"], call: Call) -> int:
         return TROUBLE
     except Trouble as trouble:
         LINE.clear()
-        say(trouble)
+        for line in trouble.lines:
+            say(line)
         return trouble.status
     except Exception as error:
         LINE.clear()

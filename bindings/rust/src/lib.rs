@@ -29,7 +29,7 @@ pub use refusal::Refusal;
 use std::fmt;
 
 /// The version that these bindings are for: major * 10000 + minor * 100 + patch. `version` is that of the library that is linked.
-pub const VERSION: u32 = 2100;
+pub const VERSION: u32 = 2300;
 
 /// The most tasks on a chain, and the most records of a table.
 pub const MOST_TASKS: usize = 32;

@@ -22,7 +22,7 @@ mod plan_buffer; // plan_buffer.rt: a supplied plan in a lent buffer of words
 mod answer_words; // answer_words.rt: an answer in three words
 
 // The version of the library as one number: major * 10000 + minor * 100 + patch.
-const VERSION: u32 = 2100;
+const VERSION: u32 = 2300;
 
 // The version of the library that is linked; the header has its own.
 #[no_mangle]
