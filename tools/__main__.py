@@ -33,7 +33,8 @@ def bytes_of(path: str) -> bytes:
         return source.read()
 
 
-def main(noted: str, mode: str, programs: str = "", table: str = "", file: str = "", listed: str = "", since: str = "", until: str = "", sheet: str = "", names: str = "") -> None:
+def main(noted: str, mode: str, *words: str) -> None:
+    programs, table, file, listed, since, until, sheet, names = [*words, *[""] * 8][:8]
     name, function = MODES[mode]
     answer = getattr(importlib.import_module(name), function)
     if sheet:

@@ -4,6 +4,7 @@ The program's answer is handed on as it is; with --names each of its lines has n
 import os
 import re
 import subprocess
+from typing import Tuple
 
 import progress
 import system
@@ -33,7 +34,7 @@ def with_names(call: Call, process: subprocess.Popen) -> bytes:
     return first.removesuffix(b"\n")
 
 
-def answer(call: Call):
+def answer(call: Call) -> Tuple[int, str]:
     name = PROGRAMS.get(call.mode, "query")
     with system.running(call.program(name), (b"" if call.mode in PROGRAMS else f"{call.mode}\n".encode()) + call.table) as process:
         said = with_names(call, process) if call.names else progress.hand_on(call.mode == "rows" and not os.isatty(1), process.stdout.fileno())
@@ -44,13 +45,13 @@ def answer(call: Call):
     return status, first
 
 
-def words(call: Call):
+def words(call: Call) -> Tuple[int, str]:
     """All words of a sheet, whether or not a program takes them."""
     system.write(call.sheet.text())
     return FINE, ""
 
 
-def sheet_of(call: Call):
+def sheet_of(call: Call) -> Tuple[int, str]:
     """A sheet of a table, unless the program refuses that; its bounds are asked, which show it at once."""
     with system.running(call.program("query"), b"bounds\n" + call.table) as process:
         first = system.first_line(process).decode("ascii", "replace").removesuffix("\n")

@@ -13,7 +13,7 @@ import signal
 import stat
 import subprocess
 import time
-from typing import TYPE_CHECKING, Callable, Iterator, List, NamedTuple, Optional, Sequence
+from typing import TYPE_CHECKING, Any, Callable, Iterator, List, NamedTuple, Optional, Sequence, Union
 
 import notes
 
@@ -92,7 +92,7 @@ def ready(descriptor: int, events: int, seconds: Optional[float] = None) -> bool
     return bool(poll.poll(None if seconds is None else 1000 * seconds))
 
 
-def write(data) -> None:
+def write(data: Union[bytes, memoryview]) -> None:
     """Writes all of it to standard output, also where that does not wait."""
     left = memoryview(data)
     while left:
@@ -149,7 +149,7 @@ class Bytes(io.RawIOBase):
     def fileno(self) -> int:
         return self.descriptor
 
-    def readinto(self, buffer) -> int:
+    def readinto(self, buffer: Any) -> int:
         while True:
             try:
                 return os.readv(self.descriptor, [buffer])
@@ -165,7 +165,7 @@ class Source:
         self.name = called if handed else path
         self.bytes = self.tried(lambda: io.BufferedReader(Bytes(int(handed[1] or 0) if handed else os.open(path, os.O_RDONLY))))
 
-    def tried(self, action: Callable):
+    def tried(self, action: Callable[[], Any]) -> Any:
         try:
             return action()
         except OSError as error:
