@@ -147,26 +147,26 @@ class Table:
         start, period = self.horizon()
         return f"S is {start:,}, P is {period:,} and S + P is {start + period:,}; {HORIZON:,} is the most"
 
-    def no_spare(self) -> str:
+    def no_slack(self) -> str:
         """Why no slack is given for a table that passes."""
         order = "1 (greedy) where no width is above one of the next"
         if self.rule in (3, 4):
-            return f"line 3: the rule is {self.rule}; spare ticks are given under 2 (limited), and under {order}"
+            return f"line 3: the rule is {self.rule}; slack is given under 2 (limited), and under {order}"
         for position, (record, below) in enumerate(zip(self.chain, self.chain[1:]), 1):
             wide = max("v", "w", key=lambda field: self.word(record, field))
             narrow = min("v", "w", key=lambda field: self.word(below, field))
             if self.rule == 1 and self.word(record, wide) > self.word(below, narrow):
                 this, other = (f"{field} of record {one} (position {at}) is {self.word(one, field)}" for field, one, at in ((wide, record, position), (narrow, below, position + 1)))
-                return f"line {self.line(record, wide)}: {this} and {other}; spare ticks are given under {order}"
-        return "a table that misses a deadline has no spare ticks; --why says more"
+                return f"line {self.line(record, wide)}: {this} and {other}; slack is given under {order}"
+        return "a table that misses a deadline has no slack; --why says more"
 
     def off_chain(self) -> Iterator[str]:
         for record in sorted(set(range(1, self.records + 1)) - set(self.chain)):
             yield f"lines {self.line(record, 'next')} to {self.line(record, FIELDS[-1])}: record {record} is on no chain, so it is no task"
 
 
-def notes(text: bytes, answer: str) -> List[str]:
-    """The notes beside this answer to a text."""
+def notes(text: bytes, answer: str, verdict: str = "") -> List[str]:
+    """The notes beside this answer to a text; one on number 17 has the verdict."""
     word, number, position = (*answer.split(), "", "", "")[:3]
     number, position = (int(field) if field.isascii() and field.isdigit() else 0 for field in (number, position))
     text = text[:MOST_BYTES + 1]
@@ -182,11 +182,11 @@ def notes(text: bytes, answer: str) -> List[str]:
     elif number == 9:
         fault = table.horizon_fault()
     elif number == 13:
-        fault = "a table that misses a deadline is not started, and has no longest answers; --why says more"
+        fault = "a table that misses a deadline is not started, and has no worst-case response times; --why says more"
     elif number == 17:
-        fault = "a table that misses no deadline has no clash; --verdict says more"
+        fault = f"the table has no miss: {verdict}" if verdict else "the table has no miss"
     elif number == 23:
-        fault = table.no_spare()
+        fault = table.no_slack()
     else:
         fault = table.header_fault(number) or table.chain_fault(number)
     return [fault] if fault else []

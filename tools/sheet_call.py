@@ -44,9 +44,10 @@ def reading(mode: Mode) -> Mode:
     def answer(call: Call) -> Tuple[int, str]:
         found = read(call.file)
         say_all(found.notes)
-        status, first = mode(dataclasses.replace(call, table=found.text()[:TABLE], sheet=found))
+        asked = dataclasses.replace(call, table=found.text()[:TABLE], sheet=found)
+        status, first = mode(asked)
         system.LINE.clear()
-        say_all(sheet_notes.notes_on(found, first) if first else [])
+        say_all(sheet_notes.notes_on(found, first, system.verdict_of(asked, first)) if first else [])
         return status, ""
     return answer
 

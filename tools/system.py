@@ -252,6 +252,14 @@ def first_line(process: subprocess.Popen, most: int = 1 << 12) -> bytes:
     return process.stdout.readline(most)
 
 
+def verdict_of(call: Call, first: str) -> str:
+    """The verdict on a table that has no miss to explain (number 17), for the note on it."""
+    if not first.startswith("refused 17 "):
+        return ""
+    with running(call.program("verdict"), call.table) as process:
+        return first_line(process).decode("ascii", "replace").removesuffix("\n")
+
+
 # ---- The end
 
 def stop(number: int, _frame) -> None:
@@ -275,7 +283,7 @@ def ended(mode: Callable[[Call], "tuple[int, str]"], call: Call) -> int:
     try:
         status, first = mode(call)
         LINE.clear()
-        for note in notes.notes(call.table, first):
+        for note in notes.notes(call.table, first, verdict_of(call, first)):
             say(note)
         return status
     except Gone:

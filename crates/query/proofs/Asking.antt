@@ -9,15 +9,10 @@ use native.Mathlib.Omega.{arith}
 use lib.ListN.{length, take, drop, getD, set}
 use lib.Dec.{eqb}
 use lib.Seq.{drop-cons, take-suc-set, take-nil}
-use Rattle.judge.specs.declared.Verdict.{Verdict}
-use Rattle.judge.specs.JudgeAnswer.{verdictMeaning}
-use Rattle.judge.specs.Judged.{verdictOf}
 use Rattle.text.specs.Decimal.{digitCount, digitsWithin}
 use Rattle.text.specs.Format.{newline, enoughBytes, Words, wordsOf, numbersIn}
-use Rattle.text.specs.Output.{firstLine}
-use Rattle.text.specs.Written.{Put}
+use Rattle.text.specs.Output.{letters, lineOf, firstLine}
 use Rattle.text.proofs.Exact.{first-enough}
-use Rattle.text.proofs.Writing.{put-front}
 use Rattle.sentence.specs.declared.SentenceAnswer.{SentenceAnswer}
 use Rattle.sentence.specs.declared.SentenceAnswer.the-variants.{Length, Refused}
 use Rattle.sentence.specs.Reading.{startsWith}
@@ -51,11 +46,10 @@ module _ (ws old new : List ℕ) (v : SentenceAnswer) (h : SentenceOf ws old new
             ∙ (ap (λ (w : SentenceAnswer). whyBy (sentenceMeaning w) ws) (sym e) ∙ by-answer))),
       )
 
-  -- the verdict's line
-  pub why-verdict :
-      (n p : ℕ) → v ≡ Refused n p → (w : Verdict) → w ≡ verdictOf ws → {m : List ℕ} {r : ℕ} → Put new 0 (firstLine (verdictMeaning w)) m r → take r m ≡ whyOf ws
-  why-verdict n p e w q put =
-      put-front put ∙ (ap (λ (x : Verdict). firstLine (verdictMeaning x)) q ∙ (ap (λ (x : SentenceAnswer). whyBy (sentenceMeaning x) ws) (sym e) ∙ by-answer))
+  -- the refusal
+  pub why-refused : (n p : ℕ) → v ≡ Refused n p → lineOf (letters "refused") (n ∷ p ∷ []) ≡ whyOf ws
+  unfolding firstLine
+  why-refused n p e = ap (λ (x : SentenceAnswer). whyBy (sentenceMeaning x) ws) (sym e) ∙ by-answer
 
 -- THE QUESTION
 

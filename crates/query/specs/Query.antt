@@ -4,8 +4,7 @@ use mathlib.Core.List.{List, [], _∷_, _++_}
 use Prim.Native.Nat.{ℕ, _+_}
 use lib.ListN.{length, take, drop}
 use Rattle.table.specs.Words.{tableOf}
-use Rattle.judge.specs.JudgeAnswer.{verdictMeaning}
-use Rattle.judge.specs.Judged.{verdictOf}
+use Rattle.judge.specs.JudgeAnswer.{refused}
 use Rattle.text.specs.Format.{newline, enoughBytes, wordsOf, numbersIn}
 use Rattle.text.specs.Output.{letters, firstLine}
 use Rattle.sentence.specs.Sentence.{sentenceText}
@@ -25,10 +24,10 @@ use Rattle.query.specs.Positions.{positionsBy}
 abbrev pub answerRoom : ℕ
 answerRoom = 700 + 1
 
--- the answer by that of `sentence`: the sentence and a newline; else the verdict's line, which also contains the number that a table is refused with
+-- the answer by that of `sentence`: the sentence and a newline, or the refusal, with 17 where the table has no miss
 abbrev pub whyBy : SentenceOutcome → List ℕ → List ℕ
 whyBy (ofLength n) ws = sentenceText (factsOf ws) ++ (newline ∷ [])
-whyBy (refusedBy n p) ws = firstLine (verdictMeaning (verdictOf ws))
+whyBy (refusedBy n p) ws = firstLine (refused n p)
 
 -- why a table misses
 unfoldable pub whyOf : List ℕ → List ℕ

@@ -1,5 +1,5 @@
 // Answers a question on a table: the first line of standard input is the question's word, and the table follows, one decimal number a line.
-// The question `why` is answered by the miss in a sentence, and by the verdict's line where the table has no miss or is refused;
+// The question `why` is answered by the miss in a sentence, or by the refusal;
 // `longest` by a line for each task, its position and the worst-case response time of its jobs, or by the refusal;
 // `clash` by one line, the positions of the tasks in conflict, or by the refusal;
 // `spare` by a line for each task, its position and its slack, or by the refusal;
@@ -54,7 +54,7 @@ struct Outcome {
     sent: Sent,
 }
 
-// Writes why a table misses at the front of the line, or its verdict; returns where the line ends.
+// Writes why a table misses at the front of the line, or the refusal; returns where the line ends.
 fn why(words: &[u32], line: &mut [u8]) -> usize
     requires { ⌜ length (now line) ≡ answerRoom ⌝ }
     ensures { λ r. ⌜ (r ≤ answerRoom) × (take r (now (line .exit)) ≡ whyOf (now (words .entry))) ⌝ }
@@ -65,9 +65,8 @@ fn why(words: &[u32], line: &mut [u8]) -> usize
             line[length] = b'\n';
             length + 1
         }
-        SentenceAnswer::Refused(_, _) => {
-            let verdict = fast_judge::judge(words);
-            text::first::put_first(line, verdict)
+        SentenceAnswer::Refused(number, position) => {
+            text::first::put_pair(line, b"refused", number, position)
         }
     }
 }
