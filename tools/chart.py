@@ -206,7 +206,7 @@ class Cells(Sheet):
     def longest(self, position: int, figure: int, release: Optional[int]) -> None:
         """The worst-case response time of a task beside its strip, against its D; a bracket over a job with this response time."""
         base = self.base(position)
-        self.beside(base, f"longest {figure} of {self.tasks[position - 1].D}{self.table.names.time(figure, self.tasks[position - 1].D)}", 11, fill="#333", id=f"figure{position}")
+        self.beside(base, f"worst case {figure} of {self.tasks[position - 1].D}{self.table.names.time(figure, self.tasks[position - 1].D)}", 11, fill="#333", id=f"figure{position}")
         if release is not None:
             since, until = self.x(release), self.x(release + figure)
             with self.group(id=f"longest{position}"):

@@ -43,7 +43,7 @@ def verdict_words(verdict: Verdict, table: Table) -> str:
         return VERDICTS[verdict.word].format(tick(verdict.first), at(verdict.second))
     *others, last = map(at, table.clash)
     positions = f"positions {', '.join(others)} and {last}" if others else f"position {last}"
-    return f"The clash of {positions} alone: position {at(verdict.second)} misses its deadline at tick {tick(verdict.first)}"
+    return f"The conflict of {positions} alone: position {at(verdict.second)} misses its deadline at tick {tick(verdict.first)}"
 
 
 def head_lines(table: Table, *lines: str) -> List[str]:
@@ -95,7 +95,7 @@ def draw_rows(sheet: Cells, verdict: Verdict, figures: Sequence[int] = (), had: 
         sheet.mark("S", first, f"S, tick {tick(first)}", sheet.top - 26, BLUE, "6 3")
         sheet.mark("repeat", first + second, f"first repeat, S + P, tick {tick(first + second)}", sheet.top - 10, BLUE, "2 3")
     sheet.ticks()
-    return [("longest", "longest: the most ticks that a job takes from its release to its end, of its D; marked is the first job drawn that takes so many")] if figures else []
+    return [("longest", "worst case: the most ticks that a job takes from its release to its end, of its D; a bracket marks the first such job drawn")] if figures else []
 
 
 def chart(verdict: Verdict, table: Table, source: io.BufferedReader, asked: Asked, answers: BinaryIO) -> Made:
@@ -112,7 +112,7 @@ def chart(verdict: Verdict, table: Table, source: io.BufferedReader, asked: Aske
     sheet = Chart(table, span.start, rows, head)
     sheet.legend(*draw_rows(sheet, verdict, figures, had))
     tell = [f"The late job had {had} of {late.C}{names.time(had, late.C)}."] if late else []
-    tell += [f"Longest answers: {', '.join(f'position {names.at(position)} {figure} of {task.D}' for position, (figure, task) in enumerate(zip(figures, table.tasks), 1))}."] if figures else []
+    tell += [f"Worst-case response times: {', '.join(f'position {names.at(position)} {figure} of {task.D}' for position, (figure, task) in enumerate(zip(figures, table.tasks), 1))}."] if figures else []
     return Made(sheet.out(head[0], head[1:] + tell), MISSED if word == "miss" else FINE, word)
 
 

@@ -109,7 +109,7 @@ def figures_of(said: bytes, table: Table) -> List[int]:
     """The figures of the tasks, from the lines of `query`."""
     lines = [line.split() for line in said.splitlines()]
     if [line[0] for line in lines if len(line) == 2 and line[1].isdigit()] != [b"%d" % position for position in range(1, len(table.tasks) + 1)]:
-        raise Trouble(f"the longest answers are {lines[:3]}")
+        raise Trouble(f"the worst-case response times are {lines[:3]}")
     return [int(figure) for _, figure in lines]
 
 
@@ -130,5 +130,5 @@ def clash_in(answer: str, table: Table) -> Table:
     """The table with the positions in its conflict, by `query`'s answer."""
     kept = [int(field) for field in answer.split()]
     if not kept or kept != sorted({*kept} & {*range(1, len(table.tasks) + 1)}):
-        raise Trouble(f"the clash is {answer!r}")
+        raise Trouble(f"the conflict is {answer!r}")
     return table.of_clash(kept)

@@ -63,7 +63,7 @@ def accepted_page(judged: Judged, source: io.BufferedReader) -> Tuple[str, int]:
     said = programs.heard(longest)
     answers = said if said is None else figures_in(said, table)
     if isinstance(answers, int):
-        raise Trouble(f"the longest answers are refused by {answers}")
+        raise Trouble(f"the worst-case response times are refused by {answers}")
     lead, status = None, FINE
     if shown is None:
         drawn, lead, status = list_section(judged)
@@ -73,7 +73,7 @@ def accepted_page(judged: Judged, source: io.BufferedReader) -> Tuple[str, int]:
     room = said if said is None else figures_in(said, table)
     if isinstance(room, int):
         if room != 23:
-            raise Trouble(f"the spare ticks are refused by {room}")
+            raise Trouble(f"the slack is refused by {room}")
         room = no_spare(table)
     changed = change_section(judged) if word == "full" else None
     return document(judged, verdict_header(word, judged.name, LEADS[word], lead, "lead" if status == FINE else "lead bad"), facts(judged, bounds), drawn,

@@ -26,33 +26,33 @@ def answers_section(judged: Judged, longest: Optional[List[int]] = None, spare: 
         fill, figures = colour(position)[0], []
         line = lambda what, drawn, *said: [element("div", element("span", what, class_="what"), drawn, element("span", *said, class_="number"))]
         if longest:
-            figures += line("longest answer", page.bar(task.D, [(longest[position - 1], fill)]), f"{number(longest[position - 1])} of {ticks(task.D)}", *in_units(longest[position - 1], task.D))
+            figures += line("response time", page.bar(task.D, [(longest[position - 1], fill)]), f"{number(longest[position - 1])} of {ticks(task.D)}", *in_units(longest[position - 1], task.D))
         elif bounds:
             figures += line("bound", page.bar(task.D, [(bounds[position - 1], fill)]), f"at most {number(bounds[position - 1])} of {ticks(task.D)}", *in_units(bounds[position - 1], task.D))
         if isinstance(spare, list):
             grown = spare[position - 1]
-            figures += line("length and spare", page.bar(task.D, [(task.C, fill), (grown, "spare")]), f"{number(task.C)} + {number(grown)} to spare", *in_units(grown))
+            figures += line("length and slack", page.bar(task.D, [(task.C, fill), (grown, "spare")]), f"{number(task.C)} + {number(grown)} of slack", *in_units(grown))
         items.append(element("li", chip(position), element("div", element("b", names.name(position) or f"Position {position}"), element("span", f" position {position}, {names.origin(position, 0)}" if names else f" record {table.records[position - 1]}", class_="soft"), element("br"),
                                                           element("span", task_words(task, names), class_="soft")),
                              element("div", *figures, class_="figures") if figures else None, id=f"task-{position}"))
     inner = [element("ul", *items, class_="tasks" if longest or bounds or isinstance(spare, list) else "tasks plain")]
     if word == "miss":
         return section("The tasks", *inner, id="tasks")
-    words = "The longest answer is the most ticks that a job of the task ever takes from its release to its end, beside its deadline. " + (
+    words = "The worst-case response time is the most ticks that a job of the task ever takes from its release to its end, beside its deadline. " + (
         "No job takes longer, however early jobs end." if word == "firm" else "At full length some job takes just that; where another ends early, a job of a full table can take longer.")
     inner.insert(0, paragraph(words, NOT_OF_THE_LIST if listed else None, class_="soft"))
     if longest is None:
-        inner.append(waited(programs, "The question for the longest answers", "--longest"))
+        inner.append(waited(programs, "The question for the worst-case response times", "--longest"))
         if bounds:
-            inner.insert(1, paragraph(element("b", "Shown are bounds, not longest answers. "), "By the interference test no full-length job takes more ticks from its release to its end than its bound; it may take fewer. ",
+            inner.insert(1, paragraph(element("b", "Shown are bounds, not worst-case response times. "), "By the interference test no full-length job takes more ticks from its release to its end than its bound; it may take fewer. ",
                                       element("code", "./sivorandra --bounds"), " prints them.", class_="note", id="bounds"))
     if spare is None:
-        inner.append(waited(programs, "The question for the spare ticks", "--spare"))
+        inner.append(waited(programs, "The question for the slack", "--spare"))
     elif isinstance(spare, list):
-        inner.insert(1, paragraph("The spare ticks are the most by which the length of this task alone may grow with the table still accepted.", class_="soft"))
+        inner.insert(1, paragraph("The slack is the number of ticks by which the length of one task alone can grow with the table still accepted.", class_="soft"))
     else:
-        inner.append(paragraph(element("b", "Spare ticks cannot be given for this table (number 23). "), f"{spare} Spare ticks are given under rule 2, and under rule 1 where every job of a task takes at most as many cores as every job of the task next below it. "
-                               "Elsewhere a longer job can save a table, so that no one figure would hold.", class_="note", id="no-spare"))
+        inner.append(paragraph(element("b", "Slack cannot be given for this table (number 23). "), f"{spare} Slack is given under rule 2, and under rule 1 where every job of a task takes at most as many cores as every job of the task next below it. "
+                               "Elsewhere a longer job can turn a miss into an accepted table, so that no one figure would hold.", class_="note", id="no-spare"))
     return section("The tasks, and how close they come", *inner, id="tasks")
 
 
@@ -63,7 +63,7 @@ def no_spare(table: Table) -> str:
     for position, (task, below) in enumerate(zip(table.tasks, table.tasks[1:]), 1):
         if max(task.v, task.w) > min(below.v, below.w):
             return f"Position {table.names.at(position)} takes {width_words(task)}, and position {table.names.at(position + 1)}, next below it, {width_words(below)}."
-    raise Trouble("the spare ticks are refused by 23")
+    raise Trouble("the slack is refused by 23")
 
 
 def counted(judged: Judged, source: io.BufferedReader) -> Tuple[int, List["collections.Counter[int]"]]:
@@ -87,7 +87,7 @@ def claimed(second: int, table: Table) -> List[int]:
 
 def fullness_section(judged: Judged) -> Html:
     programs, first, second, table, listed = judged.programs, judged.first, judged.second, judged.table, judged.listed
-    title = "How full the cores are"
+    title = "The utilization of the cores"
     process = programs.start([programs.path("sivorandra")], programs.text)
     try:
         end, cells = counted(judged, process.stdout)

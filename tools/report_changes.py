@@ -63,7 +63,7 @@ def change_section(judged: Judged, kept: Sequence[int] = ()) -> Html:
             look, answer = ("good" if said.word == "firm" else "fair"), f"\u2713 fits: {said.word}, S {number(said.first)}, P {number(said.second)}"
         firm |= look == "good"
         rows.append(element("tr", element("td", what), element("td", answer, class_=look)))
-    advice = "A table that misses may also fit with a shorter length C, a later deadline D, a longer period T or another offset O of a task in the clash." if word == "miss" else \
+    advice = "A table that misses may also fit with a shorter length C, a later deadline D, a longer period T or another offset O of a task in the conflict." if word == "miss" else \
         "This table is promised to fit only while every job takes its full length. " + ("If jobs can end early, take a change marked firm." if firm else "None of these changes is firm, so none is promised to fit if jobs end early.")
     return section("What could be changed", paragraph("Each line is the same table with this one change, judged by the same proved program. Positions are those of this table.", class_="soft"),
                    page.wide_table(rows, "changes and their verdicts", class_="tried"), paragraph(advice), id="changes")

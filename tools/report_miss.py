@@ -32,7 +32,7 @@ def sentence_section(judged: Judged, said: str) -> Tuple[int, Html]:
     names = table.names
     inner = [paragraph(chip(late), f" The job of position {names.at(late)} that is due at tick {names.tick(due, number)} had {number(had)} of its {ticks(length)}{names.time(had, length)}. It takes {width_words(table.tasks[late - 1])}{', together or not at all' if max(table.tasks[late - 1].v, table.tasks[late - 1].w) > 1 else ''}.")]
     if others:
-        inner += [paragraph("Tasks above it ran in so many of the ticks in which it waited:"), listing([(*marked(position, names), f" {ticks(count)}{names.time(count)}") for position, count in others], class_="shares", id="ran")]
+        inner += [paragraph("These tasks above it ran while it waited, each in this number of ticks:"), listing([(*marked(position, names), f" {ticks(count)}{names.time(count)}") for position, count in others], class_="shares", id="ran")]
     else:
         inner.append(paragraph("No task above it ran in a tick in which it waited."))
     if table.rule == LIMITED and late > 1:
@@ -89,26 +89,26 @@ def rows_again(programs: Programs) -> io.BufferedReader:
 def clash_section(judged: Judged, said: Optional[bytes], pictures: int) -> Tuple[List[int], Html]:
     """The tasks in the conflict, with their picture. Its positions are called as in the table."""
     programs, table = judged.programs, judged.table
-    title = "The clash"
+    title = "The conflict"
     if said is None:
-        return [], section(title, waited(programs, "The question for the clash", "--clash"), id="clash")
+        return [], section(title, waited(programs, "The question for the conflict", "--clash"), id="clash")
     part = clash_in(said.decode("ascii", "replace"), table)
     kept = part.clash
     inner = [paragraph("Positions " if len(kept) > 1 else "Position ", *(mark for position in kept for mark in (*marked(position, table.names), " ")),
-                       "clash: by themselves they miss a deadline, and without any one of them the rest does not." if len(kept) > 1 else "misses a deadline by itself, without any other task.", id="kept")]
+                       "are in conflict: by themselves they miss a deadline, and without any one of them the rest does not." if len(kept) > 1 else "misses a deadline by itself, without any other task.", id="kept")]
     if len(kept) == len(table.tasks):
         return kept, section(title, *inner, paragraph("These are all tasks of the table, so their picture is the one above.", class_="soft"), id="clash")
     programs.wait()
     process = programs.start([programs.path("sivorandra")], relinked(programs.text, table.records, kept))
     verdict = verdict_in(process.stdout.readline(64))
     if verdict.word != "miss" or verdict.second > len(kept):
-        raise Trouble(f"the clash is {verdict.word}")
+        raise Trouble(f"the conflict is {verdict.word}")
     verdict = dataclasses.replace(verdict, second=kept[verdict.second - 1])
     span = stretch(verdict, most(table, pictures))
     try:
         rows, _ = rows_of(process.stdout, span.start, span.end, part, until=programs.until)
     except TooLong:
-        return kept, section(title, *inner, waited(programs, "The picture of the clash", "--clash --picture"), id="clash")
+        return kept, section(title, *inner, waited(programs, "The picture of the conflict", "--clash --picture"), id="clash")
     sheet = Inset("c-", part, span.start, rows)
     keys = picture.draw_rows(sheet, verdict)
     inner.append(caption(span, verdict.rows, f"With these alone position {table.names.at(verdict.second)} misses its deadline at tick {table.names.tick(verdict.first, number)}. "))

@@ -90,7 +90,7 @@ def facts(judged: Judged, bounds: Optional[List[int]] = None) -> Html:
              ("First miss", f"tick {tick(first)}", "the earliest; at one tick the highest in priority"), ("Late task", f"position {at(second)}", table.names.origin(second, table.records[second - 1]))]
     found += [("Tasks", len(table.tasks), "position 1 has the highest priority"), ("Cores", table.cores, fenced),
               ("Rule", f"{table.rule}, {RULES[table.rule]}", RULE_WORDS[table.rule])]
-    found += [("Tick", table.names.step, "as the sheet gives it; times in brackets are so many of it")] if table.names.step else []
+    found += [("Tick", table.names.step, "as the sheet gives it; times in brackets are ticks in its unit")] if table.names.step else []
     found += [BY_TEST if bounds else BY_SIMULATION] if word != "miss" else []
     promises = [(element("b", f"{known.capitalize()}: ", class_="good" if known == "firm" else "fair"), words, element("b", f" This table is {word}.") if known == word else None) for known, words in PROMISES.items()] + ([element("b", "This table is neither.")] if word == "miss" else [])
     return section("In short", paragraph(WORDS, class_="soft") if word != "miss" else None, element("dl", *(element("div", element("dt", what), element("dd", figure, element("small", words))) for what, figure, words in found), class_="facts"),

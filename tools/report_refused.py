@@ -43,19 +43,19 @@ def refused_sheet(sheet: "Sheet", name: str, refused: int, position: int) -> str
     names, parts = named.Names(sheet), sheet_page()
     said = importlib.import_module("sheet_notes").notes_on(sheet, f"refused {refused} {position}")
     found = re.match(r"line (\d+)", said[0]) if said else None
-    lead = f"Refused, number {refused}" + (f", position {names.at(position)}" if position else "") + ": the table was turned down before it was judged."
+    lead = f"Refused, number {refused}" + (f", position {names.at(position)}" if position else "") + ": the table was refused before it was judged."
     return page.document(f"{FITS['refused']} \u2013 {name}", [], verdict_header("refused", name, [lead]),
                          section("What is wrong", paragraph(refusal_words(refused, position, names), id="meaning"), *(paragraph(element("b", note[0].upper() + note[1:] + "."), id="note") for note in said), id="fault"),
-                         section("What to do", paragraph(parts.REMEDIES.get(refused, "Look the number up in docs/NUMBERS.md."), id="remedy"), paragraph("Whoever wrote the sheet can mend it; this page can be sent back with it.", class_="soft"), id="todo"),
+                         section("What to do", paragraph(parts.REMEDIES.get(refused, "Look the number up in docs/NUMBERS.md."), id="remedy"), paragraph("The writer of the sheet can correct it; this page can be sent back with it.", class_="soft"), id="todo"),
                          section("The sheet", *parts.sheet_parts(sheet, int(found[1]) if found else None), id="input"), footer())
 
 
 def refused_page(text: bytes, name: str, refused: int, position: int) -> str:
     said = notes.notes(text, f"refused {refused} {position}")
     where = [part for note in said for part in (paragraph(element("b", note[0].upper() + note[1:] + "."), id="note"), excerpt(text[:notes.MOST_BYTES + 1], note))]
-    lead = f"Refused, number {refused}" + (f", position {position}" if position else "") + ": the table was turned down before it was judged."
+    lead = f"Refused, number {refused}" + (f", position {position}" if position else "") + ": the table was refused before it was judged."
     read = text[:notes.MOST_BYTES + 1]
     return page.document(f"{FITS['refused']} \u2013 {name}", [], verdict_header("refused", name, [lead]),
                          section("What is wrong", paragraph(refusal_words(refused, position), id="meaning"), *where, id="fault"),
-                         section("What to do", paragraph(REMEDIES.get(refused, "Look the number up in docs/NUMBERS.md."), id="remedy"), paragraph("Whoever wrote the table can mend it; this page can be sent back with it.", class_="soft"), id="todo"),
+                         section("What to do", paragraph(REMEDIES.get(refused, "Look the number up in docs/NUMBERS.md."), id="remedy"), paragraph("The writer of the table can correct it; this page can be sent back with it.", class_="soft"), id="todo"),
                          section("The input", paragraph(f"More than the {number(notes.MOST_BYTES)} bytes that a table can have; this is its beginning.", class_="soft") if len(read) > notes.MOST_BYTES else None, element("pre", "\n".join(f"{at:>4}  {shown_line(line)}" for at, line in enumerate(notes.lines_of(read), 1)) if read else "(empty)"), id="input"), footer())

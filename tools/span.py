@@ -32,7 +32,7 @@ def stretch(verdict: Verdict, most: int = MOST) -> Span:
             return Span(0, first, "all ticks up to the miss")
         return Span(first - most, first, f"the last {most} ticks before the miss")
     if end <= most:
-        return Span(0, end, "the whole look-ahead, up to the first repeat")
+        return Span(0, end, "all ticks up to the horizon, the first repeat")
     if verdict.second <= most:
         return Span(first, end, "the first period, from S")
     return Span(first, first + most, f"the first {most} ticks of the period that starts at S; the first repeat, at tick {end}, is further on")
