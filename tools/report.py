@@ -14,7 +14,7 @@ import system
 from page import Html, element, number, paragraph, section
 from printed import bounds_in, figures_in, verdict_in
 from programs import Judged, ListRead, Programs
-from report_accepted import answers_section, fullness_section, no_spare
+from report_accepted import answers_section, fullness_section, no_slack
 from report_changes import change_section
 from report_list import lines_of, list_section
 from report_miss import clash_section, rows_section, sentence_section, why_section
@@ -74,7 +74,7 @@ def accepted_page(judged: Judged, source: io.BufferedReader) -> Tuple[str, int]:
     if isinstance(room, int):
         if room != 23:
             raise Trouble(f"the slack is refused by {room}")
-        room = no_spare(table)
+        room = no_slack(table)
     changed = change_section(judged) if word == "full" else None
     return document(judged, verdict_header(word, judged.name, LEADS[word], lead, "lead" if status == FINE else "lead bad"), facts(judged, bounds), drawn,
                     answers_section(judged, answers, room, bounds), fullness, changed), status

@@ -56,7 +56,7 @@ def answers_section(judged: Judged, longest: Optional[List[int]] = None, spare: 
     return section("The tasks, and how close they come", *inner, id="tasks")
 
 
-def no_spare(table: Table) -> str:
+def no_slack(table: Table) -> str:
     """What of an accepted table number 23 is about: its rule, or under rule 1 the first job that takes more cores than one of the task next below."""
     if table.rule != GREEDY:
         return f"Its rule is {table.rule} ({RULES[table.rule]})."
