@@ -40,7 +40,7 @@ pub extern "C" fn sivorandra_judge(words: &[u32], answer: &mut [u32]) -> u32
     if answer.len() < 3 {
         return 1;
     }
-    let verdict = fast_judge::judge(words);
+    let verdict = judge::judge(words);
     let encoded = answer_words::of_verdict(verdict);
     answer_words::put(encoded, answer);
     0
@@ -54,7 +54,7 @@ pub extern "C" fn sivorandra_judge_ticks(words: &[u32], answer: &mut [u32]) -> u
     if answer.len() < 3 {
         return 1;
     }
-    let verdict = judge::judge(words);
+    let verdict = judge::by_ticks::judge(words);
     let encoded = answer_words::of_verdict(verdict);
     answer_words::put(encoded, answer);
     0

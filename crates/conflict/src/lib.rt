@@ -27,7 +27,7 @@ fn refused(number: u32, position: u32) -> ConflictAnswer
 pub fn conflict(words: &[u32]) -> ConflictAnswer
     ensures { λ r. ⌜ ConflictOf (now (words .entry)) r ⌝ }
 {
-    let verdict = fast_judge::judge(words);
+    let verdict = judge::judge(words);
     match verdict {
         Verdict::Firm(_, _) => refused(17, 0),
         Verdict::Full(_, _) => refused(17, 0),

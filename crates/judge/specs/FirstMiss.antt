@@ -10,8 +10,8 @@ use Rattle.model.specs.Lists as book
 use Rattle.model.specs.Verdict.{missedAt, missedIn, FirstMiss}
 use Rattle.judge.specs.declared.Verdict.{Verdict}
 use Rattle.judge.specs.declared.Verdict.the-variants.{Miss}
-use Rattle.judge.specs.declared.misses.Missed.{Missed}
-use Rattle.judge.specs.declared.misses.Missed.the-variants.{Never, At}
+use Rattle.judge.specs.declared.Missed.{Missed}
+use Rattle.judge.specs.declared.Missed.the-variants.{Never, At}
 
 -- the first deadline missed before tick b, at equal ticks that of the first task in priority: the search of the model's `verdict`, which goes
 -- up to and including the horizon

@@ -68,7 +68,7 @@ pub struct Row {
 pub fn start(words: &[u32]) -> Started
     ensures { λ r. ⌜ StartOf (now (words .entry)) r ⌝ }
 {
-    let verdict = fast_judge::judge(words);
+    let verdict = judge::judge(words);
     match verdict {
         Verdict::Firm(_, _) => starts::begun(words),
         Verdict::Full(_, _) => starts::begun(words),

@@ -20,8 +20,8 @@ use Rattle.table.specs.Numbers as table
 use Rattle.table.specs.Load.{LoadOf, loadMeaning}
 use Rattle.table.proofs.Exact.{refusal-exact, passed-exact}
 use Rattle.table.proofs.Passed.{passed-count, passed-inside, passed-valid, passed-horizon}
-use Rattle.judge.specs.Judged.{loadedTable}
-use Rattle.judge.proofs.Contract.{same-table}
+use Rattle.table.specs.Fit.{loadedTable}
+use Rattle.table.proofs.Fit.{same-table}
 use Rattle.sentence.specs.Counting.{LengthsWithin}
 use Rattle.sentence.specs.Facts.{Facts, limit, Expressible}
 use Rattle.sentence.specs.Sentence.{sentenceText}

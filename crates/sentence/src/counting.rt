@@ -5,7 +5,7 @@ ghost use lib.ListN.{length, getD};
 ghost use Rattle.model.specs.Search.{bit};
 ghost use Rattle.model.specs.Sizes.{mostTasks};
 ghost use Rattle.model.specs.Verdict.{FirstMiss};
-ghost use Rattle.judge.specs.Judged.{loadedTable, Fit};
+ghost use Rattle.table.specs.Fit.{loadedTable, Fit};
 ghost use Rattle.sentence.specs.Facts.{factsBy};
 ghost use Rattle.sentence.specs.Waiting.{factsAt};
 ghost use Rattle.sentence.specs.Counting.{added, above};
@@ -67,7 +67,7 @@ pub(crate) fn count(table: Loaded, tick: u32, place: usize) -> Facts
     let mut ran = [0u64; MOST_TASKS];
     while registers.tick < tick {
         let before = registers.tick;
-        registers = simulation::step(setting, &widths, &times, registers, &mut places);
+        registers = simulation::ticks::step(setting, &widths, &times, registers, &mut places);
         if release <= before {
             let granted = registers.granted;
             let runs = has(granted, place);

@@ -7,10 +7,10 @@ use native.Mathlib.Omega.{arith}
 use lib.ListN.{replicate}
 use Rattle.table.specs.declared.Loaded.{Loaded}
 use Rattle.simulation.specs.TickState.{Numbers, numbersBy}
-use Rattle.judge.specs.Judged.{Fit}
-use Rattle.event_simulation.specs.EventState.{EventState, eventStateOf, StateRepresents}
-use Rattle.event_simulation.specs.Jump.{JumpStarts}
-use Rattle.event_simulation.proofs.Events.{initial-represents}
+use Rattle.table.specs.Fit.{Fit}
+use Rattle.simulation.specs.EventState.{EventState, eventStateOf, StateRepresents}
+use Rattle.simulation.specs.Jump.{JumpStarts}
+use Rattle.simulation.proofs.AreEvents.{initial-represents}
 use Rattle.response_time.proofs.Jumping.{Noted, jump-recorded, jump-small}
 use Rattle.response_time.proofs.Walked.{noted-start, late-misses, none-misses, missed-answer, met-answer}
 use Rattle.response_time.proofs.walk.times_of.Statement.{statement}

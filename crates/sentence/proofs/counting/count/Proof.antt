@@ -17,9 +17,9 @@ use Rattle.simulation.specs.Machine.{machineOf}
 use Rattle.simulation.proofs.Parts.{front-at}
 use Rattle.simulation.proofs.Steps.{tick-on}
 use Rattle.simulation.proofs.MachineRelated.{MachineRelated}
-use Rattle.judge.specs.Judged.{loadedTable, Fit}
-use Rattle.judge.proofs.Ticks.{size}
-use Rattle.judge.proofs.Refines.{Begins, steppable}
+use Rattle.table.specs.Fit.{loadedTable, Fit}
+use Rattle.simulation.proofs.AtTick.{size}
+use Rattle.simulation.proofs.RefinesTick.{TickStarts, steppable}
 use Rattle.sentence.specs.Facts.{named}
 use Rattle.sentence.specs.Waiting.{releaseOf, hadBy}
 use Rattle.sentence.proofs.Waiting.{missed-here, deadline-within, Counted, counted-small, counted-named}
@@ -30,7 +30,7 @@ use Rattle.sentence.proofs.counting.count.Tie as tie
 -- of every table whose run begins so and that misses here first
 abbrev Inv-loop : tie.InvT-loop
 Inv-loop tick place late release setting widths times registers₀ places₀ ran₀ registers places ran =
-    (t : Loaded) → Begins t setting widths times registers₀ places₀ → FirstMiss (loadedTable t) tick (suc place) → release ≡ releaseOf (loadedTable t) tick place
+    (t : Loaded) → TickStarts t setting widths times registers₀ places₀ → FirstMiss (loadedTable t) tick (suc place) → release ≡ releaseOf (loadedTable t) tick place
     → Counting t tick place (tickStateOf registers places) ran
 
 abbrev μ-loop : tie.MeasureT-loop
@@ -104,7 +104,7 @@ place-of p = entry-from-places p .args .place
 abbrev Of : tie.After-places Inv-loop μ-loop → Loaded → Type 0
 Of p t =
     let co = columns-of-from-places p in
-    Begins t (co .columns-of .result .setting) (co .columns-of .result .widths)
+    TickStarts t (co .columns-of .result .setting) (co .columns-of .result .widths)
     (co .columns-of .result .times) (p .before .before .start .result .registers) (p .before .before .start .result .places)
 
 own : (p : tie.After-places Inv-loop μ-loop) → Of p (table-of p)

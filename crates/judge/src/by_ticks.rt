@@ -1,0 +1,47 @@
+// The full-length run of a table that passed, tick by tick, up to its first missed deadline.
+ghost use Prim.Native.Nat.{_+_, _≤_};
+ghost use Rattle.table.specs.Fit.{loadedTable, Fit};
+ghost use Rattle.judge.specs.FirstMiss.{MissedOf};
+ghost use Rattle.judge.specs.Judged.{Judged};
+use crate::Missed;
+use crate::Verdict;
+use crate::Way;
+use table::Loaded;
+
+// The first deadline that the full-length run misses before tick `end`, at equal ticks the first in priority.
+pub fn first_miss(table: Loaded, end: u32) -> Missed
+    requires { ⌜ Fit table × (end ≤ table .horizon + 1) ⌝ }
+    ensures { λ r. ⌜ MissedOf (loadedTable table) end r ⌝ }
+{
+    let columns = simulation::columns::columns_of(table);
+    let setting = columns.setting;
+    let widths = columns.widths;
+    let times = columns.times;
+    let machine = simulation::machine::start(table);
+    let mut registers = machine.registers;
+    let mut places = machine.places;
+    'ticks: loop {
+        if registers.tick == end {
+            break 'ticks Missed::Never;
+        }
+        if registers.event <= registers.tick {
+            let mut rest = registers.claiming;
+            while 0 < rest {
+                let place = u32::trailing_zeros(rest);
+                let at = place as usize;
+                if places[simulation::EVENT + at] == registers.tick {
+                    break 'ticks Missed::At(registers.tick, place + 1);
+                }
+                rest &= rest - 1;
+            }
+        }
+        registers = simulation::ticks::step(setting, &widths, &times, registers, &mut places);
+    }
+}
+
+// The verdict on a table's words, by this way.
+pub fn judge(words: &[u32]) -> Verdict
+    ensures { λ r. ⌜ Judged (now (words .entry)) r ⌝ }
+{
+    crate::judge_by(Way::Ticks, words)
+}
