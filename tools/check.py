@@ -79,7 +79,7 @@ def no_row(name: str, number: int, line: bytes) -> str:
 
 def answer(call: Call) -> Tuple[int, str]:
     source, gone = Source(call.list, "the plan"), Gone()
-    said = answered(call.program("plan_checker"), call.table, source, gone)
+    said = answered(call.program("check"), call.table, source, gone)
     word, *numbers = said.split() or [b""]
     if word == b"unread":
         raise Declined(no_row(source.name, int(numbers[0]), gone.line(int(numbers[0]))), REFUSED)

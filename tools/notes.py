@@ -160,8 +160,12 @@ class Table:
                 return f"line {self.line(record, wide)}: {this} and {other}; slack is given under {order}"
         return "a table that misses a deadline has no slack; --why says more"
 
+    def loose(self) -> List[int]:
+        """The records on no chain."""
+        return sorted(set(range(1, self.records + 1)) - set(self.chain))
+
     def off_chain(self) -> Iterator[str]:
-        for record in sorted(set(range(1, self.records + 1)) - set(self.chain)):
+        for record in self.loose():
             yield f"lines {self.line(record, 'next')} to {self.line(record, FIELDS[-1])}: record {record} is on no chain, so it is no task"
 
 
@@ -190,6 +194,14 @@ def notes(text: bytes, answer: str, verdict: str = "") -> List[str]:
     else:
         fault = table.header_fault(number) or table.chain_fault(number)
     return [fault] if fault else []
+
+
+def strict_note(text: bytes) -> Optional[str]:
+    """What --strict has to say of a table that was taken."""
+    table = Table(text)
+    loose, last = [str(record) for record in table.loose()], table.chain[-1]
+    who = f"records {', '.join(loose)} are" if len(loose) > 1 else f"record {''.join(loose)} is"
+    return f"line {table.line(last, 'next')}: next of record {last} is 0 and ends the chain; {who} on no chain (--strict)" if loose else None
 
 
 def answer(call: "Call") -> Tuple[int, str]:

@@ -1,4 +1,5 @@
 """How a page looks: one HTML file that needs nothing from elsewhere and no script, and is XML too. It is given what to show, and decides nothing."""
+import contextlib
 import os
 import re
 from typing import Any, Callable, Iterable, List, Optional, Sequence, Tuple
@@ -6,6 +7,7 @@ from xml.sax.saxutils import escape, quoteattr
 
 from chart_kinds import Inset
 from svg import colour
+from system import Trouble
 from texts import STRIP
 
 HERE = os.path.dirname(os.path.abspath(__file__))
@@ -22,6 +24,14 @@ ICONS = {
 
 class Html(str):
     """Text that is markup already."""
+
+
+def version() -> str:
+    """The version, from the file beside the tools or above them."""
+    for place in (HERE, os.path.dirname(HERE)):
+        with contextlib.suppress(OSError), open(os.path.join(place, "VERSION"), encoding="utf-8") as file:
+            return file.read().strip()
+    raise Trouble("VERSION is missing")
 
 
 def joined(parts: Iterable[Any]) -> Html:

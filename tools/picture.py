@@ -185,14 +185,14 @@ def list_chart(listed: Listed) -> Made:
     return Made(sheet.out(head[0], head[1:] + red + [words for _, words in told(listed)]), REFUSED if listed.late or listed.refusals or listed.questions else FINE, "ok")
 
 
-def answering(program: List[str], question: bytes, text: bytes) -> ContextManager[subprocess.Popen]:
-    """The answer of `query`, beside the program, to a question on a table."""
-    return running([os.path.join(os.path.dirname(program[-1]), "query")], question + text)
+def answering(program: List[str], question: str, text: bytes) -> ContextManager[subprocess.Popen]:
+    """The answer to a question on a table, of the programs beside this one."""
+    return running(*system.asked(os.path.dirname(program[-1]), question, text))
 
 
 def draw(program: List[str], text: bytes, asked: Asked = Asked(), table: Optional[Table] = None, sheet: "Optional[TaskSheet]" = None) -> Made:
     """The picture of a table; of the conflict in it, if `table` has one."""
-    with running(program, text) as process, answering(program, b"longest\n", text) as answers:
+    with running(program, text) as process, answering(program, "longest", text) as answers:
         verdict = verdict_in(system.first_line(process))
         if verdict.word == "refused":
             return refusal(verdict.first, verdict.second, named.Names(sheet))
@@ -228,12 +228,12 @@ def written(made: Made) -> Tuple[int, str]:
 
 
 def answer(call: Call) -> Tuple[int, str]:
-    return written(draw(call.program("sivorandra"), call.table, Asked(call.since, call.until), sheet=call.sheet))
+    return written(draw(call.program("rows"), call.table, Asked(call.since, call.until), sheet=call.sheet))
 
 
 def answer_clash(call: Call) -> Tuple[int, str]:
-    asked, program = Asked(call.since, call.until), call.program("sivorandra")
-    with answering(program, b"clash\n", call.table) as clash:
+    asked, program = Asked(call.since, call.until), call.program("rows")
+    with answering(program, "clash", call.table) as clash:
         said = system.first_line(clash).decode("ascii", "replace").removesuffix("\n")
     return written(draw_clash(program, call.table, said, asked, call.sheet))
 

@@ -5,12 +5,15 @@ import os
 import subprocess
 import time
 from dataclasses import dataclass, field
-from typing import List, Optional
+from typing import TYPE_CHECKING, List, Optional
 
 import system
 from printed import Verdict, verdict_in
 from span import Asked
 from table import Table
+
+if TYPE_CHECKING:
+    from page import Html
 
 PATIENCE = 20  # seconds that an answer is waited for, once the verdict is there; where that took long, twice as long
 
@@ -41,8 +44,9 @@ class Programs:
             system.say(note)
         self.stack.close()
 
-    def path(self, name: str) -> str:
-        return os.path.join(os.path.dirname(self.program[-1]), name)
+    @property
+    def folder(self) -> str:
+        return os.path.dirname(self.program[-1])
 
     def start(self, command: List[str], given: bytes) -> subprocess.Popen:
         """A program that has been given all that it reads, started."""
@@ -60,12 +64,13 @@ class Programs:
                     return None
                 system.LINE.say("still asking")
 
-    def asking(self, question: bytes, text: Optional[bytes] = None) -> subprocess.Popen:
-        return self.start([self.path("query")], question + b"\n" + (self.text if text is None else text))
+    def asking(self, question: str, text: Optional[bytes] = None) -> subprocess.Popen:
+        """The program that a question is for, on the table or another text, started."""
+        return self.start(*system.asked(self.folder, question, self.text if text is None else text))
 
     def verdict(self, text: bytes) -> Optional[Verdict]:
         """The verdict on another text, or None."""
-        said = self.heard(self.start([self.path("verdict")], text))
+        said = self.heard(self.asking("verdict", text))
         return verdict_in(said) if said else None
 
 
@@ -87,6 +92,7 @@ class Judged:
     table: Table
     asked: Asked = field(default_factory=Asked)
     listed: Optional[ListRead] = None
+    compared: "Optional[Html]" = None
 
     @property
     def word(self) -> str:

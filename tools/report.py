@@ -5,6 +5,7 @@ The tasks are the table's. What could be changed is the same table with one chan
 too many the jobs of one P by the table, and no more.
 What takes long is waited for some seconds; then the page shows that it is missing.
 The status is 0 where nothing is refused or missed, 1 for a miss, 2 for a refusal."""
+import importlib
 import io
 from typing import TYPE_CHECKING, List, Optional, Tuple
 
@@ -16,6 +17,7 @@ from printed import bounds_in, figures_in, verdict_in
 from programs import Judged, ListRead, Programs
 from report_accepted import answers_section, fullness_section, no_slack
 from report_changes import change_section
+from report_compare import compare_section
 from report_list import lines_of, list_section
 from report_miss import clash_section, rows_section, sentence_section, why_section
 from report_parts import LEADS, facts, footer, refusal_words, table_section, verdict_header, waited
@@ -31,7 +33,7 @@ if TYPE_CHECKING:
 
 
 def document(judged: Judged, *parts: Optional[Html]) -> str:
-    return page.document(f"{FITS[judged.word]} \u2013 {judged.name}", range(1, len(judged.table.tasks) + 1), *parts, table_section(judged), footer())
+    return page.document(f"{FITS[judged.word]} \u2013 {judged.name}", range(1, len(judged.table.tasks) + 1), *parts, judged.compared, table_section(judged), footer())
 
 
 def no_list() -> Html:
@@ -42,7 +44,7 @@ def no_list() -> Html:
 def miss_page(judged: Judged, source: io.BufferedReader) -> str:
     """The page on a miss, of which `source` prints the rows."""
     programs, names = judged.programs, judged.table.names
-    why, clash = programs.asking(b"why"), programs.asking(b"clash")
+    why, clash = programs.asking("why"), programs.asking("clash")
     shown = picture_rows(judged, source, 2)
     said = programs.heard(why)
     had, sentence = sentence_section(judged, said.decode("ascii", "replace").removesuffix("\n")) if said else (0, why_section(judged, waited(programs, "The question why", "--why")))
@@ -56,8 +58,8 @@ def miss_page(judged: Judged, source: io.BufferedReader) -> str:
 def accepted_page(judged: Judged, source: io.BufferedReader) -> Tuple[str, int]:
     """The page on an accepted table, of which `source` prints the rows, and the status."""
     programs, table, word = judged.programs, judged.table, judged.word
-    bounds = bounds_in(programs.heard(programs.asking(b"bounds")), table)
-    longest, spare = programs.asking(b"longest"), programs.asking(b"spare")
+    bounds = bounds_in(programs.heard(programs.asking("bounds")), table)
+    longest, spare = programs.asking("longest"), programs.asking("spare")
     shown = None if judged.listed else picture_rows(judged, source, 1)
     fullness = fullness_section(judged)
     said = programs.heard(longest)
@@ -80,16 +82,16 @@ def accepted_page(judged: Judged, source: io.BufferedReader) -> Tuple[str, int]:
                     answers_section(judged, answers, room, bounds), fullness, changed), status
 
 
-def report(program: List[str], text: bytes, name: str, asked: Asked = Asked(), listed: Optional[ListRead] = None, sheet: "Optional[Sheet]" = None) -> Made:
-    """The page on a table."""
+def report(program: List[str], text: bytes, name: str, asked: Asked = Asked(), listed: Optional[ListRead] = None, sheet: "Optional[Sheet]" = None, compared: Optional[Html] = None) -> Made:
+    """The page on a table; `compared` is the section on an older release of it."""
     with Programs(program, text) as programs:
         process = programs.start(program, text)
         verdict = verdict_in(system.first_line(process))
         programs.judged()
         if verdict.word == "refused":
-            made = refused_sheet(sheet, name, verdict.first, verdict.second) if sheet else refused_page(text, name, verdict.first, verdict.second)
+            made = refused_sheet(sheet, name, verdict.first, verdict.second, compared) if sheet else refused_page(text, name, verdict.first, verdict.second, compared)
             return Made(made, REFUSED, str(verdict))
-        judged = Judged(programs, name, verdict, table_of(text, sheet), asked, listed)
+        judged = Judged(programs, name, verdict, table_of(text, sheet), asked, listed, compared)
         if verdict.word == "miss":
             made = miss_page(judged, process.stdout)
             return Made(made, REFUSED, "refused 13 0") if listed else Made(made, MISSED, verdict.word)
@@ -98,9 +100,11 @@ def report(program: List[str], text: bytes, name: str, asked: Asked = Asked(), l
 
 def answer(call: Call) -> Tuple[int, str]:
     """The mode: the table is called by the last part of its file's name."""
-    asked, listed = Asked(call.since, call.until), None
+    asked, listed, compared = Asked(call.since, call.until), None, None
     name = system.shown(call.file.rpartition("/")[2]) if call.file not in ("", "-") else f"a {'sheet' if call.sheet else 'table'} without a file name"
-    if call.list:
+    if call.mode == "report compare":
+        compared = compare_section(importlib.import_module("compare").of_call(call)[0], call.list)
+    elif call.list:
         source = system.list_of(call)
         listed = lines_of(source.name, source)
-    return picture.written(report(call.program("sivorandra"), call.table, name, asked, listed, call.sheet))
+    return picture.written(report(call.program("rows"), call.table, name, asked, listed, call.sheet, compared))

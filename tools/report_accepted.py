@@ -88,7 +88,7 @@ def claimed(second: int, table: Table) -> List[int]:
 def fullness_section(judged: Judged) -> Html:
     programs, first, second, table, listed = judged.programs, judged.first, judged.second, judged.table, judged.listed
     title = "The utilization of the cores"
-    process = programs.start([programs.path("sivorandra")], programs.text)
+    process = programs.asking("rows")
     try:
         end, cells = counted(judged, process.stdout)
     except TooLong:

@@ -70,7 +70,7 @@ def lines_of(name: str, source: Lines) -> ListRead:
 
 def play(judged: Judged, lines: List[bytes], asked: Asked) -> Tuple[Followed, Optional[str]]:
     """Plays lines through the program `replay`: what became of them, and the fault of one that is no operation."""
-    with system.running([judged.programs.path("replay")]) as process:
+    with system.running(system.asked(judged.programs.folder, "replay")[0]) as process:
         if begun(process, judged.text) != b"ok":
             raise Trouble("the program starts no run of a table that it accepted")
         followed, wrong = Followed(judged.table, asked), None

@@ -81,7 +81,7 @@ def rows_section(judged: Judged, shown: Shown) -> Html:
 
 def rows_again(programs: Programs) -> io.BufferedReader:
     """The rows that the program prints for this table, from tick 0 on."""
-    source = programs.start([programs.path("sivorandra")], programs.text).stdout
+    source = programs.asking("rows").stdout
     verdict_in(source.readline(64))
     return source
 
@@ -99,7 +99,7 @@ def clash_section(judged: Judged, said: Optional[bytes], pictures: int) -> Tuple
     if len(kept) == len(table.tasks):
         return kept, section(title, *inner, paragraph("These are all tasks of the table, so their picture is the one above.", class_="soft"), id="clash")
     programs.wait()
-    process = programs.start([programs.path("sivorandra")], relinked(programs.text, table.records, kept))
+    process = programs.asking("rows", relinked(programs.text, table.records, kept))
     verdict = verdict_in(process.stdout.readline(64))
     if verdict.word != "miss" or verdict.second > len(kept):
         raise Trouble(f"the conflict is {verdict.word}")

@@ -1,7 +1,5 @@
 """What the parts of a page share: the cells of rows, tasks in words, the header, the facts, the table, the footer."""
-import contextlib
 import importlib
-import os
 import re
 from typing import Any, List, Optional, Sequence
 
@@ -13,7 +11,6 @@ from page import Html, chip, element, listing, number, paragraph, section
 from picture import refusal_lines
 from programs import Judged, Programs
 from span import Span
-from system import Trouble
 from table import FENCED, Table, Task
 from texts import FITS, PROMISES, RULES, RULE_WORDS, WORDS
 
@@ -122,11 +119,7 @@ def sheet_page() -> Any:
 
 
 def footer() -> Html:
-    for place in (page.HERE, os.path.dirname(page.HERE)):
-        with contextlib.suppress(OSError), open(os.path.join(place, "VERSION"), encoding="utf-8") as file:
-            version = file.read().strip()
-            return element("footer", f"Made by sivorandra {version}. Every figure is what its proved programs print for this table or for the changed tables it names, the table's own, or a sum, a count or a share of these; the page decides nothing.")
-    raise Trouble("VERSION is missing")
+    return element("footer", f"Made by sivorandra {page.version()}. Every figure is what its proved programs print for this table or for the changed tables it names, the table's own, or a sum, a count or a share of these; the page decides nothing.")
 
 
 def caption(span: Span, count: int, before: str = "", after: Sequence[Any] = (), **words: Any) -> Html:

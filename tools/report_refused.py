@@ -38,7 +38,7 @@ def excerpt(text: bytes, said: str) -> Optional[Html]:
     return page.wide_table([element("tr", head_cell("line"), head_cell("what stands there"), head_cell("what belongs there")), *rows], "the lines around the fault", class_="excerpt")
 
 
-def refused_sheet(sheet: "Sheet", name: str, refused: int, position: int) -> str:
+def refused_sheet(sheet: "Sheet", name: str, refused: int, position: int, more: Optional[Html] = None) -> str:
     """The page on a sheet that is refused: its cells instead of lines of words."""
     names, parts = named.Names(sheet), sheet_page()
     said = importlib.import_module("sheet_notes").notes_on(sheet, f"refused {refused} {position}")
@@ -47,10 +47,10 @@ def refused_sheet(sheet: "Sheet", name: str, refused: int, position: int) -> str
     return page.document(f"{FITS['refused']} \u2013 {name}", [], verdict_header("refused", name, [lead]),
                          section("What is wrong", paragraph(refusal_words(refused, position, names), id="meaning"), *(paragraph(element("b", note[0].upper() + note[1:] + "."), id="note") for note in said), id="fault"),
                          section("What to do", paragraph(parts.REMEDIES.get(refused, "Look the number up in docs/NUMBERS.md."), id="remedy"), paragraph("The writer of the sheet can correct it; this page can be sent back with it.", class_="soft"), id="todo"),
-                         section("The sheet", *parts.sheet_parts(sheet, int(found[1]) if found else None), id="input"), footer())
+                         section("The sheet", *parts.sheet_parts(sheet, int(found[1]) if found else None), id="input"), more, footer())
 
 
-def refused_page(text: bytes, name: str, refused: int, position: int) -> str:
+def refused_page(text: bytes, name: str, refused: int, position: int, more: Optional[Html] = None) -> str:
     said = notes.notes(text, f"refused {refused} {position}")
     where = [part for note in said for part in (paragraph(element("b", note[0].upper() + note[1:] + "."), id="note"), excerpt(text[:notes.MOST_BYTES + 1], note))]
     lead = f"Refused, number {refused}" + (f", position {position}" if position else "") + ": the table was refused before it was judged."
@@ -58,4 +58,4 @@ def refused_page(text: bytes, name: str, refused: int, position: int) -> str:
     return page.document(f"{FITS['refused']} \u2013 {name}", [], verdict_header("refused", name, [lead]),
                          section("What is wrong", paragraph(refusal_words(refused, position), id="meaning"), *where, id="fault"),
                          section("What to do", paragraph(REMEDIES.get(refused, "Look the number up in docs/NUMBERS.md."), id="remedy"), paragraph("The writer of the table can correct it; this page can be sent back with it.", class_="soft"), id="todo"),
-                         section("The input", paragraph(f"More than the {number(notes.MOST_BYTES)} bytes that a table can have; this is its beginning.", class_="soft") if len(read) > notes.MOST_BYTES else None, element("pre", "\n".join(f"{at:>4}  {shown_line(line)}" for at, line in enumerate(notes.lines_of(read), 1)) if read else "(empty)"), id="input"), footer())
+                         section("The input", paragraph(f"More than the {number(notes.MOST_BYTES)} bytes that a table can have; this is its beginning.", class_="soft") if len(read) > notes.MOST_BYTES else None, element("pre", "\n".join(f"{at:>4}  {shown_line(line)}" for at, line in enumerate(notes.lines_of(read), 1)) if read else "(empty)"), id="input"), more, footer())

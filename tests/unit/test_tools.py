@@ -6,7 +6,11 @@ import unittest
 
 ROOT = pathlib.Path(__file__).resolve().parents[2]
 sys.path.insert(0, str(ROOT / "tools"))
+import answers  # noqa: E402
+import as_json  # noqa: E402
 import chart  # noqa: E402
+import compare  # noqa: E402
+import inputs  # noqa: E402
 import listed  # noqa: E402
 import notes  # noqa: E402
 import page  # noqa: E402
@@ -17,11 +21,12 @@ import report_parts  # noqa: E402
 import report_refused  # noqa: E402
 import span  # noqa: E402
 import svg  # noqa: E402
+import system  # noqa: E402
 import table as tables  # noqa: E402
 import texts  # noqa: E402
 from system import Declined, Trouble, USAGE  # noqa: E402
 
-A = b"1\n3\n1\n0\n0\n2\n0\n2\n2\n5\n5\n2\n3\n0\n2\n2\n5\n5\n2\n0\n0\n1\n4\n5\n5\n1\n"  # tables/a.txt
+A = (ROOT / "tables" / "a.txt").read_bytes()
 TABLE = tables.table_of(A)
 
 
@@ -194,7 +199,7 @@ class Drawn(unittest.TestCase):
 
     def test_longest_jobs(self):
         rows = [[1, 1, 3], [1, 1, 3], [2, 2, 3], [2, 2, 3], [2, 2, 0]]
-        self.assertEqual(picture.longest_jobs([2, 5, 4], TABLE, 0, rows), {1: 0, 3: 0})
+        self.assertEqual(picture.longest_jobs([2, 5, 4], TABLE, 0, rows), {1: 0, 2: 0, 3: 0})
 
 
 class Pages(unittest.TestCase):
@@ -213,6 +218,60 @@ class Pages(unittest.TestCase):
         self.assertEqual(report_parts.most(TABLE, 1), report_parts.SHOWN)
         wide = tables.Table(64, 1, frozenset(), TABLE.tasks * 10, [1] * 30)
         self.assertLess(report_parts.most(wide, 2), report_parts.most(wide, 1))
+
+
+class Objects(unittest.TestCase):
+    def test_answers_that_are_missing(self):
+        self.assertEqual([as_json.plain(one) for one in (5, None, answers.Refused(23, 0), answers.NotWaited(20))], [5, None, {"refused": 23, "position": 0}, {"not_waited_for": 20}])
+        self.assertEqual([str(one) for one in (answers.Refused(13, 0), answers.NotWaited(20))], ["refused 13", "not waited for"])
+
+    def test_verdicts(self):
+        self.assertEqual([as_json.verdict_of(printed.Verdict(word, 1, 2)) for word in ("firm", "miss", "refused")],
+                         [{"word": "firm", "start": 1, "period": 2}, {"word": "miss", "tick": 1, "position": 2}, {"word": "refused", "number": 1, "position": 2}])
+
+    def test_names_of_files(self):
+        self.assertEqual([as_json.name_of(name) for name in ("-", "a\nb", "\udcff")], [None, "a\nb", "\\xff"])
+
+    def test_sentences(self):
+        miss, full = printed.Verdict("miss", 5, 3), printed.Verdict("full", 0, 5)
+        self.assertEqual(answers.sentence_in(b"task 3 misses at tick 5 with 3 of 4 ticks.\n", miss), "task 3 misses at tick 5 with 3 of 4 ticks.")
+        self.assertIsNone(answers.sentence_in(b"full 0 5\n", full))
+        for said, verdict in ((b"full 0 6\n", full), (b"miss 5 3\n", miss), (b"", miss)):
+            with self.assertRaises(Trouble):
+                answers.sentence_in(said, verdict)
+
+    def test_records_on_no_chain(self):
+        loose = A.replace(b"1\n3\n1\n0\n0\n2\n", b"1\n3\n1\n0\n0\n0\n", 1)
+        self.assertEqual(notes.strict_note(loose), "line 6: next of record 1 is 0 and ends the chain; records 2, 3 are on no chain (--strict)")
+        self.assertIsNone(notes.strict_note(A))
+
+    def test_one_place_names_programs(self):
+        self.assertEqual(system.asked("bin", "longest", b"1\n"), (["bin/query"], b"longest\n1\n"))
+        self.assertEqual(system.asked("bin", "rows", b"1\n"), (["bin/sivorandra"], b"1\n"))
+
+
+class Releases(unittest.TestCase):
+    def test_tasks_by_position(self):
+        shorter = tables.table_of(tables.relinked(A, TABLE.records, [1, 2]))
+        self.assertEqual([(pair.old, pair.new) for pair in compare.pairs_of(TABLE, shorter)], [(1, 1), (2, 2), (3, None)])
+        self.assertEqual([str(line) for pair in compare.pairs_of(shorter, TABLE) for line in compare.task_lines(pair, shorter, TABLE)], ["position 3 came"])
+
+    def test_lines(self):
+        self.assertEqual([str(line) for line in (compare.Line("x"), compare.Line("x", "1", "2"))], ["x", "x: 1 -> 2"])
+
+    def test_cores(self):
+        read = compare.cells_by(TABLE, compare.pairs_of(TABLE, TABLE), "new")
+        self.assertEqual(sorted(read(b"1 1 3")), [(0, 0), (0, 1), (2, 2)])
+        self.assertEqual([compare.cores_words(read(b"1 1 3"), index) for index in (0, 1, 2)], ["cores 0 1", "no core", "core 2"])
+        with self.assertRaises(Trouble):
+            read(b"1 1 9")
+
+    def test_a_table_by_its_file(self):
+        given = inputs.read(str(ROOT / "tables" / "a.txt"))
+        self.assertEqual((given.table, given.sheet, len(given.digest)), ((ROOT / "tables" / "a.txt").read_bytes(), None, 64))
+        self.assertEqual(inputs.read(str(ROOT / "examples" / "cab.csv")).sheet.names()[3], "camera")
+        with self.assertRaises(Declined):
+            inputs.read(str(ROOT / "nosuch"))
 
 
 if __name__ == "__main__":
