@@ -18,8 +18,8 @@ use Rattle.plan_check.specs.Plan.{cellCount}
 use Rattle.plan_check.specs.Row.{faulty, anyUnknownByte, workedRow}
 use Rattle.plan_check.specs.CheckRow.{answerAt, finalAnswer, checkRowAnswer, checkRowOf}
 use Rattle.capi.specs.Calls.{CallResult, callResult}
-use Rattle.capi.specs.Encoding.{placeWords}
-use Rattle.capi.specs.Supplied.{notesWords, planOver, notesIn, holdsPlan, planIn}
+use Rattle.buffers.specs.Encoding.{placeWords}
+use Rattle.buffers.specs.Supplied.{notesWords, planOver, notesIn, holdsPlan, planIn}
 use Rattle.capi.specs.CheckRow.{beginCall, checkRowCall}
 use Rattle.capi.proofs.Calling.{calling}
 
