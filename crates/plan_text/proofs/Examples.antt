@@ -18,8 +18,8 @@ use Rattle.text.specs.Decimal.{all, decimal, digitCount, digitsWithin, lastDigi
 use Rattle.text.specs.Format.{isNumber, lines, wordsOf}
 use Rattle.text.specs.Output.{fields, letters, lineOf}
 use Rattle.sentence.specs.Reading.{startsWith}
-use Rattle.session.specs.Operation.{wordsIn}
-use Rattle.session.specs.Transcript.{isDashes, lastLine, linesFrom, nothing}
+use Rattle.splitter.specs.Words.{wordsIn}
+use Rattle.splitter.specs.Split.{isDashes, lastLine, linesFrom, nothing, splitFrom, unclosed}
 use Rattle.plan_check.specs.declared.SuppliedPlan.{SuppliedPlan}
 use Rattle.plan_check.specs.Begin.{beginOf}
 use Rattle.plan_check.specs.Numbers.{differs, missed, stateOut}
@@ -29,7 +29,7 @@ use Rattle.plan_check.specs.State.{note}
 use Rattle.plan_check.specs.CheckRow.{answerAt, finalAnswer, checkRowAnswer, checkRowOf}
 use Rattle.plan_text.specs.declared.PlanAnswer.{PlanAnswer}
 use Rattle.plan_text.specs.declared.PlanAnswer.the-variants.{Accepted, Fault, Refused, Unfinished, Unread}
-use Rattle.plan_text.specs.Checked.{checkedOf, endAnswer, nextLine, openedOf, opens, skipped, rowsAt, rowsAnswer, stepOf, tableAnswer, unclosedAnswer}
+use Rattle.plan_text.specs.Checked.{checkedOf, endAnswer, nextLine, openedOf, opens, skipped, rowsAt, rowsAnswer, splitAnswer, stepOf}
 use Rattle.plan_text.specs.Line.{Read, cellsOf, isByte, isVerdict, noRow, rowRead, rowIn, rowOfWords}
 use Rattle.plan_text.specs.Printed.{planAnswerLine}
 
@@ -141,7 +141,7 @@ checks-exact = by-line checking checks checks each-check
 -- A TABLE THAT IS TURNED DOWN, AND THE LINE THAT IS PRINTED
 
 pub refusedLine : (checkedOf (letters "") ≡ Refused 1 0) × (checkedOf (letters "x\n--\n0 1\n") ≡ Refused 1 0) × (checkedOf (letters "1\n65\n1\n0\n0\n--\n") ≡ Refused 2 0)
-unfolding checkedOf tableAnswer unclosedAnswer opens openedOf isDashes wordsOf lines isNumber all value beginOf answerOf headerNumber rowsAnswer endAnswer linesFrom lastLine
+unfolding checkedOf splitAnswer splitFrom unclosed opens openedOf isDashes wordsOf lines isNumber all value beginOf answerOf headerNumber rowsAnswer endAnswer linesFrom lastLine
 refusedLine = (refl, refl, refl)
 
 pub answer-lines :

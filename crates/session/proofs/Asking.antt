@@ -17,40 +17,16 @@ use Rattle.text.specs.declared.line.ParsedNumber.{ParsedNumber}
 use Rattle.text.specs.declared.line.ParsedNumber.the-variants as found
 use Rattle.text.proofs.Lines.{mark-within, mark-stop}
 use Rattle.text.proofs.Numbers.{found-nothing}
+use Rattle.splitter.specs.Words.{wordsIn}
+use Rattle.splitter.proofs.Words.{words-one, words-more}
 use Rattle.session.specs.declared.operations.Numbers.{Numbers}
 use Rattle.session.specs.declared.operations.Numbers.the-variants.{Bare, One, Two, Other}
 use Rattle.session.specs.declared.operations.Operation.{Operation}
 use Rattle.session.specs.declared.operations.Operation.the-variants.{Nothing}
-use Rattle.session.specs.Operation.{noneLong, wordsIn, oneOf, twoOf, numbersOf, numbersAfter, advanceBy, rowBy, setsBy, withdrawBy, withdrawAllBy}
+use Rattle.session.specs.Operation.{noneLong, oneOf, twoOf, numbersOf, numbersAfter, advanceBy, rowBy, setsBy, withdrawBy, withdrawAllBy}
 use Rattle.session.specs.Operation.{operationBy, operationOf}
 
 -- WORDS
-
--- a text with no space is one word
-pub words-one : (l : List ℕ) → lengthTo space l ≡ length l → wordsIn l ≡ l ∷ []
-unfolding wordsIn lengthTo
-words-one [] e = refl
-words-one (b ∷ l) e = go (eqb b space) e (words-one l)
-  where
-    go :
-        (t : Bool) → cond t 0 (suc (lengthTo space l)) ≡ suc (length l) → (lengthTo space l ≡ length l → wordsIn l ≡ l ∷ [])
-        → cond t ([] ∷ wordsIn l) (joined b (wordsIn l)) ≡ (b ∷ l) ∷ []
-    go true e ih = absurd (omega arith)
-    go false e ih = ap (joined b) (ih (omega arith))
-
--- else it is its first word, and the words after the space
-pub words-more : (l : List ℕ) → lengthTo space l < length l → wordsIn l ≡ take (lengthTo space l) l ∷ wordsIn (drop (suc (lengthTo space l)) l)
-unfolding wordsIn lengthTo
-words-more [] h = absurd (not-suc-le-zero h)
-words-more (b ∷ l) h = go (eqb b space) h (words-more l)
-  where
-    go :
-        (t : Bool) → cond t 0 (suc (lengthTo space l)) < suc (length l)
-        → (lengthTo space l < length l → wordsIn l ≡ take (lengthTo space l) l ∷ wordsIn (drop (suc (lengthTo space l)) l))
-        → cond t ([] ∷ wordsIn l) (joined b (wordsIn l))
-        ≡ take (cond t 0 (suc (lengthTo space l))) (b ∷ l) ∷ wordsIn (drop (suc (cond t 0 (suc (lengthTo space l)))) (b ∷ l))
-    go true h ih = refl
-    go false h ih = ap (joined b) (ih (le-of-suc-le-suc h))
 
 -- there is a word
 words-some : (l : List ℕ) → (w : List ℕ) × (ws : List (List ℕ)) × (wordsIn l ≡ w ∷ ws)

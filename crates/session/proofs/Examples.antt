@@ -20,10 +20,12 @@ use Rattle.run.specs.Sets.{setsIn, setsOf}
 use Rattle.text.specs.Decimal.{all, value, decimal, lastDigits, digitCount, digitsWithin}
 use Rattle.text.specs.Format.{isNumber}
 use Rattle.text.specs.Output.{letters, fields, lineOf}
+use Rattle.splitter.specs.Split.{nothing, lastLine, linesFrom}
+use Rattle.splitter.specs.Words.{wordsIn}
 use Rattle.session.specs.declared.operations.Operation.{Operation}
 use Rattle.session.specs.declared.operations.Operation.the-variants.{Advance, Withdraw, WithdrawAll, Row, Sets, Nothing}
-use Rattle.session.specs.Operation.{wordsIn, numbersOf, numbersAfter, operationBy, operationOf, wordLine, answerLine, shownLine, setsLine, reply, runAfter}
-use Rattle.session.specs.Transcript.{nothing, lastLine, linesFrom, replies}
+use Rattle.session.specs.Operation.{numbersOf, numbersAfter, operationBy, operationOf, wordLine, answerLine, shownLine, setsLine, reply, runAfter}
+use Rattle.session.specs.Transcript.{replies}
 
 -- THE OPERATION OF A LINE
 

@@ -5,11 +5,12 @@ use Prim.Native.Nat.{ℕ, _+_, _*_}
 use lib.ListN.{take}
 use lib.Dec.{eqb}
 use Rattle.model.specs.Sizes.{mostTasks}
-use Rattle.text.specs.Format.{newline, mostDigits, joined}
+use Rattle.text.specs.Format.{newline, mostDigits}
 use Rattle.text.specs.Input.{parseNumber}
 use Rattle.text.specs.Output.{letters, lineOf, space}
 use Rattle.text.specs.declared.line.ParsedNumber.{ParsedNumber}
 use Rattle.text.specs.declared.line.ParsedNumber.the-variants as found
+use Rattle.splitter.specs.Words.{wordsIn}
 use Rattle.run.specs.declared.Run.{Run}
 use Rattle.run.specs.declared.Answer.{Answer}
 use Rattle.run.specs.declared.Answer.the-variants.{Taken, Refused}
@@ -29,11 +30,6 @@ noneLong = 1 + 2 * (1 + mostDigits) + 1
 -- the most bytes of a reply: `sets`, for each of 32 positions a space and up to 20 digits, and a newline
 abbrev pub longestReply : ℕ
 longestReply = 4 + mostTasks * (1 + 20) + 1
-
--- the words of a text: what is before, between and after its spaces
-unfoldable pub wordsIn : List ℕ → List (List ℕ)
-wordsIn [] = [] ∷ []
-wordsIn (b ∷ bs) = cond (eqb b space) ([] ∷ wordsIn bs) (joined b (wordsIn bs))
 
 -- one number, of one to ten digits, up to 4,294,967,295
 abbrev pub oneOf : ParsedNumber → Numbers

@@ -1,12 +1,12 @@
--- `plan_checker::move_to_front` meets its contract: after k iterations the first k bytes are in their place, and those after are as they were (Rounds).
+-- `stream::move_to_front` meets its contract: after k iterations the first k bytes are in their place, and those after are as they were (Fronts).
 -- Assumes nothing.
 use borrow.Author.Needs.{needs}
 use native.Mathlib.Omega.{arith}
 use mathlib.Core.Path.{refl}
 use Prim.Native.Nat.{_-_, _≤_}
-use Rattle.plan_checker.proofs.Rounds.{Moved, kept-of, moved-more}
-use Rattle.plan_checker.proofs.move_to_front.Statement.{statement}
-use Rattle.plan_checker.proofs.move_to_front.Tie as tie
+use Rattle.stream.proofs.Fronts.{Moved, kept-of, moved-more}
+use Rattle.stream.proofs.move_to_front.Statement.{statement}
+use Rattle.stream.proofs.move_to_front.Tie as tie
 
 abbrev Inv-loop : tie.InvT-loop
 Inv-loop buffer₀ from end count k₀ buffer k = (k ≤ count) × Moved from buffer₀ buffer k

@@ -1,9 +1,9 @@
--- `session::open::is_dashes` meets its contract: two bytes are compared one by one, and a line of any other length is not dashes.
+-- `splitter::is_dashes` meets its contract: two bytes are compared one by one, and a line of any other length is not dashes.
 -- Assumes nothing.
 use borrow.Author.Needs.{needs}
-use Rattle.session.proofs.Replying.{dashes-of, no-dashes}
-use Rattle.session.proofs.open.is_dashes.Statement.{statement}
-use Rattle.session.proofs.open.is_dashes.Tie as tie
+use Rattle.splitter.proofs.Splits.{dashes-of, no-dashes}
+use Rattle.splitter.proofs.is_dashes.Statement.{statement}
+use Rattle.splitter.proofs.is_dashes.Tie as tie
 
 -- the state at the call
 abbrev entry : tie.After-shared-slice-known2 → tie.Start
