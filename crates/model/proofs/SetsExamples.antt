@@ -13,7 +13,6 @@ use Rattle.model.proofs.Computing.{computing}
 use Rattle.model.proofs.EmptyExamples.{noPlaces}
 use Rattle.model.proofs.Examples.{B, fencedOn, on, t, t₂}
 use Rattle.model.proofs.LendExamples.{figure-3}
-use Rattle.model.proofs.LineByLine.{LineByLine, by-line}
 use Rattle.model.specs.Advance.{Entry, advance, withdrawAll}
 use Rattle.model.specs.Refusals.{Asked, rowRefused, shown}
 use Rattle.model.specs.Lists.{book}
@@ -75,14 +74,10 @@ sets-lines =
     ∷ line "15 before 20" (B greedy) (advance 1 0 ∷ noPlaces ∷ []) 8 (rowRefused 15 3)
     ∷ []
 
--- every line is its value by the definitions, line by line
-computed : LineByLine answered sets-lines sets-lines
-unfolding computing
-computed = (refl, (refl, (refl, (refl, (refl, (refl, (refl, (refl, (refl, (refl, (refl, (refl, (refl, (refl, (refl, (refl, (refl, (refl, tt))))))))))))))))))
-
--- .. and as one list
+-- every line is its value by the definitions: one table with one check
 pub sets-examples : map answered sets-lines ≡ sets-lines
-sets-examples = by-line answered sets-lines sets-lines computed
+unfolding computing
+sets-examples = refl
 
 -- WHAT IS NOT SO OF THE SETS OF A TICK
 

@@ -6,7 +6,6 @@ use Prim.Native.Nat.{ℕ}
 use Prim.Native.String.{String}
 use lib.ListN.{replicate}
 use Rattle.model.proofs.Computing.{computing}
-use Rattle.model.proofs.LineByLine.{LineByLine, by-line}
 use Rattle.table.specs.Answer.{answerOf, byHorizon, byTasks, byWalk, endingOf, firstOut, headerNumber, lastStep}
 use Rattle.table.specs.Words.{chain, count, visited, tableOf}
 use Rattle.phase.specs.declared.Phase.the-variants.{Resting, Working}
@@ -68,12 +67,9 @@ some-lines =
 abbrev reading : Line → Line
 reading l = reads (l .text) (rowIn (letters (l .text)))
 
-each-line : LineByLine reading some-lines some-lines
-unfolding rowOfWords cellsOf isByte wordsIn isNumber all value
-each-line = (refl, (refl, (refl, (refl, (refl, (refl, (refl, (refl, (refl, (refl, (refl, (refl, (refl, (refl, (refl, (refl, tt))))))))))))))))
-
 pub lines-read : map (λ l. reads (l .text) (rowIn (letters (l .text)))) some-lines ≡ some-lines
-lines-read = by-line reading some-lines some-lines each-line
+unfolding rowOfWords cellsOf isByte wordsIn isNumber all value
+lines-read = refl
 
 -- THE ANSWER TO THE LINES OF A PLAN
 
@@ -130,13 +126,10 @@ checks =
 abbrev checking : Check → Check
 checking c = check (c .input) (rowsAnswer nothing (rowsAt plan 0 false) (linesFrom nothing [] (letters (c .input))))
 
-each-check : LineByLine checking checks checks
+pub checks-exact : map checking checks ≡ checks
 unfolding rowsAnswer endAnswer stepOf skipped nextLine isVerdict startsWith linesFrom lastLine rowOfWords cellsOf isByte wordsIn isNumber all value checkRowOf checkRowAnswer answerAt finalAnswer differs missed
     stateOut faulty anyUnknownByte workedRow cellCount mapFirst runOut pastCount computing
-each-check = (refl, (refl, (refl, (refl, (refl, (refl, (refl, (refl, (refl, (refl, (refl, (refl, (refl, (refl, (refl, tt)))))))))))))))
-
-pub checks-exact : map checking checks ≡ checks
-checks-exact = by-line checking checks checks each-check
+checks-exact = refl
 
 -- A TABLE THAT IS TURNED DOWN, AND THE LINE THAT IS PRINTED
 

@@ -15,7 +15,6 @@ use Rattle.model.specs.Lists.{answersFrom, bookFrom, book, enter, noReports, ro
 use Rattle.model.specs.Task.{Table, Task, Rule, greedy, limited, idling, lending}
 use Rattle.model.specs.Verdict.{Verdict, Firm, Full, Miss}
 use Rattle.model.proofs.Computing.{computing}
-use Rattle.model.proofs.LineByLine.{LineByLine, by-line}
 use Rattle.model.proofs.Examples.{Line, worked, lines, examples}
 use Rattle.model.proofs.EmptyExamples.{empty-lines, empty-examples}
 use Rattle.model.proofs.WithdrawExamples.{withdraw-lines, withdraw-examples}
@@ -170,40 +169,37 @@ unfolding computing expected records startOf startAnswer verdictOf answerOf byWa
     chain count visited
 starting = tt
 
--- line by line
-line-by-line : LineByLine begins lines (map expected lines)
+-- each table of lines: one check over it
+begun : map begins lines ≡ map expected lines
 unfolding starting
-line-by-line = (refl, (refl, (refl, (refl, (refl, (refl, (refl, (refl, (refl, (refl, (refl, (refl, (refl, (refl, (refl, (refl, (refl, tt)))))))))))))))))
+begun = refl
 
-begun-empty : LineByLine begins empty-lines (map expected empty-lines)
+begun-empty : map begins empty-lines ≡ map expected empty-lines
 unfolding starting
-begun-empty = (refl, (refl, (refl, (refl, (refl, (refl, (refl, (refl, (refl, (refl, (refl, (refl, (refl, (refl, (refl, tt)))))))))))))))
+begun-empty = refl
 
-begun-withdraw : LineByLine begins withdraw-lines (map expected withdraw-lines)
+begun-withdraw : map begins withdraw-lines ≡ map expected withdraw-lines
 unfolding starting
-begun-withdraw = (refl, (refl, (refl, (refl, (refl, (refl, (refl, (refl, (refl, (refl, (refl, (refl, (refl, (refl, tt))))))))))))))
+begun-withdraw = refl
 
-begun-together : LineByLine begins together-lines (map expected together-lines)
+begun-together : map begins together-lines ≡ map expected together-lines
 unfolding starting
-begun-together = (refl, (refl, (refl, (refl, (refl, (refl, (refl, (refl, (refl, (refl, (refl, (refl, tt))))))))))))
+begun-together = refl
 
-begun-width : LineByLine begins width-lines (map expected width-lines)
+begun-width : map begins width-lines ≡ map expected width-lines
 unfolding starting
-begun-width = (refl, (refl, (refl, (refl, (refl, (refl, (refl, (refl, (refl, (refl, (refl, (refl, (refl, tt)))))))))))))
+begun-width = refl
 
-begun-lend : LineByLine begins lend-lines (map expected lend-lines)
+begun-lend : map begins lend-lines ≡ map expected lend-lines
 unfolding starting
-begun-lend =
-    let later : LineByLine begins (drop 11 lend-lines) (map expected (drop 11 lend-lines)) =
-    (refl, (refl, (refl, (refl, (refl, (refl, (refl, (refl, (refl, (refl, (refl, tt))))))))))) in
-    (refl, (refl, (refl, (refl, (refl, (refl, (refl, (refl, (refl, (refl, (refl, later)))))))))))
+begun-lend = refl
 
 -- the contract gives for lines through `replay` their values by the definitions
-through : (ls : List Line) → map worked ls ≡ ls → LineByLine begins ls (map expected ls) → Each (λ l. ByVerdict (l .result) l) ls
+through : (ls : List Line) → map worked ls ≡ ls → map begins ls ≡ map expected ls → Each (λ l. ByVerdict (l .result) l) ls
 through ls works starts =
     both (λ l. worked l ≡ l) (λ l. begins l ≡ expected l) (λ l. ByVerdict (l .result) l)
     (λ l w e. unfold expected in by-verdict l w (ap (λ (x : Begins). x .table) e) (l .result) (ap (λ (x : Begins). x .start) e))
-    ls (each worked (λ l. l) ls (works ∙ sym (map-id ls))) (each begins expected ls (by-line begins ls (map expected ls) starts))
+    ls (each worked (λ l. l) ls (works ∙ sym (map-id ls))) (each begins expected ls starts)
   where
     map-id : (ls : List Line) → map (λ l. l) ls ≡ ls
     map-id [] = refl
@@ -211,7 +207,7 @@ through ls works starts =
 
 -- THEOREM: every marked line of the table of examples, through the contract of `replay`
 pub through-replay : Each (λ l. ByVerdict (l .result) l) lines
-through-replay = through lines examples line-by-line
+through-replay = through lines examples begun
 
 -- and every line with empty jobs
 pub empty-through-replay : Each (λ l. ByVerdict (l .result) l) empty-lines

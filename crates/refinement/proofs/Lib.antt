@@ -9,12 +9,14 @@ pub mod Related
 pub mod Represents
 pub mod Words
 pub mod Refines
+pub mod LateRun
 pub mod BookSets
 pub mod RunRefinesBook
 pub mod Fenced
 pub mod Listed
 pub mod Codes
 pub mod Outcomes
+pub mod OffChain
 pub mod Examples
 pub mod Running
 pub mod HandBuilt

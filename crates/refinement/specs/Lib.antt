@@ -1,6 +1,7 @@
 -- The claims about a list of entries: the run refines the book, in rows and in sets, demand 3, the replay of a whole list, and the effect of a fence.
 pub mod Entries
 pub mod Refines
+pub mod LateRun
 pub mod Sets
 pub mod RunRefinesBook
 pub mod Listing
