@@ -139,7 +139,7 @@ module _ (r : Rule) (ws : List ℕ) (claims free count : ℕ) (sets : List ℕ) 
       record {
         fit = less;
         whole = h .whole;
-            size = h .size;
+        size = h .size;
         due = λ p z. h .due p (gone p z .1);
         past = h .past;
         gives = λ p. ap (λ (bs : List Claimant). cores (getD sets p 0) ++ getD (grants r bs (cores set)) p []) same ∙ h .gives p;

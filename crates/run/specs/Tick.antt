@@ -7,7 +7,7 @@ use lib.Dec.{ltb}
 use Rattle.model.specs.Search.{bit}
 use Rattle.phase.specs.Phase.{working}
 use Rattle.run.specs.declared.Run.{Run}
-use Rattle.run.specs.declared.Answer.the-variants.{Taken}
+use Rattle.run.specs.declared.Answer.the-variants.{Taken, Refused}
 use Rattle.run.specs.declared.tick.Tick.{Tick}
 use Rattle.run.specs.Run.{hasCores, hasLent, emptiedAt}
 use Rattle.run.specs.Sets.{setsOf}
@@ -18,3 +18,5 @@ pub record TickOf (r : Run) (e : ℕ) (t : Tick) : Type 0 where
   pub gives : t .answer ≡ Taken → (p : ℕ) → bit (t .given) p ≡ hasCores r e p
   pub lends : t .answer ≡ Taken → (p : ℕ) → bit (t .lent) p ≡ hasLent r e p
   pub works : t .answer ≡ Taken → (p : ℕ) → bit (t .working) p ≡ ltb p (r .count) && working (emptiedAt r e p)
+  -- refused: no place
+  pub none : (n p : ℕ) → t .answer ≡ Refused n p → (t .given ≡ 0) × (t .lent ≡ 0) × (t .working ≡ 0)

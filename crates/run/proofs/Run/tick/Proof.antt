@@ -46,6 +46,7 @@ refused r e n p t i q = record {
   gives = λ a. absurd (not-taken n p (sym (ap (λ (t : Tick). t .answer) i) ∙ a));
   lends = λ a. absurd (not-taken n p (sym (ap (λ (t : Tick). t .answer) i) ∙ a));
   works = λ a. absurd (not-taken n p (sym (ap (λ (t : Tick). t .answer) i) ∙ a));
+  none = λ m q a. (ap (λ (t : Tick). t .given) i, ap (λ (t : Tick). t .lent) i, ap (λ (t : Tick). t .working) i);
 }
 
 -- the state at the call
@@ -209,6 +210,7 @@ returns-4 c =
       gives = λ x. has-cores (a .self) (a .empties) (g .claims .result) (g .claims .ensures) (o .allocate .result) (shared o);
       lends = λ x. has-lent (a .self) (a .empties) (g .claims .result) (g .claims .ensures) (o .allocate .result) (shared o);
       works = λ x. g .claims .ensures .worked;
+      none = λ n p x. absurd (not-taken n p (sym x));
     }
 
 tick-refused-requires-4 : tie.Need-tick-refused-requires-4
