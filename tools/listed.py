@@ -38,7 +38,7 @@ class Job:
 
 def operation_in(line: bytes) -> Optional[Operation]:
     """The letter and the numbers of an operation; an advance has both its sets. None where a line is no operation."""
-    if not re.fullmatch(rb"([rs]|a [0-9]{1,10})( [0-9]{1,10})?|[wW] [0-9]{1,10}", line):
+    if not re.fullmatch(rb"([rsj]|a [0-9]{1,10})( [0-9]{1,10})?|[wW] [0-9]{1,10}", line):
         return None
     letter, *numbers = line.decode().split(" ")
     numbers = [int(number) for number in numbers] + [0] * (letter == "a" and len(numbers) == 1)
@@ -192,7 +192,7 @@ class Listed:
             system.send(process, b"".join(asking(line, operation) for line, operation in sent))
             for line, operation in sent:
                 read, since = read + 1, since + 1
-                if operation and operation[0] in "rs":
+                if operation and operation[0] in "rsj":
                     self.question(next_line(process.stdout) if asks_empties(operation) else b"")
                     continue
                 left = next_line(process.stdout) if has_empties(operation) else None
@@ -224,12 +224,12 @@ def has_empties(operation: Optional[Operation]) -> bool:
 
 def asks_empties(operation: Operation) -> bool:
     """Whether an operation asks the row that empty jobs leave, as sets too."""
-    return operation[0] in "rs" and any(operation[1:])
+    return operation[0] in "rsj" and any(operation[1:])
 
 
 def asking(line: bytes, operation: Optional[Operation]) -> bytes:
     """What is sent for a line of a list: of a row asked nothing, unless it has empty jobs; before an advance with empty jobs the row that they leave, after a move the next row."""
-    if operation and operation[0] in "rs":
+    if operation and operation[0] in "rsj":
         return line + b"\n" if asks_empties(operation) else b""
     return (b"r %d\n" % operation[2] if has_empties(operation) else b"") + line + b"\nr\n"
 

@@ -3,7 +3,7 @@
 First start's answer and the row of tick 0; then for each line `a REPORTS EMPTIES` its answer, and where it is taken the row of the next tick. Where its empty
 jobs leave another row than was shown, that row comes before the answer. A withdrawal, `w POSITION`, or `W SET` of several together, stays in its tick; where it leaves
 another row, that comes after the answer. A line `r` asks what is shown already, `r EMPTIES` the row that these leave; `s` and `s EMPTIES`
-ask the same as sets of cores, which come as the program has them. It counts the ticks and nothing else, and reads a line when the one before is answered:
+ask the same as sets of cores, `j` and `j EMPTIES` who works, and both come as the program has them. It counts the ticks and nothing else, and reads a line when the one before is answered:
 the list may be a pipe. Status 2: something is refused, or a line is no operation."""
 import re
 import subprocess

@@ -35,7 +35,7 @@ MISTAKES = {
     21: "the table is not firm, so no task can be withdrawn",
     22: "there is no such position",
 }
-EXPECTED = "'a REPORTS', 'a REPORTS EMPTIES', 'w POSITION', 'W SET', 'r', 'r EMPTIES', 's' or 's EMPTIES' (numbers up to 4294967295) was expected"
+EXPECTED = "'a REPORTS', 'a REPORTS EMPTIES', 'w POSITION', 'W SET', 'r', 'r EMPTIES', 's', 's EMPTIES', 'j' or 'j EMPTIES' (numbers up to 4294967295) was expected"
 
 RULE_WORDS = {
     1: "in priority order, a task that fits in the free cores takes them, and one that does not is skipped",

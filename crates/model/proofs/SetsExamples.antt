@@ -40,15 +40,15 @@ answered l = record {
 }
 
 -- a line from its parts
-abbrev line : String → Table → List Entry → ℕ → Asked → Line
+abbrev pub line : String → Table → List Entry → ℕ → Asked → Line
 line n s xs e a = record { name = n; table = s; entries = xs; empties = e; sets = a }
 
 -- position 1 is wide and ends early, position 2 is narrower
-abbrev early : Rule → Table
+abbrev pub early : Rule → Table
 early r = on 3 r (t 0 3 2 4 4 ∷ t 0 2 2 4 4 ∷ [])
 
 -- all jobs are released in tick 0, and position 1 takes every core
-abbrev all-wide : Rule → Table
+abbrev pub all-wide : Rule → Table
 all-wide r = on 2 r (t 0 2 1 3 3 ∷ t 0 1 1 3 3 ∷ [])
 
 abbrev pub sets-lines : List Line

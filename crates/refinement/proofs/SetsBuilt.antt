@@ -64,11 +64,11 @@ abbrev first : ℕ → List ℕ → List ℕ
 first k bytes = bytes ++ replicate (64 - k) 0
 
 -- a task as wide as the two cores, and one below it, under a rule
-abbrev pair : ℕ → Phase → Phase → Run
+abbrev pub pair : ℕ → Phase → Phase → Run
 pair r a b = two r 2 (t 0 2 3 6 6 a) (t 0 1 2 6 6 b)
 
 -- two holders of two cores each, and below them tasks of widths 3, 1 and 2 that work, under rule 4 on four cores
-abbrev lenders : Run
+abbrev pub lenders : Run
 lenders = record {
   rule = 4;
   cores = 4;

@@ -23,7 +23,7 @@ use Rattle.session.specs.declared.operations.Numbers.{Numbers}
 use Rattle.session.specs.declared.operations.Numbers.the-variants.{Bare, One, Two, Other}
 use Rattle.session.specs.declared.operations.Operation.{Operation}
 use Rattle.session.specs.declared.operations.Operation.the-variants.{Nothing}
-use Rattle.session.specs.Operation.{noneLong, oneOf, twoOf, numbersOf, numbersAfter, advanceBy, rowBy, setsBy, withdrawBy, withdrawAllBy}
+use Rattle.session.specs.Operation.{noneLong, oneOf, twoOf, numbersOf, numbersAfter, advanceBy, rowBy, setsBy, workingBy, withdrawBy, withdrawAllBy}
 use Rattle.session.specs.Operation.{operationBy, operationOf}
 
 -- WORDS
@@ -141,9 +141,14 @@ pub by-sets : (b : ℕ) (ns : Numbers) → b ≡ 115 → setsBy ns ≡ operation
 unfolding operationBy
 by-sets b ns e = rw e
 
-pub by-none : (b : ℕ) (ns : Numbers) → (b ≡ 97 → ⊥) → (b ≡ 114 → ⊥) → (b ≡ 119 → ⊥) → (b ≡ 87 → ⊥) → (b ≡ 115 → ⊥) → Nothing ≡ operationBy b ns
+pub by-working : (b : ℕ) (ns : Numbers) → b ≡ 106 → workingBy ns ≡ operationBy b ns
 unfolding operationBy
-by-none b ns a r w v s = rw (ne-eqb b 97 a, ne-eqb b 114 r, ne-eqb b 119 w, ne-eqb b 87 v, ne-eqb b 115 s)
+by-working b ns e = rw e
+
+pub by-none :
+    (b : ℕ) (ns : Numbers) → (b ≡ 97 → ⊥) → (b ≡ 114 → ⊥) → (b ≡ 119 → ⊥) → (b ≡ 87 → ⊥) → (b ≡ 115 → ⊥) → (b ≡ 106 → ⊥) → Nothing ≡ operationBy b ns
+unfolding operationBy
+by-none b ns a r w v s j = rw (ne-eqb b 97 a, ne-eqb b 114 r, ne-eqb b 119 w, ne-eqb b 87 v, ne-eqb b 115 s, ne-eqb b 106 j)
 
 pub asked-empty : (l : List ℕ) → length l ≡ 0 → Nothing ≡ operationOf l
 unfolding operationOf
@@ -186,15 +191,16 @@ numbers-long l h = ⊎-elim whole part (eq-or-lt-of-le (mark-within space l))
 
 by-other : (b : ℕ) → operationBy b Other ≡ Nothing
 unfolding operationBy
-by-other b = go (eqb b 97) (eqb b 114) (eqb b 119) (eqb b 87) (eqb b 115)
+by-other b = go (eqb b 97) (eqb b 114) (eqb b 119) (eqb b 87) (eqb b 115) (eqb b 106)
   where
-    go : (t u v w x : Bool) → cond t Nothing (cond u Nothing (cond v Nothing (cond w Nothing (cond x Nothing Nothing)))) ≡ Nothing
-    go true u v w x = refl
-    go false true v w x = refl
-    go false false true w x = refl
-    go false false false true x = refl
-    go false false false false true = refl
-    go false false false false false = refl
+    go : (t u v w x y : Bool) → cond t Nothing (cond u Nothing (cond v Nothing (cond w Nothing (cond x Nothing (cond y Nothing Nothing))))) ≡ Nothing
+    go true u v w x y = refl
+    go false true v w x y = refl
+    go false false true w x y = refl
+    go false false false true x y = refl
+    go false false false false true y = refl
+    go false false false false false true = refl
+    go false false false false false false = refl
 
 -- an operation has at most 23 bytes: a letter, and twice a space and ten digits
 pub long-none : (l : List ℕ) → noneLong ≤ length l → operationOf l ≡ Nothing

@@ -6,7 +6,7 @@ use Prim.Native.Nat.{ℕ}
 use Prim.Native.String.{String}
 use lib.ListN.{replicate}
 use Rattle.model.proofs.Computing.{computing}
-use Rattle.phase.specs.declared.Phase.the-variants.{Working}
+use Rattle.phase.specs.declared.Phase.the-variants as phase
 use Rattle.phase.specs.declared.Task.{Task}
 use Rattle.phase.specs.Task.{unused}
 use Rattle.run.specs.declared.Run.{Run}
@@ -16,14 +16,16 @@ use Rattle.run.specs.Advance.{advanceAnswer, advanceOf}
 use Rattle.run.specs.Withdraw.{withdrawAnswer, withdrawOf, withdrawAllOf}
 use Rattle.run.specs.Row.{rowAnswer, bytesIn, rowOf}
 use Rattle.run.specs.Sets.{setsIn, setsOf}
+use Rattle.run.specs.Working.{workingOf}
+use Rattle.model.specs.Working.{setWhere}
 use Rattle.text.specs.Decimal.{all, value, decimal, lastDigits, digitCount, digitsWithin}
 use Rattle.text.specs.Format.{isNumber}
 use Rattle.text.specs.Output.{letters, fields, lineOf}
 use Rattle.splitter.specs.Split.{nothing, lastLine, linesFrom}
 use Rattle.splitter.specs.Words.{wordsIn}
 use Rattle.session.specs.declared.operations.Operation.{Operation}
-use Rattle.session.specs.declared.operations.Operation.the-variants.{Advance, Withdraw, WithdrawAll, Row, Sets, Nothing}
-use Rattle.session.specs.Operation.{numbersOf, numbersAfter, operationBy, operationOf, wordLine, answerLine, shownLine, setsLine, reply, runAfter}
+use Rattle.session.specs.declared.operations.Operation.the-variants.{Advance, Withdraw, WithdrawAll, Row, Sets, Working, Nothing}
+use Rattle.session.specs.Operation.{numbersOf, numbersAfter, operationBy, operationOf, wordLine, answerLine, shownLine, setsLine, workingLine, reply, runAfter}
 use Rattle.session.specs.Transcript.{replies}
 
 -- THE OPERATION OF A LINE
@@ -46,6 +48,8 @@ lines =
     ∷ asks "W 1" (WithdrawAll 1)
     ∷ asks "s" (Sets 0)
     ∷ asks "s 1" (Sets 1)
+    ∷ asks "j" (Working 0)
+    ∷ asks "j 1" (Working 1)
     -- a letter is needed, and it is the first byte
     ∷ asks "" Nothing
     ∷ asks " " Nothing
@@ -63,6 +67,8 @@ lines =
     ∷ asks "a 1 2 3" Nothing
     ∷ asks "r 1 2" Nothing
     ∷ asks "s 1 2" Nothing
+    ∷ asks "j 1 2" Nothing
+    ∷ asks "J" Nothing
     ∷ asks "w" Nothing
     ∷ asks "w 1 2" Nothing
     ∷ asks "W" Nothing
@@ -78,6 +84,8 @@ lines =
     ∷ asks "r 1 " Nothing
     ∷ asks "s " Nothing
     ∷ asks "s1" Nothing
+    ∷ asks "j " Nothing
+    ∷ asks "j1" Nothing
     ∷ asks "w " Nothing
     ∷ asks "w  1" Nothing
     ∷ asks "w 1 " Nothing
@@ -122,6 +130,8 @@ lines =
     ∷ asks "r 4294967296" Nothing
     ∷ asks "s 4294967295" (Sets 4294967295)
     ∷ asks "s 4294967296" Nothing
+    ∷ asks "j 4294967295" (Working 4294967295)
+    ∷ asks "j 4294967296" Nothing
     ∷ asks "w 0" (Withdraw 0)
     ∷ asks "w 4294967295" (Withdraw 4294967295)
     ∷ asks "w 4294967296" Nothing
@@ -147,7 +157,7 @@ lines-asked = refl
 
 -- a task of one tick in the release tick of an odd job, by its widths
 abbrev task : ℕ → ℕ → Task
-task v w = record { offset = 0; width = v; length = 1; deadline = 2; period = 2; second = w; even = false; phase = Working 0 0 0 }
+task v w = record { offset = 0; width = v; length = 1; deadline = 2; period = 2; second = w; even = false; phase = phase.Working 0 0 0 }
 
 -- two of them under greedy: of width 1 on one core; and with widths that fall on two cores, so that the run is not firm
 abbrev pub pair : Run
@@ -206,6 +216,9 @@ transcripts =
     ∷ transcriptExample lending "s\ns 1\ns 4\nr"
     "sets 3 0 0 0 0 0 0 0 0 0 0 0 0 0 0 0 0 0 0 0 0 0 0 0 0 0 0 0 0 0 0 0\nsets 2 1 0 0 0 0 0 0 0 0 0 0 0 0 0 0 0 0 0 0 0 0 0 0 0 0 0 0 0 0 0 0\nrefused 20 0\nrow 1 1\n"
     ∷ transcriptExample none "s" "refused 14 0\n"
+    -- who works: the borrower and not the lender, whose set has a core; a refusal has no set; and nothing changes
+    ∷ transcriptExample lending "j\nj 1\nj 4\nr\na 1\nj\na 2\nj" "working 1\nworking 2\nrefused 20 0\nrow 1 1\ntaken\nworking 2\ntaken\nworking 1\n"
+    ∷ transcriptExample none "j" "refused 14 0\n"
     -- after a line that is no operation nothing is written
     ∷ transcriptExample pair "r 1 2\nr\n" "not an operation\n"
     ∷ []
@@ -217,7 +230,7 @@ abbrev expected : TranscriptExample → List ℕ
 expected t = letters (t .output)
 
 pub transcripts-exact : map (λ t. replies (t .from) (linesFrom nothing [] (letters (t .input)))) transcripts ≡ map (λ t. letters (t .output)) transcripts
-unfolding replies linesFrom lastLine reply runAfter wordLine answerLine shownLine setsLine operationOf operationBy numbersAfter numbersOf wordsIn isNumber all value lineOf fields
-    decimal lastDigits digitCount digitsWithin computing advanceOf advanceAnswer withdrawOf withdrawAllOf withdrawAnswer rowOf rowAnswer bytesIn setsOf setsIn pastCount runOut
+unfolding replies linesFrom lastLine reply runAfter wordLine answerLine shownLine setsLine workingLine operationOf operationBy numbersAfter numbersOf wordsIn isNumber all value lineOf fields
+    decimal lastDigits digitCount digitsWithin computing advanceOf advanceAnswer withdrawOf withdrawAllOf withdrawAnswer rowOf rowAnswer bytesIn setsOf setsIn workingOf setWhere pastCount runOut
     firstLateIn wrongEmptiesIn wrongReportsIn grantsIn lentIn offerIn seeksIn mapFirst moved withdrawnIn
 transcripts-exact = refl

@@ -15,10 +15,11 @@ use Rattle.run.specs.Advance.{advanceOf}
 use Rattle.run.specs.Withdraw.{withdrawOf, withdrawAllOf}
 use Rattle.run.specs.Row.{rowOf}
 use Rattle.run.specs.Sets.{setsOf}
+use Rattle.run.specs.Working.{workingOf}
 use Rattle.run.specs.Start.{startOf}
 use Rattle.session.specs.declared.operations.Operation.{Operation}
-use Rattle.session.specs.declared.operations.Operation.the-variants.{Advance, Withdraw, WithdrawAll, Row, Sets, Nothing}
-use Rattle.session.specs.Operation.{wordLine, answerLine, shownLine, setsLine, reply, runAfter, isLast}
+use Rattle.session.specs.declared.operations.Operation.the-variants.{Advance, Withdraw, WithdrawAll, Row, Sets, Working, Nothing}
+use Rattle.session.specs.Operation.{wordLine, answerLine, shownLine, setsLine, workingLine, reply, runAfter, isLast}
 use Rattle.session.specs.Transcript.{startLine, opened, replies}
 use Rattle.session.specs.Session.{TextWritten, OpenedOf}
 use Rattle.session.proofs.Transcripts.{tooLong, opened-long}
@@ -48,6 +49,14 @@ sets-taken a sets e = rw e
 pub sets-refused : (a : Answer) (sets : List ℕ) (n p : ℕ) → a ≡ Refused n p → lineOf (letters "refused") (n ∷ p ∷ []) ≡ setsLine a sets
 unfolding setsLine
 sets-refused a sets n p e = rw e
+
+pub working-taken : (a : Answer) (set : ℕ) → a ≡ Taken → lineOf (letters "working") (set ∷ []) ≡ workingLine a set
+unfolding workingLine
+working-taken a set e = rw e
+
+pub working-refused : (a : Answer) (set n p : ℕ) → a ≡ Refused n p → lineOf (letters "refused") (n ∷ p ∷ []) ≡ workingLine a set
+unfolding workingLine
+working-refused a set n p e = rw e
 
 -- OPERATIONS
 
@@ -105,6 +114,17 @@ run-sets o r e q = rw q
 
 pub last-sets : (o : Operation) (e : ℕ) → o ≡ Sets e → false ≡ isLast o
 last-sets o e q = rw q
+
+pub reply-working : (o : Operation) (r : Run) (e : ℕ) → o ≡ Working e → workingLine (workingOf r e .answer) (workingOf r e .set) ≡ reply o r
+unfolding reply
+reply-working o r e q = rw q
+
+pub run-working : (o : Operation) (r : Run) (e : ℕ) → o ≡ Working e → r ≡ runAfter o r
+unfolding runAfter
+run-working o r e q = rw q
+
+pub last-working : (o : Operation) (e : ℕ) → o ≡ Working e → false ≡ isLast o
+last-working o e q = rw q
 
 pub reply-none : (o : Operation) (r : Run) → o ≡ Nothing → wordLine (letters "not an operation") ≡ reply o r
 unfolding reply
