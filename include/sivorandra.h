@@ -14,9 +14,9 @@
      release, an end or a deadline), or tick by tick where the periods are short: 10 to 100 ns each on x86-64, by the number of tasks that
      change. There are at most as many events as ticks up to the horizon or the first miss. A horizon of 10,000,000 takes a second at most; the
      largest, 1,000,000,000, milliseconds where the periods are long, and two minutes where all 32 tasks change in every tick. No call can be
-     stopped from outside: where that is too long, judge in a process of its own. judge_ticks simulates every tick; start takes as long as judge,
-     sentence about three times as long; plan judges up to b, and simulates every tick up to b; replay takes a start, and an advance or a withdrawal
-     for each entry; facts reads its bytes once; conflict judges the table and sub-tables of it, 529 times at most;
+     stopped from outside: where that is too long, judge in a process of its own. judge_ticks simulates every tick; start takes as long as judge;
+     sentence judges, and where there is a miss simulates every tick up to it; response_times always simulates, event by event, up to the horizon or
+     the first miss; plan judges up to b, and simulates every tick up to b; replay takes a start, and an advance or a withdrawal for each entry; facts reads its bytes once; conflict judges the table and sub-tables of it, 529 times at most;
      slack judges the table, and at most 20 times for each task the table with it longer; check_begin judges nothing.
 
    A run in words, and a plan in words, belong to the version that wrote them: the words may change with the version. Keep SIVORANDRA_VERSION beside
@@ -252,8 +252,7 @@ uint32_t sivorandra_facts(const uint8_t *bytes, size_t bytes_len,
    task's figure, and some full-length job takes exactly that; in a run of a firm table no job takes longer, however early jobs end. In a table
    that is full and not firm a job can take longer where others end early. Words past the last task are 0, and so are all 32 where it is
    refused; words behind them stay.
-   It always simulates, event by event: at most twice the time that sivorandra_judge takes where that simulates. sivorandra_bounds gives bounds
-   without simulation. It takes 6,600 bytes of the stack. */
+   It always simulates, event by event. sivorandra_bounds gives bounds without simulation. It takes 6,600 bytes of the stack. */
 uint32_t sivorandra_response_times(const uint32_t *words, size_t words_len,
                             uint32_t *figures, size_t figures_len,
                             uint32_t *answer, size_t answer_len);

@@ -75,11 +75,11 @@ module _ (t : Loaded) (fit : Fit t) (s : EventState) (h : StateRepresents t s) w
           none-left (task book q) (s .tick) (full book (s .tick) .job q) (getD (s .machine .left) q 0) (getD (s .machine .event) q 0)
           (getD (s .machine .next) q 0) (bit (s .machine .claiming) q) (h .machines .places q l) c
 
-  -- the first that is found with ticks left is the first miss
-  pub walk-misses :
-      (rest : ℕ) → RemainingDue (s .machine) (s .due) rest → 0 < rest → 0 < getD (s .machine .left) (lowest rest) 0
-      → FirstMiss book (s .tick) (lowest rest + 1)
-  walk-misses rest k some owed = record {
+  -- a place that is due with ticks left, where none before it is, is the first miss
+  pub late-first :
+      (p : ℕ) → bit (s .due) p ≡ true → 0 < getD (s .machine .left) p 0
+      → ((q : ℕ) → q < p → bit (s .due) q ≡ true → ¬ (0 < getD (s .machine .left) q 0)) → FirstMiss book (s .tick) (p + 1)
+  late-first p on owed higher = record {
     place = (p, add-one p);
     missed =
         let x = late-has (task book p) (s .tick) (full book (s .tick) .job p) (getD (s .machine .left) p 0) (getD (s .machine .event) p 0)
@@ -87,19 +87,19 @@ module _ (t : Loaded) (fit : Fit t) (s : EventState) (h : StateRepresents t s) w
         (eqb-true (getD (s .machine .event) p 0) (s .tick) (sym (due-exact t fit s h p inside) ∙ on)) owed in
         missed-at book p (s .tick) (x .0) inside (x .1) (x .2);
     no-earlier = h .met;
-    no-higher = λ q l x.
-        let y = missed-due t fit s h q x in
-        absurd (omega (arith, y .1, k .seen q (y .0) (at-lowest (s .machine) (s .due) rest k some .below-none q l)));
+    no-higher = λ q l x. let y = missed-due t fit s h q x in higher q l (y .0) (y .1);
   }
     where
-      p : ℕ
-      p = lowest rest
-
-      on : bit (s .due) p ≡ true
-      on = k .within p (at-lowest (s .machine) (s .due) rest k some .here)
-
       inside : p < length (book .tasks)
       inside = due-inside t fit s h p on
+
+  -- the first that the walk finds with ticks left
+  pub walk-misses :
+      (rest : ℕ) → RemainingDue (s .machine) (s .due) rest → 0 < rest → 0 < getD (s .machine .left) (lowest rest) 0
+      → FirstMiss book (s .tick) (lowest rest + 1)
+  walk-misses rest k some owed =
+      late-first (lowest rest) (k .within (lowest rest) (at-lowest (s .machine) (s .due) rest k some .here)) owed
+      (λ q l on x. omega (arith, k .seen q on (at-lowest (s .machine) (s .due) rest k some .below-none q l)))
 
   -- none of them has ticks left
   pub walk-ends : (rest : ℕ) → RemainingDue (s .machine) (s .due) rest → rest ≤ 0 → (q : ℕ) → ¬ Missed book q (s .tick)

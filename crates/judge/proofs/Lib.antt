@@ -5,6 +5,7 @@ pub mod Widths
 pub mod LateByTicks
 pub mod LateByEvents
 pub mod FirstMiss
+pub mod ByJumps
 pub mod Contract
 pub mod OffChain
 pub mod Fence

@@ -1,7 +1,7 @@
 // The full-length run of a table that passed, from event to event, up to its first missed deadline.
 ghost use Prim.Native.Nat.{_+_, _≤_};
-ghost use Rattle.table.specs.Fit.{loadedTable, Fit};
-ghost use Rattle.judge.specs.FirstMiss.{MissedOf};
+ghost use Rattle.table.specs.Fit.{Fit};
+ghost use Rattle.judge.specs.FirstMiss.{MissedByJumps};
 ghost use Rattle.judge.specs.Judged.{Judged};
 use crate::Missed;
 use crate::Verdict;
@@ -11,7 +11,7 @@ use table::Loaded;
 // The first deadline that the full-length run misses before tick `end`, at equal ticks the first in priority.
 pub fn first_miss(table: Loaded, end: u32) -> Missed
     requires { ⌜ Fit table × (end ≤ table .horizon + 1) ⌝ }
-    ensures { λ r. ⌜ MissedOf (loadedTable table) end r ⌝ }
+    ensures { λ r. ⌜ MissedByJumps table end r ⌝ }
 {
     let columns = simulation::columns::columns_of(table);
     let setting = columns.setting;

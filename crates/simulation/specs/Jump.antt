@@ -126,17 +126,20 @@ unfoldable pub jumps : Loaded → ℕ → EventState
 jumps t zero = initialEventState t
 jumps t (suc n) = jumped (loadedNumbers t) (jumps t n)
 
--- no deadline is missed at the tick of any of the first n states
-abbrev pub Unmissed : Loaded → ℕ → Type 0
-Unmissed t n = (i p : ℕ) → i < n → ¬ Missed (loadedTable t) p (jumps t i .tick)
+-- no deadline of table s is missed at the tick of any of the first n states
+abbrev pub Unmissed : Table → Loaded → ℕ → Type 0
+Unmissed s t n = (i p : ℕ) → i < n → ¬ Missed s p (jumps t i .tick)
 
--- the ticks reached by repeating the jump: 0 and all events, in order, none skipped, up to the first miss
-pub record AreEvents (t : Loaded) : Type 0 where
+-- the jumps of the loaded table t over the events of table s: the ticks reached by repeating the jump are 0 and all events, in order, none skipped, up to the
+-- first miss, and between two of them the cores and the row stay the same (`jumps-over-events`: of the words of every table that passes)
+pub record AreEvents (s : Table) (t : Loaded) : Type 0 where
   -- the first is 0
   pub begins : jumps t 0 .tick ≡ 0
   -- each other is the least event after the one before
-  pub next : (n : ℕ) → Unmissed t (suc n) → NextEvent (loadedTable t) (jumps t n .tick) (jumps t (suc n) .tick)
+  pub next : (n : ℕ) → Unmissed s t (suc n) → NextEvent s (jumps t n .tick) (jumps t (suc n) .tick)
+  -- at every tick up to it each task has the cores that it had, and the row's bytes are the same
+  pub same : (n : ℕ) → Unmissed s t (suc n) → (w : ℕ) → jumps t n .tick ≤ w → w < jumps t (suc n) .tick → SameAllocation s (jumps t n .tick) w
   -- they rise
-  pub rise : (i n : ℕ) → i < n → Unmissed t n → jumps t i .tick < jumps t n .tick
+  pub rise : (i n : ℕ) → i < n → Unmissed s t n → jumps t i .tick < jumps t n .tick
   -- and every event after 0 up to which no deadline is missed is one of them
-  pub all : (u : ℕ) → 0 < u → Event (loadedTable t) u → MetBefore (loadedTable t) u → (n : ℕ) × Unmissed t n × (jumps t n .tick ≡ u)
+  pub all : (u : ℕ) → 0 < u → Event s u → MetBefore s u → (n : ℕ) × Unmissed s t n × (jumps t n .tick ≡ u)

@@ -16,6 +16,7 @@ use Rattle.simulation.specs.Places.{segment}
 use Rattle.simulation.specs.TickState.{Numbers, numbersBy, loadedNumbers}
 use Rattle.simulation.proofs.Parts.{front-at}
 use Rattle.table.specs.Fit.{loadedTable, Fit}
+use Rattle.judge.proofs.ByJumps.{as-jumps}
 use Rattle.judge.proofs.FirstMiss.{by-none, by-first}
 use Rattle.simulation.specs.declared.events.Registers.{Registers}
 use Rattle.simulation.specs.EventState.{EventState, eventStateOf, initialEventState, StateRepresents}
@@ -34,7 +35,7 @@ record Run (t : Loaded) (x : Setting) (widths times : List ℕ) (p : Registers) 
 
 -- the run after a number of jumps, at none of whose ticks a deadline was missed
 abbrev Jumped : Loaded → EventState → Type 0
-Jumped t s = (n : ℕ) × Unmissed t n × (s ≡ jumps t n)
+Jumped t s = (n : ℕ) × Unmissed (loadedTable t) t n × (s ≡ jumps t n)
 
 abbrev Inv-loop : tie.InvT-loop
 Inv-loop end setting widths times registers places rest₀ rest = RemainingDue (machineOf places (registers .claiming)) (registers .due) rest
@@ -205,7 +206,7 @@ returns c =
     let k = c .before .before in
     let t = table-of (k .before) in
     let b = own (k .before) in
-    by-none (loadedTable t) (b .fit .valid) _ (λ q u h. stands k t b .met q u (omega (arith, c .if1 .taken)))
+    as-jumps t (b .fit) _ _ (by-none (loadedTable t) (b .fit .valid) _ (λ q u h. stands k t b .met q u (omega (arith, c .if1 .taken))))
 
 returns-2 : tie.Need-returns-2 Inv-loop μ-loop Inv-jumps μ-jumps
 returns-2 c =
@@ -214,9 +215,10 @@ returns-2 c =
     let k = e .before .before in
     let t = table-of (k .before) in
     let b = own (k .before) in
-    by-first (loadedTable t) (b .fit .valid) _ (k .jumps .registers .tick) (lowest (n .before .loop .rest) + 1) (e .if1 .left)
+    as-jumps t (b .fit) _ _
+    (by-first (loadedTable t) (b .fit .valid) _ (k .jumps .registers .tick) (lowest (n .before .loop .rest) + 1) (e .if1 .left)
     (walk-misses t (b .fit) (state-of k) (stands k t b) (n .before .loop .rest) (n .before .loop .inv) (n .loop-test .taken)
-    (omega (arith, left-at n (k .jumps .places), c .if2 .taken)))
+    (omega (arith, left-at n (k .jumps .places), c .if2 .taken))))
 
 pub first-miss-spec : {M : Type 1} → statement M
 first-miss-spec =

@@ -27,7 +27,7 @@ first-miss-requires-2 : tie.Need-first-miss-requires-2
 first-miss-requires-2 c κs = search needs
 
 returns-3 : tie.Need-returns-3
-returns-3 c = search needs
+returns-3 c = c .first-miss2 .ensures .exact
 
 pub first-miss-spec : {M : Type 1} → statement M
 first-miss-spec =
