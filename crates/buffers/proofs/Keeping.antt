@@ -16,6 +16,9 @@ use Rattle.run.specs.Run.{moved, withdrawnIn}
 use Rattle.run.specs.Answer.{byAnswer}
 use Rattle.run.specs.Row.{noBytes, rowOf}
 use Rattle.run.specs.Sets.{noSets, setsOf}
+use Rattle.run.specs.declared.WorkingPositions.{WorkingPositions}
+use Rattle.run.specs.Working.{workingOf}
+use Rattle.buffers.specs.Runs.{workingFrom}
 use Rattle.run.specs.Numbers.{unknownIn, pastCount}
 use Rattle.run.specs.Advance.{advanceAnswer, advanceOf}
 use Rattle.run.specs.Withdraw.{withdrawAnswer, withdrawOf, withdrawAllOf}
@@ -63,6 +66,13 @@ module _ (ws : List ℕ) where
 
   pub sets-none : (e : ℕ) → holdsRun ws ≡ false → _≡_ {A = Sets} (record { answer = Refused 14 0; sets = noSets }) (setsFrom (decode ws) e)
   sets-none e h = ap (λ (v : BufferRun). setsFrom v e) (sym (by-held ws h))
+
+  pub working-held :
+      (e : ℕ) {w : WorkingPositions} {r : Run} → holdsRun ws ≡ true → r ≡ runIn ws → w ≡ workingOf r e → w ≡ workingFrom (decode ws) e
+  working-held e h q p = p ∙ (ap (λ (r : Run). workingOf r e) q ∙ ap (λ (v : BufferRun). workingFrom v e) (sym (by-held ws h)))
+
+  pub working-none : (e : ℕ) → holdsRun ws ≡ false → _≡_ {A = WorkingPositions} (record { answer = Refused 14 0; set = 0 }) (workingFrom (decode ws) e)
+  working-none e h = ap (λ (v : BufferRun). workingFrom v e) (sym (by-held ws h))
 
   module _ (x : Entry) where
     -- the run that an entry returns has the buffer's count of places

@@ -18,6 +18,7 @@ use Rattle.run.specs.Numbers.{RunOut, runOut, unknownIn, pastCount, firstLateIn
 use Rattle.run.specs.Run.{firmIn}
 use Rattle.run.specs.Row.{rowAnswer, rowOf}
 use Rattle.run.specs.Sets.{setsOf}
+use Rattle.run.specs.Working.{workingOf}
 use Rattle.run.specs.Advance.{advanceAnswer, advanceOf}
 use Rattle.run.specs.Withdraw.{withdrawAnswer, withdrawOf, withdrawAllOf}
 use Rattle.run.proofs.Limits.{run-decides}
@@ -25,6 +26,7 @@ use Rattle.buffers.specs.Encoding.{headWords, eachWords, parityAt, kindA
 use Rattle.buffers.specs.Encoding.{arePlaces, countIn, holdsRun, runIn, BufferRun, run, none, decode}
 use Rattle.buffers.specs.Runs.{rowFrom, setsFrom, entryFrom}
 use Rattle.model.specs.Advance.{advance, withdraw, withdrawAll}
+use Rattle.buffers.specs.Runs.{workingFrom}
 use Rattle.buffers.specs.RunRefused.{NoPhase, NoTaskState, NoRun, short, many, no-place, BufferRunOut}
 use Rattle.buffers.proofs.Places.{place-at, by-held, held-short, held-many, held-by}
 
@@ -235,6 +237,11 @@ module _ (ws : List ℕ) where
   pub sets-14 : (e : ℕ) → (setsFrom (decode ws) e .answer ≡ Refused 14 0) ↔ BufferRunOut ws
   unfolding setsOf
   sets-14 e = by-buffer (λ h. setsFrom h e .answer) refl (row-out (runIn ws) e) (row-out-back (runIn ws) e)
+
+  -- and so is who works
+  pub working-14 : (e : ℕ) → (workingFrom (decode ws) e .answer ≡ Refused 14 0) ↔ BufferRunOut ws
+  unfolding workingOf
+  working-14 e = by-buffer (λ h. workingFrom h e .answer) refl (row-out (runIn ws) e) (row-out-back (runIn ws) e)
 
   -- and an advance
   pub advance-14 : (x e : ℕ) → (entryFrom (decode ws) (advance x e) ws .answer ≡ Refused 14 0) ↔ BufferRunOut ws

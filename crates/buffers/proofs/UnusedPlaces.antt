@@ -17,6 +17,7 @@ use Rattle.run.proofs.UnusedPlaces.{past-unread}
 use Rattle.phase.specs.Task.{unused}
 use Rattle.buffers.specs.Encoding.{headWords, eachWords, places, wordsTo, placesWords, encodeTo, overwritten, placesIn, arePlaces, countIn, holdsRun, padded, runIn, BufferRun, run, none, decode, cleared}
 use Rattle.buffers.specs.Runs.{rowFrom, setsFrom, entryFrom}
+use Rattle.buffers.specs.Runs.{workingFrom}
 use Rattle.buffers.specs.UnusedPlaces.{usedIn, SameUsed, WordsUnread}
 use Rattle.table.specs.Words.{fenceOf}
 use Rattle.buffers.proofs.Places.{length-words, length-read, held-by, by-held, held-few, held-places}
@@ -181,6 +182,7 @@ words-unread ws vs s x = record {
   held = same-held ws vs s;
   row = λ e. ap (λ (h : BufferRun). rowFrom h e) (same-held ws vs s);
   sets = λ e. ap (λ (h : BufferRun). setsFrom h e) (same-held ws vs s);
+  working = λ e. ap (λ (h : BufferRun). workingFrom h e) (same-held ws vs s);
   answer = answered (decode ws) ∙ ap (λ (h : BufferRun). entryFrom h x vs .answer) (same-held ws vs s);
   used = go (decode ws) refl ∙ ap (λ (h : BufferRun). take (usedIn ws) (entryFrom h x vs .buffer)) (same-held ws vs s);
 }

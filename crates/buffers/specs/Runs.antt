@@ -1,4 +1,4 @@
--- Row, sets and entries on the run that a buffer holds.
+-- Row, sets, the positions that work and entries on the run that a buffer holds.
 use mathlib.Core.List.{List}
 use Prim.Native.Nat.{ℕ}
 use Rattle.run.specs.declared.Answer.{Answer}
@@ -6,10 +6,12 @@ use Rattle.run.specs.declared.Answer.the-variants.{Refused}
 use Rattle.run.specs.declared.Row.{Row}
 use Rattle.run.specs.declared.Run.{Run}
 use Rattle.run.specs.declared.Sets.{Sets}
+use Rattle.run.specs.declared.WorkingPositions.{WorkingPositions}
 use Rattle.run.specs.Answer.{byAnswer}
 use Rattle.run.specs.Start.{startOf}
 use Rattle.run.specs.Row.{noBytes, rowOf}
 use Rattle.run.specs.Sets.{noSets, setsOf}
+use Rattle.run.specs.Working.{workingOf}
 use Rattle.model.specs.Advance.{Entry, advance, withdraw, withdrawAll}
 use Rattle.refinement.specs.Entries.{entryOf}
 use Rattle.buffers.specs.Encoding.{places, overwritten, BufferRun, run, none}
@@ -27,6 +29,11 @@ rowFrom none e = record { answer = Refused 14 0; bytes = noBytes }
 abbrev pub setsFrom : BufferRun → ℕ → Sets
 setsFrom (run r) e = setsOf r e
 setsFrom none e = record { answer = Refused 14 0; sets = noSets }
+
+-- the positions that work in the run that a buffer holds with the empty jobs e; 14 where it holds none
+abbrev pub workingFrom : BufferRun → ℕ → WorkingPositions
+workingFrom (run r) e = workingOf r e
+workingFrom none e = record { answer = Refused 14 0; set = 0 }
 
 -- an entry's answer, and the buffer afterwards
 pub record Entered : Type 0 where

@@ -6,7 +6,7 @@ ghost use Prim.Native.Nat.{_+_, _≤_};
 ghost use lib.ListN.{length, drop};
 ghost use Rattle.buffers.specs.Encoding.{headWords, eachWords, places, runWords, ofPhase, parityWord, placeWith, countWord, lowWord, highWord};
 ghost use Rattle.buffers.specs.Encoding.{overwritten, phaseOf, isTaskState, placeIn, countIn, holdsRun, runIn, decode};
-ghost use Rattle.buffers.specs.Runs.{rowFrom, setsFrom, keptRun, entryFrom};
+ghost use Rattle.buffers.specs.Runs.{rowFrom, setsFrom, workingFrom, keptRun, entryFrom};
 ghost use Rattle.refinement.specs.Listing.{entryBy};
 use model::MOST_TASKS;
 use model::ROW;
@@ -17,6 +17,7 @@ use run::Answer;
 use run::Row;
 use run::Run;
 use run::Sets;
+use run::WorkingPositions;
 use table::limits::HIGH;
 
 // The words in front of the places: rule, cores, count, the fence in two, and the withdrawn set.
@@ -281,6 +282,20 @@ pub fn sets_of(words: &[u32], empties: u32) -> Sets
     Sets {
         answer: Answer::Refused(14, 0),
         sets: sets,
+    }
+}
+
+// The positions that work in the run that the buffer holds with these empty jobs; 14 where it holds none.
+pub fn working_of(words: &[u32], empties: u32) -> WorkingPositions
+    ensures { λ r. ⌜ r ≡ workingFrom (decode (now (words .entry))) empties ⌝ }
+{
+    if holds(words) {
+        let held = run_in(words);
+        return held.working(empties);
+    }
+    WorkingPositions {
+        answer: Answer::Refused(14, 0),
+        set: 0,
     }
 }
 

@@ -4,6 +4,7 @@ mod Replaying
 pub mod Calling
 pub mod RunExamples
 pub mod SetsExamples
+pub mod WorkingExamples
 pub mod WithdrawSetExamples
 pub mod LendExamples
 pub mod SentenceExamples

@@ -1,4 +1,4 @@
--- The results of start, row, sets, advance and the withdrawals, where the run is held in a lent buffer of words.
+-- The results of start, row, sets, working, advance and the withdrawals, where the run is held in a lent buffer of words.
 use mathlib.Core.List.{List, [], _∷_, _++_}
 use Prim.Native.Nat.{ℕ}
 use lib.ListN.{length, drop}
@@ -8,7 +8,7 @@ use Rattle.capi.specs.Calls.{CallResult, byRoom}
 use Rattle.buffers.specs.Encoding.{runWords, decode}
 use Rattle.model.specs.Advance.{Entry, advance, withdraw, withdrawAll}
 use Rattle.model.specs.Sizes.{mostCores, mostTasks}
-use Rattle.buffers.specs.Runs.{startedIn, rowFrom, setsFrom, entryFrom}
+use Rattle.buffers.specs.Runs.{startedIn, rowFrom, setsFrom, workingFrom, entryFrom}
 
 -- start: the run, and the answer
 unfoldable pub startCall : List ℕ → List ℕ → List ℕ → CallResult
@@ -32,6 +32,14 @@ setsCall buffer e sets answer =
     byRoom (slicesFit (length sets) mostTasks answer)
     ((w .sets ++ drop mostTasks sets) ∷ (answerWritten (ofAnswer (w .answer)) answer ∷ []))
     (sets ∷ (answer ∷ []))
+
+-- working: the set in the first word, 0 in a refusal
+unfoldable pub workingCall : List ℕ → ℕ → List ℕ → List ℕ → CallResult
+workingCall buffer e set answer =
+    let w = workingFrom (decode buffer) e in
+    byRoom (slicesFit (length set) 1 answer)
+    ((w .set ∷ drop 1 set) ∷ (answerWritten (ofAnswer (w .answer)) answer ∷ []))
+    (set ∷ (answer ∷ []))
 
 -- an entry on the run that the buffer holds, and the answer
 unfoldable pub entryCall : Entry → List ℕ → List ℕ → CallResult

@@ -2,7 +2,7 @@
 ghost use mathlib.Core.Path.{_≡_};
 ghost use mathlib.Core.List.{[], _∷_};
 ghost use Rattle.capi.specs.Replays.{replayCall};
-ghost use Rattle.capi.specs.Runs.{startCall, rowCall, setsCall, advanceCall, withdrawCall, withdrawAllCall};
+ghost use Rattle.capi.specs.Runs.{startCall, rowCall, setsCall, workingCall, advanceCall, withdrawCall, withdrawAllCall};
 use buffers::answer_words;
 use buffers::figures;
 use buffers::run_buffer;
@@ -66,6 +66,28 @@ pub extern "C" fn sivorandra_sets(
         let found = shown.sets;
         figures::put_long_figures(found, sets);
         let given = shown.answer;
+        let encoded = answer_words::of_answer(given);
+        answer_words::put(encoded, answer);
+        return 0;
+    }
+    1
+}
+
+// The set of the positions whose job has cores in the present tick and works into the first word of `set`, bit 0 for position 1, with `empties` as for
+// row: those for which a report bit is admitted. Case 0, or 3 Refused number position and 0; 14 where `run` holds no run.
+#[no_mangle]
+pub extern "C" fn sivorandra_working(
+    run: &[u32],
+    empties: u32,
+    set: &mut [u32],
+    answer: &mut [u32],
+) -> u32
+    ensures { λ r. ⌜ record { value = r; lent = now (set .exit) ∷ (now (answer .exit) ∷ []) } ≡ workingCall (now (run .entry)) empties (now (set .entry)) (now (answer .entry)) ⌝ }
+{
+    if answer_words::fit(set.len(), 1, answer) {
+        let asked = run_buffer::working_of(run, empties);
+        set[0] = asked.set;
+        let given = asked.answer;
         let encoded = answer_words::of_answer(given);
         answer_words::put(encoded, answer);
         return 0;

@@ -1,0 +1,79 @@
+//! The functions of Rust for tests/outside/layers, printed as plain.c prints the plain calls.
+use sivorandra::{bounds, conflict, judge, response_times, sentence, Refusal, Run, Verdict, RUN_WORDS};
+use std::fmt::Display;
+use std::io::{stdin, BufRead};
+
+fn refused(refusal: Refusal) -> String {
+    format!("refused {} {}", refusal.number(), refusal.position() + refusal.tick())
+}
+
+fn told<Value>(result: Result<Value, Refusal>, shown: impl FnOnce(Value) -> String) -> String {
+    result.map_or_else(refused, shown)
+}
+
+fn list<Number: Display>(numbers: &[Number]) -> String {
+    numbers.iter().map(|number| format!(" {number}")).collect()
+}
+
+/// The case of a call that writes some numbers, and these; zeros in a refusal.
+fn figures<Number: Display + Default + Copy, const N: usize>(result: Result<[Number; N], Refusal>) -> String {
+    told(result, |_| "done 0 0".into()) + &list(&result.unwrap_or([Number::default(); N]))
+}
+
+fn mix(run: &[u32; RUN_WORDS]) -> String {
+    format!(" run {}", run.iter().fold(2166136261u32, |sum, word| (sum ^ word).wrapping_mul(16777619)))
+}
+
+fn ask(words: &[u32], operations: &str) {
+    let verdict = judge(words);
+    println!("{}", told(verdict, |verdict| verdict.to_string()));
+    println!("{}", told(sentence(words), |text| format!("done {} 0 '{text}'", text.len())) + if matches!(verdict, Ok(Verdict::Miss { .. })) { "" } else { " ''" });
+    println!("{}", figures(response_times(words)));
+    let tested = bounds(words);
+    let passes = matches!(tested, Ok(Some(_)));
+    let case = told(tested, |_| if passes { "done 1 0" } else { "not-passed 0 0" }.into());
+    println!("{case}{}", list(&tested.unwrap_or(None).unwrap_or([0; 32])));
+    let kept = conflict(words);
+    println!("{} {}", told(kept, |kept| format!("done {kept} 0")), kept.unwrap_or(0));
+    let mut run = match Run::start(words) {
+        Ok(run) => run,
+        Err(refusal) => {
+            println!("{}", refused(refusal)); // no run is left here
+            return;
+        }
+    };
+    println!("done 0 0{}", mix(run.words()));
+    let mut parts = operations.split_whitespace();
+    while let Some(letter) = parts.next() {
+        let mut number = || parts.next().expect("a number").parse::<u32>().expect("a number");
+        let first = number();
+        let answer = match letter {
+            "q" => {
+                println!("{}", figures(run.row(first)));
+                println!("{}", figures(run.sets(first)));
+                println!("{} {}", told(run.working(first), |_| "done 0 0".into()), run.working(first).unwrap_or(0));
+                continue;
+            }
+            "a" => run.advance(first, number()),
+            "w" => run.withdraw(first),
+            "W" => run.withdraw_all(first),
+            _ => {
+                let mut words = *run.words();
+                words[first as usize % RUN_WORDS] ^= 5;
+                run = Run::from_words(words);
+                Ok(())
+            }
+        };
+        println!("{}{}", told(answer, |()| "done 0 0".into()), mix(run.words()));
+    }
+}
+
+fn main() {
+    for line in stdin().lock().lines() {
+        let line = line.expect("a line");
+        let (table, operations) = line.split_once('|').expect("a bar");
+        let words: Vec<u32> = table.split_whitespace().map(|word| word.parse().expect("a word")).collect();
+        ask(&words, operations);
+        println!(".");
+    }
+}
