@@ -507,55 +507,55 @@ static inline const char *sivorandra_number_text(uint32_t number)
     case 8:
         return "O, C, T or D of position p is outside its limits";
     case 9:
-        return "the horizon is above 1,000,000,000";
+        return "the horizon is above 1,000,000,000; check_row: that of the tasks in its state "
+               "is";
     case 10:
-        return "plan: a is above b, or b is above the horizon; a supplier's row: it is past the "
+        return "plan: a is above b, or b is above the horizon; check_row: the row is past the "
                "horizon";
     case 11:
-        return "plan: the buffer has fewer bytes than (b - a) * cores, fenced ones included; a "
-               "supplier's row: its length is not the core count";
+        return "plan: the buffer has fewer bytes than (b - a) * cores, fenced ones included; "
+               "check_row: the row's length is not the core count";
     case 12:
-        return "plan: b is above the tick of the first miss";
+        return "b is above the tick of the first miss";
     case 13:
-        return "start, response times (--longest): the verdict is Miss";
+        return "the verdict is Miss";
     case 14:
-        return "row, sets, working, advance, withdraw or a supplier's row: the value is no run. "
-               "Count, cores, rule, a task, its parity or its phase is out of range; under rules "
-               "1 to 3 the ticks had and reserved differ; 19 would refuse the fence; or a "
-               "position past the count is withdrawn. For a supplier's row also: a position is "
-               "withdrawn, a task is Holding, or the two counts differ under any rule";
+        return "the value is no run: count, cores, rule, a task, its parity or its phase is "
+               "out of range; under rules 1 to 3 the ticks had and reserved differ; 19 would "
+               "refuse the fence; or a position past the count is withdrawn. For check_row "
+               "also: a position is withdrawn, a task is Holding, or the two counts differ "
+               "under any rule";
     case 15:
-        return "row, sets, working or advance: position p has not ended its job at its deadline";
+        return "position p has not ended its job at its deadline";
     case 16:
-        return "advance: a report for a position past the count, or for a task that is not "
-               "working or has no cores in this tick, neither its own nor lent ones";
+        return "a report for a position past the count, or for a task that is not working or "
+               "has no cores in this tick, neither its own nor lent ones";
     case 17:
-        return "sentence, conflict (--clash): the table has no miss";
+        return "the table has no miss";
     case 18:
-        return "sentence: the buffer is shorter than the sentence";
+        return "the buffer is shorter than the sentence";
     case 19:
         return "the fence contains a core past the count, or all cores";
     case 20:
-        return "row, sets, working or advance: an empty job for a position past the count, or "
-               "for a task whose job is not released in this tick";
+        return "an empty job for a position past the count, or for a task whose job is not "
+               "released in this tick";
     case 21:
-        return "withdraw: the rule is 1 and widths fall somewhere along the chain: the larger "
-               "width of a task is above the smaller one of the next";
+        return "the rule is 1 and widths fall somewhere along the chain: the larger width of "
+               "a task is above the smaller one of the next";
     case 22:
-        return "withdraw: there is no such position. Several together: one of them does not "
-               "exist, and none is withdrawn";
+        return "there is no such position. Several together: one of them does not exist, and "
+               "none is withdrawn";
     case 23:
-        return "slack (--spare): the table is not accepted under rule 2, nor under rule 1 with "
-               "no width of a task above one of the next";
+        return "the table is not accepted under rule 2, nor under rule 1 with no width of a "
+               "task above one of the next";
     case 24:
-        return "a supplier's row is wrong: a fenced core without 255, a byte that is no "
-               "position, a task with another width than its job's, or a task that owes no work "
-               "at that tick";
+        return "the row is wrong: a fenced core without 255, a byte that is no position, a "
+               "task with another width than its job's, or a task that owes no work at that "
+               "tick";
     case 25:
-        return "a supplier's row: a job that is due at that tick has not had all its ticks";
+        return "a job that is due at that tick has not had all its ticks";
     case 26:
-        return "a supplier's last row: a task's phase at the horizon is not the one at the last "
-               "S";
+        return "after the last row: a task's phase at the horizon is not the one at the last S";
     }
     return "no number of this version";
 }
