@@ -6,6 +6,7 @@ pub mod LateByTicks
 pub mod LateByEvents
 pub mod FirstMiss
 pub mod ByJumps
+pub mod OneStep
 pub mod Contract
 pub mod OffChain
 pub mod Fence

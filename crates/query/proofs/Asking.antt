@@ -18,7 +18,7 @@ use Rattle.sentence.specs.declared.SentenceAnswer.the-variants.{Length, Refused
 use Rattle.sentence.specs.Reading.{startsWith}
 use Rattle.sentence.specs.SentenceAnswer.{sentenceMeaning, sentenceAnswerOf, SentenceOf}
 use Rattle.query.specs.declared.Question.{Question}
-use Rattle.query.specs.declared.Question.the-variants.{Why, ResponseTimes, Conflict, Slack, Bounds}
+use Rattle.query.specs.declared.Question.the-variants.{Why, ResponseTimes, Conflict, Slack, Bounds, Verdict}
 use Rattle.query.specs.Query.{answerRoom, whyBy, whyOf, answerTo, wordOf, answerAfterWord, noQuestion, queryOutputOf, questions, queryOutput, enoughInput}
 
 -- THE ANSWER TO `why`
@@ -71,6 +71,7 @@ word-some ResponseTimes = omega arith
 word-some Conflict = omega arith
 word-some Slack = omega arith
 word-some Bounds = omega arith
+word-some Verdict = omega arith
 
 -- WHICH ONE is decided by where the table after its word begins, 0 where its word is not in front
 module _ (q : Question) (bs : List ℕ) (r : ℕ) (e : r ≡ cond (startsWith (wordOf q) bs) (length (wordOf q)) 0) where
@@ -141,6 +142,7 @@ word-most ResponseTimes = (enoughBytes, refl, omega arith)
 word-most Conflict = (2 + enoughBytes, refl, omega arith)
 word-most Slack = (2 + enoughBytes, refl, omega arith)
 word-most Bounds = (1 + enoughBytes, refl, omega arith)
+word-most Verdict = (enoughBytes, refl, omega arith)
 
 of-enough : (qs : List Question) (bs : List ℕ) → queryOutputOf qs (take enoughInput bs) ≡ queryOutputOf qs bs
 unfolding queryOutputOf

@@ -27,7 +27,15 @@ pub(crate) fn times_of(table: Loaded) -> ResponseTimes
         if crate::recording::any_left(registers.claiming & registers.due, &places) {
             return crate::refused(13, 0);
         }
-        registers = simulation::events::jump(setting, &widths, &times, registers, &mut places);
+        let on = judge::by_events::run_on(
+            setting,
+            &widths,
+            &times,
+            registers,
+            &mut places,
+            registers.tick + 1,
+        );
+        registers = on.registers;
         let ended = registers.chosen & (registers.chosen ^ registers.claiming);
         crate::recording::record_ends(ended, registers.tick, &times, &places, &mut responses);
     }

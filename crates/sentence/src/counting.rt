@@ -67,7 +67,15 @@ pub(crate) fn count(table: Loaded, tick: u32, place: usize) -> Facts
     let mut ran = [0u64; MOST_TASKS];
     while registers.tick < tick {
         let before = registers.tick;
-        registers = simulation::ticks::step(setting, &widths, &times, registers, &mut places);
+        let on = judge::by_ticks::run_on(
+            setting,
+            &widths,
+            &times,
+            registers,
+            &mut places,
+            before + 1,
+        );
+        registers = on.registers;
         if release <= before {
             let granted = registers.granted;
             let runs = has(granted, place);
