@@ -2,7 +2,8 @@
 ghost use mathlib.Core.Path.{_≡_};
 ghost use Prim.Native.Nat.{_≤_};
 ghost use lib.ListN.{length};
-ghost use Rattle.buffers.specs.AnswerWords.{ofVerdict, ofPlanned, ofAnswer, ofSentence, ofGiven, ofTaken, fitted, ofReplayed, ofReadBack, metWord, FitsWord, answerSize, slicesFit, answerWritten};
+ghost use Rattle.buffers.specs.AnswerWords.{ofVerdict, ofPlanned, ofAnswer, ofSentence, ofGiven, ofTaken, fitted, ofReplayed, ofReadBack};
+ghost use Rattle.buffers.specs.AnswerWords.{metWord, FitsWord, answerSize, slicesFit, answerWritten};
 use judge::Verdict;
 use plan::Planned;
 use refinement::Replayed;

@@ -317,7 +317,8 @@ fn keep(entered: Advanced, words: &mut [u32]) -> Answer
 
 // An entry, by its three words, on the run that the buffer holds; it leaves the words past its count. 14 where it holds none.
 pub fn enter(words: &mut [u32], kind: u32, first: u32, second: u32) -> Answer
-    ensures { λ r. ⌜ record { answer = r; buffer = now (words .exit) } ≡ entryFrom (decode (now (words .entry))) (entryBy kind first second) (now (words .entry)) ⌝ }
+    ensures { λ r. ⌜ record { answer = r; buffer = now (words .exit) }
+        ≡ entryFrom (decode (now (words .entry))) (entryBy kind first second) (now (words .entry)) ⌝ }
 {
     if holds(words) {
         let held = run_in(words);

@@ -2,7 +2,8 @@
 ghost use mathlib.Core.Path.{_≡_};
 ghost use mathlib.Core.List.{[], _∷_};
 ghost use Rattle.capi.specs.Replays.{replayCall};
-ghost use Rattle.capi.specs.Runs.{startCall, rowCall, setsCall, workingCall, advanceCall, withdrawCall, withdrawAllCall};
+ghost use Rattle.capi.specs.Runs.{startCall, rowCall, setsCall, workingCall, entryCall, advanceCall, withdrawCall, withdrawAllCall};
+ghost use Rattle.refinement.specs.Listing.{entryBy};
 use buffers::answer_words;
 use buffers::figures;
 use buffers::run_buffer;
@@ -95,6 +96,20 @@ pub extern "C" fn sivorandra_working(
     1
 }
 
+// An entry, by its three words, on the run that the buffer holds.
+fn enter(run: &mut [u32], kind: u32, first: u32, second: u32, answer: &mut [u32]) -> u32
+    ensures { λ r. ⌜ record { value = r; lent = now (run .exit) ∷ (now (answer .exit) ∷ []) }
+        ≡ entryCall (entryBy kind first second) (now (run .entry)) (now (answer .entry)) ⌝ }
+{
+    if answer_words::fit(0, 0, answer) {
+        let given = run_buffer::enter(run, kind, first, second);
+        let encoded = answer_words::of_answer(given);
+        answer_words::put(encoded, answer);
+        return 0;
+    }
+    1
+}
+
 // The run one tick on. Bit p of `reports` is set if the job of position p + 1 ends after this tick, and bit p of `empties` if it is released
 // in this tick and empty. Case 0, or 3 Refused number position and `run` as found; 14 where `run` holds no run.
 #[no_mangle]
@@ -106,13 +121,7 @@ pub extern "C" fn sivorandra_advance(
 ) -> u32
     ensures { λ r. ⌜ record { value = r; lent = now (run .exit) ∷ (now (answer .exit) ∷ []) } ≡ advanceCall (now (run .entry)) reports empties (now (answer .entry)) ⌝ }
 {
-    if answer_words::fit(0, 0, answer) {
-        let given = run_buffer::enter(run, 0, reports, empties);
-        let encoded = answer_words::of_answer(given);
-        answer_words::put(encoded, answer);
-        return 0;
-    }
-    1
+    enter(run, 0, reports, empties, answer)
 }
 
 // The run with a position withdrawn: a job of it that was released before this tick goes on, one released in this tick, and all later ones, are empty.
@@ -121,13 +130,7 @@ pub extern "C" fn sivorandra_advance(
 pub extern "C" fn sivorandra_withdraw(run: &mut [u32], position: u32, answer: &mut [u32]) -> u32
     ensures { λ r. ⌜ record { value = r; lent = now (run .exit) ∷ (now (answer .exit) ∷ []) } ≡ withdrawCall (now (run .entry)) position (now (answer .entry)) ⌝ }
 {
-    if answer_words::fit(0, 0, answer) {
-        let given = run_buffer::enter(run, 1, position, 0);
-        let encoded = answer_words::of_answer(given);
-        answer_words::put(encoded, answer);
-        return 0;
-    }
-    1
+    enter(run, 1, position, 0, answer)
 }
 
 // The run with all positions of a set withdrawn, or none; bit p of `set` is for position p + 1. Case 0, or 3 Refused number position and `run` as
@@ -136,13 +139,7 @@ pub extern "C" fn sivorandra_withdraw(run: &mut [u32], position: u32, answer: &m
 pub extern "C" fn sivorandra_withdraw_all(run: &mut [u32], set: u32, answer: &mut [u32]) -> u32
     ensures { λ r. ⌜ record { value = r; lent = now (run .exit) ∷ (now (answer .exit) ∷ []) } ≡ withdrawAllCall (now (run .entry)) set (now (answer .entry)) ⌝ }
 {
-    if answer_words::fit(0, 0, answer) {
-        let given = run_buffer::enter(run, 2, set, 0);
-        let encoded = answer_words::of_answer(given);
-        answer_words::put(encoded, answer);
-        return 0;
-    }
-    1
+    enter(run, 2, set, 0, answer)
 }
 
 // The run of a table's words, taken through all of `entries`, three words each, 0, reports and empties, or 1, position and 0, or 2, set and 0: its

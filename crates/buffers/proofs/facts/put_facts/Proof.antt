@@ -66,8 +66,9 @@ returns c =
     let a = f .before .before .before .before .before .args in
     let len : length (a .facts .ran) ≡ mostTasks = search needs in
     let w = headed (a .facts) (a .words .now) in
-    let n : length w ≡ length (a .words .now) = simp length-set in (
-      put-more w (front (a .facts)) (a .words .now) (a .facts .ran) _ factHead mostTasks (head-put (a .facts) (a .words .now) (omega arith)) refl (omega arith) (f .put-long-figures .ensures),
+    let n : length w ≡ length (a .words .now) = simp length-set in
+    let h = head-put (a .facts) (a .words .now) (omega arith) in (
+      put-more w (front (a .facts)) (a .words .now) (a .facts .ran) _ factHead mostTasks h refl (omega arith) (f .put-long-figures .ensures),
       len,
     )
 

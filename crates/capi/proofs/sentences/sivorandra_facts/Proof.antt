@@ -57,7 +57,8 @@ returns c =
     let t = s .before in
     let a = entry (t .before) .args in
     both
-    (r .put-facts .ensures .0 ∙ ap (λ (v : List ℕ). v ++ drop factWords (a .facts .now)) (found-words (a .bytes .now) (s .facts-of .result) (s .facts-of .ensures) (r .put-facts .ensures .1)))
+    (r .put-facts .ensures .0
+    ∙ ap (λ (v : List ℕ). v ++ drop factWords (a .facts .now)) (found-words (a .bytes .now) (s .facts-of .result) (s .facts-of .ensures) (r .put-facts .ensures .1)))
     (words-of (a .answer .now) (p .put .ensures) (o .of-parsed .ensures ∙ found-case (a .bytes .now) (s .facts-of .result) (s .facts-of .ensures)))
     ∙ answered _ _ (space t)
 

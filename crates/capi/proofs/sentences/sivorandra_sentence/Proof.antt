@@ -5,7 +5,6 @@ use mathlib.Core.Bool.{true}
 use mathlib.Core.List.{List}
 use Prim.Native.Nat.{ℕ, _≤_}
 use native.Mathlib.Omega.{arith}
-use lib.ListN.{length}
 use borrow.Author.Needs.{needs}
 use Rattle.text.specs.Decimal.{digitCount, digitsWithin}
 use Rattle.sentence.specs.declared.SentenceAnswer.{SentenceAnswer}
@@ -61,7 +60,8 @@ returns c =
     let t = r .before .before in
     let a = entry (t .before) .args in
     both
-    (r .sentence .ensures .buffer ∙ ap (λ (v : SentenceAnswer). leftIn (sentenceMeaning v) (factsOf (a .words .now)) (a .buffer .now)) (r .sentence .ensures .value))
+    (r .sentence .ensures .buffer
+    ∙ ap (λ (v : SentenceAnswer). leftIn (sentenceMeaning v) (factsOf (a .words .now)) (a .buffer .now)) (r .sentence .ensures .value))
     (words-of (a .answer .now) (p .put .ensures) (o .of-sentence .ensures ∙ ap ofSentence (r .sentence .ensures .value)))
     ∙ answered _ _ (space t)
 

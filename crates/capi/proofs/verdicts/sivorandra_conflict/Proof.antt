@@ -2,7 +2,6 @@
 -- Assumes nothing.
 use mathlib.Core.Path.{_≡_, sym, ap, _∙_}
 use mathlib.Core.Bool.{true}
-use lib.ListN.{length}
 use borrow.Author.Needs.{needs}
 use Rattle.conflict.specs.declared.ConflictAnswer.{ConflictAnswer}
 use Rattle.buffers.specs.AnswerWords.{slicesFit, ofGiven}
@@ -44,7 +43,8 @@ returns c =
     let r = o .before in
     let t = r .before in
     let a = entry (t .before) .args in
-    one (words-of (a .answer .now) (p .put .ensures) (o .of-given .ensures ∙ ap (λ (r : ConflictAnswer). ofGiven (r .answer) (r .kept)) (r .conflict .ensures .value)))
+    one (words-of (a .answer .now) (p .put .ensures) (o .of-given .ensures
+    ∙ ap (λ (v : ConflictAnswer). ofGiven (v .answer) (v .kept)) (r .conflict .ensures .value)))
     ∙ answered _ _ (space t)
 
 same-length-2 : tie.Need-same-length-2

@@ -2,7 +2,6 @@
 -- Assumes nothing.
 use mathlib.Core.Path.{_≡_, sym, ap, _∙_}
 use mathlib.Core.Bool.{true}
-use lib.ListN.{length}
 use borrow.Author.Needs.{needs}
 use Rattle.buffers.specs.AnswerWords.{slicesFit, ofVerdict}
 use Rattle.capi.specs.Calls.{judgeCall}

@@ -1,15 +1,14 @@
--- `capi::runs::sivorandra_advance` meets its contract: buffer and answer are those of the advance, and its three words are written where there is space.
+-- `capi::runs::enter` meets its contract: buffer and answer are those of the entry, and its three words are written where there is space.
 -- Assumes nothing.
 use mathlib.Core.Path.{_≡_, sym, ap, _∙_}
 use mathlib.Core.Bool.{true}
-use lib.ListN.{length}
 use borrow.Author.Needs.{needs}
 use Rattle.buffers.specs.AnswerWords.{slicesFit, ofAnswer}
 use Rattle.buffers.specs.Runs.{Entered}
 use Rattle.capi.specs.Runs.{entryCall}
 use Rattle.capi.proofs.Calls.{both, words-of, answered, as-found, for-answer}
-use Rattle.capi.proofs.runs.sivorandra_advance.Statement.{statement}
-use Rattle.capi.proofs.runs.sivorandra_advance.Tie as tie
+use Rattle.capi.proofs.runs.enter.Statement.{statement}
+use Rattle.capi.proofs.runs.enter.Tie as tie
 
 -- the state at the call
 abbrev entry : tie.After-fit → tie.Start
@@ -59,8 +58,8 @@ returns-2 : tie.Need-returns-2
 unfolding entryCall
 returns-2 c = as-found _ _ (sym (c .before .fit .ensures) ∙ c .if1 .left)
 
-pub sivorandra-advance-spec : {M : Type 1} → statement M
-sivorandra-advance-spec =
+pub enter-spec : {M : Type 1} → statement M
+enter-spec =
     tie.close
     (tie.spec
     fit-requires
