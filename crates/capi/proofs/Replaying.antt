@@ -4,9 +4,11 @@ use mathlib.Core.Bool.{Bool, true, false, _&&_}
 use mathlib.Core.List.{List, [], _∷_}
 use Prim.Native.Nat.{ℕ}
 use native.Mathlib.Omega.{arith}
+use lib.ListN.{take}
+use Rattle.model.specs.Sizes.{mostCores}
 use Rattle.refinement.specs.declared.Replayed.{Replayed}
 use Rattle.refinement.specs.declared.Replayed.the-variants.{Shown, RowRefused, Refused, Unfit}
-use Rattle.refinement.specs.Replay.{ReplayOutcome, ReplayOf}
+use Rattle.refinement.specs.Replay.{ReplayOutcome, ReplayOf, replayMeaning}
 use Rattle.buffers.specs.AnswerWords.{answerFits, answerWritten}
 use Rattle.capi.specs.Calls.{callResult, byRoom}
 use Rattle.buffers.specs.AnswerWords.{fitted, ofReplayed}
@@ -37,7 +39,7 @@ module _ (ws es numbers row answer : List ℕ) where
     -- another lent slice does not fit
     pub replay-unfit : fitted (o .answer) ≡ false → callResult 1 (o .numbers ∷ (o .bytes ∷ (answer ∷ []))) ≡ replayCall ws es numbers row answer
     replay-unfit e =
-        let f = r .unfit-found (not-fitted (o .answer) e) in
+        let f = r .unfit-found (ap (λ (v : Replayed). replayMeaning v (take mostCores (o .bytes))) (not-fitted (o .answer) e)) in
         (λ i. callResult 1 (f .0 i ∷ (f .1 i ∷ (answer ∷ []))))
         ∙ sym (by-outcome ∙ short-by (answerFits answer) (fitted (o .answer)) _ _ e)
 

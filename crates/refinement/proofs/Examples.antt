@@ -27,8 +27,7 @@ use Rattle.judge.specs.Judged.{verdictOf}
 use Rattle.run.specs.Answer.{answerMeaning, askedIn64}
 use Rattle.run.specs.Start.{startAnswer, startOf}
 use Rattle.run.proofs.StartExact.{start-exact, start-taken}
-use Rattle.refinement.specs.declared.Replayed.the-variants as replayed
-use Rattle.refinement.specs.Replay.{code, SlicesFit, ReplayOutcome, rowOutcome, MatchesBook, ReplayOf}
+use Rattle.refinement.specs.Replay.{code, SlicesFit, ReplayOutcome, lastRow, startRefused, outcomeMeaning, MatchesBook, ReplayOf}
 use Rattle.refinement.proofs.Listed.{listing, entries-listing}
 
 -- THE WORDS OF A LINE
@@ -61,13 +60,13 @@ Shows l =
     (k : ℕ) → k ≤ length (l .entries) → (numbers bytes : List ℕ) (o : ReplayOutcome)
     → ReplayOf (wordsOf l) (listing (take k (l .entries))) numbers bytes o → SlicesFit (listing (take k (l .entries))) numbers bytes
     → (o .numbers ≡ map code (take k (l .answers)) ++ drop k numbers)
-    × (emptiesOf (getD (l .entries) k noReports) ≡ 0 → rowOutcome (o .answer) (take 64 (o .bytes)) ≡ askedIn64 (getD (l .rows) k (shown [])))
+    × (emptiesOf (getD (l .entries) k noReports) ≡ 0 → outcomeMeaning o ≡ lastRow (askedIn64 (getD (l .rows) k (shown []))))
 
 -- a replay of any words is refused by 13, and everything is as found
 abbrev pub Misses : Line → Type 0
 Misses l =
     (es numbers bytes : List ℕ) (o : ReplayOutcome) → ReplayOf (wordsOf l) es numbers bytes o
-    → (o .answer ≡ replayed.Refused 13 0) × ((o .numbers ≡ numbers) × (o .bytes ≡ bytes))
+    → (outcomeMeaning o ≡ startRefused 13 0) × ((o .numbers ≡ numbers) × (o .bytes ≡ bytes))
 
 -- the one where the line's verdict is Firm or Full, the other where it is Miss
 abbrev pub ByVerdict : Verdict → Line → Type 0
@@ -104,7 +103,7 @@ module _ (l : Line) (works : worked l ≡ l) (table : tableOf (wordsOf l) ≡ l 
   shows start k h numbers bytes o r fit = (
     b .each-answer ∙ (ap (λ (al : List Answer). map code al ++ drop (length xs) numbers) said
         ∙ ap (λ (n : ℕ). map code (take k (l .answers)) ++ drop n numbers) (length-take-le k (l .entries) h)),
-    λ q. b .row-after ∙ ap askedIn64 (row q),
+    λ q. b .row-after ∙ ap (λ (a : Asked). lastRow (askedIn64 a)) (row q),
   )
     where
       xs : List Entry
