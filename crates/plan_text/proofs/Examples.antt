@@ -64,9 +64,6 @@ some-lines =
     ∷ reads "0\t1" noRow
     ∷ []
 
-abbrev reading : Line → Line
-reading l = reads (l .text) (rowIn (letters (l .text)))
-
 pub lines-read : map (λ l. reads (l .text) (rowIn (letters (l .text)))) some-lines ≡ some-lines
 unfolding rowOfWords cellsOf isByte wordsIn isNumber all value
 lines-read = refl

@@ -61,12 +61,6 @@ prints =
     ∷ []
 
 -- what is printed for a text, and what is to be
-abbrev printing : Print → List ℕ
-printing p = output (letters (p .text))
-
-abbrev whole : Print → List ℕ
-whole p = letters (p .first) ++ letters (p .lines)
-
 pub texts : map (λ p. output (letters (p .text))) prints ≡ map (λ p. letters (p .first) ++ letters (p .lines)) prints
 unfolding output wordsOf lines isNumber all value printed firstLine rowLine rowLines lineOf fields decimal lastDigits digitCount digitsWithin answerOf byWalk
     byTasks byHorizon firstOut endingOf lastStep headerNumber tableOf chain count visited computing
@@ -75,9 +69,6 @@ texts = refl
 -- the lines that the run of a table gives from tick 0 on, beginning with the text of no claimants
 abbrev pub stepped : Loaded → ℕ → List ℕ
 stepped t k = linesIn (loadedNumbers t) k (initialTickState t) (rowTextOf (loadedNumbers t) 0 (initialTickState t .even))
-
-abbrev stepping : Print → List ℕ
-stepping p = stepped (loadOf (p .words)) (p .rows)
 
 abbrev rows : Print → List ℕ
 rows p = letters (p .lines)

@@ -48,8 +48,8 @@ module _ (ws : List ℕ) (e : answerMeaning (startOf ws .answer) ≡ taken) wher
     row-after = same-asked (tableOf ws) sound (book (tableOf ws) xs) (runAfterList (firstRun ws) xs) (represented xs);
     withdrawn = represented xs .related .same-withdrawn;
     counts = λ p l.
-        state-of-job (tableOf ws .rule) (task (tableOf ws) p) (sound p l) (book (tableOf ws) xs .tick) (book (tableOf ws) xs .job p) (evenAt last p) (phaseAt last p)
-        (represented xs .related .related p l);
+        state-of-job (tableOf ws .rule) (task (tableOf ws) p) (sound p l) (book (tableOf ws) xs .tick) (book (tableOf ws) xs .job p)
+        (evenAt last p) (phaseAt last p) (represented xs .related .related p l);
     passes = fails (runOut last) (RunOut last) (run-decides last) (passes-runs last (represented xs .passes));
   }
     where

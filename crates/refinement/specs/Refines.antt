@@ -54,6 +54,7 @@ pub record Refines (ws : List ℕ) (xs : List Entry) : Type 0 where
   pub withdrawn : runAfterList (firstRun ws) xs .withdrawn ≡ book (tableOf ws) xs .withdrawn
   pub counts :
       (p : ℕ) → p < length (tableOf ws .tasks)
-      → StateOfJob (task (tableOf ws) p) (book (tableOf ws) xs .tick) (book (tableOf ws) xs .job p) (evenAt (runAfterList (firstRun ws) xs) p) (phaseAt (runAfterList (firstRun ws) xs) p)
+      → StateOfJob (task (tableOf ws) p) (book (tableOf ws) xs .tick) (book (tableOf ws) xs .job p)
+      (evenAt (runAfterList (firstRun ws) xs) p) (phaseAt (runAfterList (firstRun ws) xs) p)
   -- and it passes 14
   pub passes : ¬ RunOut (runAfterList (firstRun ws) xs)

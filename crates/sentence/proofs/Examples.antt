@@ -63,9 +63,6 @@ cases =
     ∷ []
 
 -- the value by the definitions of a text; a case is named by its text
-abbrev read : Case → Case
-read c = case (c .text) (parsed (letters (c .text)))
-
 pub read-cases : map (λ c. case (c .text) (parsed (letters (c .text)))) cases ≡ cases
 unfolding parsed candidate numbersFrom paired same sentenceText sentenceHead parts expressible ascending value decimal lastDigits digitCount digitsWithin
 read-cases = refl
@@ -83,12 +80,6 @@ sentenceExamples =
     ∷ []
 
 -- the sentence, and the expected one
-abbrev sentenceExample : SentenceExample → List ℕ
-sentenceExample s = sentenceText (s .of)
-
-abbrev expected : SentenceExample → List ℕ
-expected s = letters (s .text)
-
 pub examples-exact : map (λ s. sentenceText (s .of)) sentenceExamples ≡ map (λ s. letters (s .text)) sentenceExamples
 unfolding sentenceText sentenceHead parts decimal lastDigits digitCount digitsWithin
 examples-exact = refl

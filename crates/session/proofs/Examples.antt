@@ -4,8 +4,9 @@ use mathlib.Core.List.{List, [], _∷_, map}
 use mathlib.Core.Path.{_≡_, refl}
 use Prim.Native.Nat.{ℕ}
 use Prim.Native.String.{String}
-use lib.ListN.{replicate}
+use lib.ListN.{drop, replicate}
 use Rattle.model.proofs.Computing.{computing}
+use Rattle.model.proofs.LineByLine.{LineByLine, by-line}
 use Rattle.phase.specs.declared.Phase.the-variants as phase
 use Rattle.phase.specs.declared.Task.{Task}
 use Rattle.phase.specs.Task.{unused}
@@ -149,9 +150,21 @@ lines =
 abbrev worked : Line → Line
 worked l = asks (l .text) (operationOf (letters (l .text)))
 
-pub lines-asked : map (λ l. asks (l .text) (operationOf (letters (l .text)))) lines ≡ lines
+each-line : LineByLine worked lines lines
 unfolding operationOf operationBy numbersAfter numbersOf wordsIn isNumber all value
-lines-asked = refl
+each-line =
+    let past-80 : LineByLine worked (drop 80 lines) (drop 80 lines) =
+    (refl, (refl, (refl, (refl, (refl, (refl, (refl, (refl, (refl, (refl, (refl, (refl, (refl, (refl, (refl, (refl, tt)))))))))))))))) in
+    let past-60 : LineByLine worked (drop 60 lines) (drop 60 lines) =
+    (refl, (refl, (refl, (refl, (refl, (refl, (refl, (refl, (refl, (refl, (refl, (refl, (refl, (refl, (refl, (refl, (refl, (refl, (refl, (refl, past-80)))))))))))))))))))) in
+    let past-40 : LineByLine worked (drop 40 lines) (drop 40 lines) =
+    (refl, (refl, (refl, (refl, (refl, (refl, (refl, (refl, (refl, (refl, (refl, (refl, (refl, (refl, (refl, (refl, (refl, (refl, (refl, (refl, past-60)))))))))))))))))))) in
+    let past-20 : LineByLine worked (drop 20 lines) (drop 20 lines) =
+    (refl, (refl, (refl, (refl, (refl, (refl, (refl, (refl, (refl, (refl, (refl, (refl, (refl, (refl, (refl, (refl, (refl, (refl, (refl, (refl, past-40)))))))))))))))))))) in
+    (refl, (refl, (refl, (refl, (refl, (refl, (refl, (refl, (refl, (refl, (refl, (refl, (refl, (refl, (refl, (refl, (refl, (refl, (refl, (refl, past-20))))))))))))))))))))
+
+pub lines-asked : map (λ l. asks (l .text) (operationOf (letters (l .text)))) lines ≡ lines
+lines-asked = by-line worked lines lines each-line
 
 -- THE REPLIES
 
@@ -222,12 +235,6 @@ transcripts =
     -- after a line that is no operation nothing is written
     ∷ transcriptExample pair "r 1 2\nr\n" "not an operation\n"
     ∷ []
-
-abbrev transcriptText : TranscriptExample → List ℕ
-transcriptText t = replies (t .from) (linesFrom nothing [] (letters (t .input)))
-
-abbrev expected : TranscriptExample → List ℕ
-expected t = letters (t .output)
 
 pub transcripts-exact : map (λ t. replies (t .from) (linesFrom nothing [] (letters (t .input)))) transcripts ≡ map (λ t. letters (t .output)) transcripts
 unfolding replies linesFrom lastLine reply runAfter wordLine answerLine shownLine setsLine workingLine operationOf operationBy numbersAfter numbersOf wordsIn isNumber all value lineOf fields

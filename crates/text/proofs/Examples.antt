@@ -42,9 +42,6 @@ cases =
     ∷ []
 
 -- the value by the definitions of a text; a case is named by its text
-abbrev read : Case → Case
-read c = case (c .text) (wordsOf (letters (c .text)))
-
 pub texts : map (λ c. case (c .text) (wordsOf (letters (c .text)))) cases ≡ cases
 unfolding wordsOf lines isNumber all value
 texts = refl
@@ -85,12 +82,6 @@ prints =
     ∷ []
 
 -- what is printed for a table, and what is to be
-abbrev printing : Print → List ℕ
-printing p = printed (p .table)
-
-abbrev expected : Print → List ℕ
-expected p = letters (p .text)
-
 pub prints-exact : map (λ p. printed (p .table)) prints ≡ map (λ p. letters (p .text)) prints
 unfolding printed firstLine rowLine rowLines lineOf fields decimal lastDigits digitCount digitsWithin computing
 prints-exact = refl

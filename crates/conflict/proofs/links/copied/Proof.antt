@@ -13,7 +13,8 @@ use Rattle.conflict.proofs.links.copied.Statement.{statement}
 use Rattle.conflict.proofs.links.copied.Tie as tie
 
 abbrev Inv-loop : tie.InvT-loop
-Inv-loop words copy₀ i₀ copy i = (take i copy ≡ take i words) × (i ≤ length words) × (length copy ≡ mostWords) × (drop (length words) copy ≡ replicate (mostWords - length words) 0)
+Inv-loop words copy₀ i₀ copy i =
+    (take i copy ≡ take i words) × (i ≤ length words) × (length copy ≡ mostWords) × (drop (length words) copy ≡ replicate (mostWords - length words) 0)
 
 abbrev μ-loop : tie.MeasureT-loop
 μ-loop words copy₀ i₀ copy i = length words - i
@@ -45,8 +46,12 @@ loop-again c =
     let ws = c .before .before .before .args .words .now in
     let more : take (suc (l .i)) (set (l .copy) (l .i) (getD ws (l .i) 0)) ≡ take (suc (l .i)) ws =
     take-suc-set (l .copy) (l .i) (getD ws (l .i) 0) (omega arith)
-    ∙ (ap (λ (t : List ℕ). t ++ (getD ws (l .i) 0 ∷ [])) (l .inv .0) ∙ sym (take-suc ws (l .i) 0 (omega arith))) in
-    (rw (add-one (l .i)) more, omega arith, length-set (l .copy) (l .i) (getD ws (l .i) 0) ∙ l .inv .2, drop-set-lt (length ws) (l .copy) (l .i) (getD ws (l .i) 0) (omega arith) ∙ l .inv .3)
+    ∙ (ap (λ (t : List ℕ). t ++ (getD ws (l .i) 0 ∷ [])) (l .inv .0) ∙ sym (take-suc ws (l .i) 0 (omega arith))) in (
+      rw (add-one (l .i)) more,
+      omega arith,
+      length-set (l .copy) (l .i) (getD ws (l .i) 0) ∙ l .inv .2,
+      drop-set-lt (length ws) (l .copy) (l .i) (getD ws (l .i) 0) (omega arith) ∙ l .inv .3,
+    )
 
 returns : tie.Need-returns Inv-loop μ-loop
 returns c =
