@@ -46,10 +46,10 @@ extern "C" {
 /* ================================================================ WHAT A CALL COSTS
 
    - Memory: none from the heap. Of the stack less than SIVORANDRA_STACK_BYTES (measured:
-     sentence 16,200 bytes, replay 15,800, check_row 15,600, check_begin 14,600, plan 13,500,
-     conflict 13,400, start 12,700, advance 12,300, withdraw and withdraw_all 11,100, slack
-     10,800, judge 9,800, response_times 6,600, judge_ticks 5,800, row 5,400, sets 5,300,
-     working 5,300, facts 700).
+     sentence 16,700 bytes, replay 16,300, check_row 15,600, check_begin 14,600, plan 14,000,
+     conflict 14,000, start 13,300, advance 12,300, slack 11,300, withdraw and withdraw_all
+     11,100, judge 10,300, response_times 6,600, judge_ticks 5,800, bounds 5,600, row 5,400,
+     sets 5,300, working 5,000, facts 700).
    - Threads: the library has no state and no data that is written to, so any number of
      threads may call at once, each with slices of its own to be written to; slices that are
      only read may be shared. Of the C library it calls memcpy and memset alone.
@@ -389,7 +389,7 @@ uint32_t sivorandra_response_times(const uint32_t *words, size_t words_len, uint
    than the whole table's. So it can take much longer than sivorandra_judge, which ends at the
    first miss: where all 32 tasks are kept, as long as 32 judgings without a miss. Every pass
    but the last drops a task: with the whole table it judges 529 times at most. It takes
-   13,400 bytes of the stack. */
+   14,000 bytes of the stack. */
 uint32_t sivorandra_conflict(const uint32_t *words, size_t words_len, uint32_t *answer, size_t
                              answer_len);
 
@@ -403,7 +403,7 @@ uint32_t sivorandra_conflict(const uint32_t *words, size_t words_len, uint32_t *
    and under greedy out of this order, a table can miss with a shorter job and be accepted
    with a longer one. It judges the table, and then for each task, by bisection between a
    growth that is accepted and one that misses, at most 20 times the table with this task
-   longer, each up to the horizon or the first miss: 641 judgings at most. It takes 10,800
+   longer, each up to the horizon or the first miss: 641 judgings at most. It takes 11,300
    bytes of the stack. */
 uint32_t sivorandra_slack(const uint32_t *words, size_t words_len, uint32_t *figures, size_t
                           figures_len, uint32_t *answer, size_t answer_len);

@@ -23,6 +23,13 @@ static void list32(const uint32_t *numbers, size_t count)
     printf("\n");
 }
 
+static void list8(const uint8_t *numbers, size_t count)
+{
+    for (size_t i = 0; i < count; i++)
+        printf(" %d", numbers[i]);
+    printf("\n");
+}
+
 /* All words of a run as one number: order counts. */
 static void mix(const uint32_t *words, size_t count)
 {
@@ -57,6 +64,26 @@ int main(void)
         set = value == 0 && answer[0] == 0 ? answer[1] : 0;
         tell(value, "done");
         printf(" %u\n", (unsigned)set);
+        tell(sivorandra_slack(words, len, figures, 32, answer, 3), "done");
+        list32(figures, 32);
+        uint8_t rows[TICKS * 64] = { 0 };
+        uint32_t plan[SIVORANDRA_PLAN_WORDS];
+        tell(sivorandra_plan(words, len, 0, TICKS, rows, sizeof rows, answer, 3), "done");
+        list8(rows, sizeof rows);
+        tell(sivorandra_check_begin(words, len, plan, SIVORANDRA_PLAN_WORDS, answer, 3), "done");
+        printf("\n");
+        size_t cores = len > 1 && words[1] <= 64 ? words[1] : 0;
+        for (int tick = 0; tick < TICKS; tick++) {
+            tell(sivorandra_check_row(plan, SIVORANDRA_PLAN_WORDS, rows + tick * cores, cores, answer, 3), "done");
+            printf("\n");
+        }
+        uint32_t entries[3 * MOST_OPERATIONS], numbers[MOST_OPERATIONS] = { 0 };
+        size_t count = entries_of(&asked, entries);
+        for (size_t c = 0; c < 64; c++)
+            row[c] = 0;
+        tell(sivorandra_replay(words, len, entries, 3 * count, numbers, count, row, 64, answer, 3), "done");
+        list32(numbers, count);
+        list8(row, 64);
         value = sivorandra_start(words, len, run, SIVORANDRA_RUN_WORDS, answer, 3);
         int started = answer[0] == 0;
         tell(value, "done");

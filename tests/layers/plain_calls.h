@@ -20,6 +20,24 @@ struct question {
     size_t count;
 };
 
+/* The rows that are asked of a plan. */
+enum { TICKS = 4 };
+
+/* The advances and withdrawals of a list in words, three each: how many there are. */
+static inline size_t entries_of(const struct question *question, uint32_t *entries)
+{
+    size_t count = 0;
+    for (size_t i = 0; i < question->count; i++) {
+        const struct operation *one = &question->operations[i];
+        if (one->letter != 'a' && one->letter != 'w' && one->letter != 'W')
+            continue;
+        entries[3 * count] = one->letter == 'a' ? 0 : one->letter == 'w' ? 1 : 2;
+        entries[3 * count + 1] = one->first;
+        entries[3 * count++ + 2] = one->second;
+    }
+    return count;
+}
+
 /* The next line of standard input, or 0 where there is none. */
 static int next_question(struct question *question)
 {

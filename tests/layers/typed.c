@@ -19,6 +19,13 @@ static void list32(const uint32_t *numbers, size_t count)
     printf("\n");
 }
 
+static void list8(const uint8_t *numbers, size_t count)
+{
+    for (size_t i = 0; i < count; i++)
+        printf(" %d", numbers[i]);
+    printf("\n");
+}
+
 static void mix(const struct sivorandra_run *run)
 {
     uint32_t sum = 2166136261u;
@@ -48,6 +55,29 @@ int main(void)
         list32(figures, 32);
         tell(sivorandra_table_conflict(words, len, &set, &answer));
         printf(" %u\n", (unsigned)set);
+        tell(sivorandra_table_slack(words, len, figures, &answer));
+        list32(figures, 32);
+        uint8_t rows[TICKS * 64] = { 0 };
+        struct sivorandra_supplied plan;
+        tell(sivorandra_table_plan(words, len, 0, TICKS, rows, sizeof rows, &answer));
+        list8(rows, sizeof rows);
+        tell(sivorandra_supplied_begin(&plan, words, len, &answer));
+        printf("\n");
+        size_t cores = len > 1 && words[1] <= 64 ? words[1] : 0;
+        for (int tick = 0; tick < TICKS; tick++) {
+            tell(sivorandra_supplied_row(&plan, rows + tick * cores, cores, &answer));
+            printf("\n");
+        }
+        uint32_t entries[3 * MOST_OPERATIONS], numbers[MOST_OPERATIONS] = { 0 };
+        struct sivorandra_entry listed[MOST_OPERATIONS];
+        size_t count = entries_of(&asked, entries);
+        for (size_t i = 0; i < count; i++)
+            listed[i].kind = entries[3 * i], listed[i].first = entries[3 * i + 1], listed[i].second = entries[3 * i + 2];
+        for (size_t c = 0; c < 64; c++)
+            row[c] = 0;
+        tell(sivorandra_table_replay(words, len, listed, count, numbers, row, &answer));
+        list32(numbers, count);
+        list8(row, 64);
         int status = sivorandra_run_start(&run, words, len, &answer);
         tell(status);
         mix(&run);

@@ -2,6 +2,7 @@
    refusal. */
 #include "plain_calls.h"
 #include "sivorandra.hpp"
+#include <array>
 #include <cstdio>
 
 namespace {
@@ -65,6 +66,24 @@ void ask(const question &asked)
     else {
         tell(kept);
         std::printf(" 0\n");
+    }
+    auto slack = sivorandra::slack(words);
+    list(tell(slack) ? *slack : sivorandra::Figures{});
+    std::array<std::uint8_t, TICKS * 64> rows{};
+    tell(sivorandra::plan(words, 0, TICKS, rows.data(), rows.size()));
+    list(rows);
+    auto begun = sivorandra::SuppliedPlan::begin(words);
+    tell(begun);
+    std::printf("\n");
+    std::size_t cores = asked.words_len > 1 && asked.words[1] <= 64 ? asked.words[1] : 0;
+    sivorandra::SuppliedPlan plan = begun ? *begun : sivorandra::SuppliedPlan();
+    for (std::size_t tick = 0; tick < TICKS; tick++) {
+        auto answer = plan.check_row(rows.data() + tick * cores, cores);
+        if (answer && *answer == sivorandra::SuppliedPlan::RowAnswer::accepted)
+            std::printf("accepted 0 0");
+        else
+            tell(answer);
+        std::printf("\n");
     }
     auto started = sivorandra::Run::start(words);
     bool goes = tell(started);
