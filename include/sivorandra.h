@@ -62,13 +62,13 @@ extern "C" {
      horizon of 10,000,000 takes a second at most; the largest, 1,000,000,000, milliseconds
      where the periods are long, and two minutes where all 32 tasks change in every tick. No
      call can be stopped from outside: where that is too long, judge in a process of its own.
-     judge_ticks simulates every tick; start takes as long as judge; sentence judges, and
-     where there is a miss simulates every tick up to it; response_times always simulates,
-     event by event, up to the horizon or the first miss; plan judges up to b, and simulates
-     every tick up to b; replay takes a start, and an advance or a withdrawal for each entry;
-     facts reads its bytes once; conflict judges the table and sub-tables of it, 529 times at
-     most; slack judges the table, and at most 20 times for each task the table with it
-     longer; check_begin judges nothing.
+     judge_ticks simulates every tick, judge_events every event; start takes as long as judge;
+     sentence judges, and where there is a miss simulates every tick up to it; response_times
+     always simulates, event by event, up to the horizon or the first miss; plan judges up to
+     b, and simulates every tick up to b; replay takes a start, and an advance or a withdrawal
+     for each entry; facts reads its bytes once; conflict judges the table and sub-tables of
+     it, 529 times at most; slack judges the table, and at most 20 times for each task the
+     table with it longer; check_begin judges nothing.
 
    A run in words, and a plan in words, belong to the version that wrote them: the words may
    change with the version. Keep SIVORANDRA_VERSION beside what is stored, and start or
@@ -80,11 +80,11 @@ extern "C" {
 /* The version of this header; sivorandra_version returns that of the library that is linked.
    One number, which grows with the version: major * 10000 + minor * 100 + patch. */
 #define SIVORANDRA_VERSION_MAJOR 0
-#define SIVORANDRA_VERSION_MINOR 23
+#define SIVORANDRA_VERSION_MINOR 27
 #define SIVORANDRA_VERSION_PATCH 0
 #define SIVORANDRA_VERSION \
     (SIVORANDRA_VERSION_MAJOR * 10000 + SIVORANDRA_VERSION_MINOR * 100 + SIVORANDRA_VERSION_PATCH)
-#define SIVORANDRA_VERSION_TEXT "0.23.0"
+#define SIVORANDRA_VERSION_TEXT "0.27.0"
 
 /* No call uses more bytes of the stack. */
 #define SIVORANDRA_STACK_BYTES 20480
@@ -180,7 +180,7 @@ extern "C" {
    numbers. Words behind them stay. */
 #define SIVORANDRA_ANSWER_WORDS 3
 #define SIVORANDRA_DONE 0u        /* rows written, last row shown, begun, or taken: 0 and 0 */
-#define SIVORANDRA_FIRM 0u        /* from sivorandra_judge and sivorandra_judge_ticks: S and P */
+#define SIVORANDRA_FIRM 0u        /* from sivorandra_judge, judge_ticks, judge_events: S, P */
 #define SIVORANDRA_FULL 1u        /* S and P */
 #define SIVORANDRA_MISS 2u        /* tick and position */
 #define SIVORANDRA_LENGTH 0u      /* from sivorandra_sentence: the sentence's length, and 0 */
@@ -268,9 +268,13 @@ uint32_t sivorandra_version(void);
 uint32_t sivorandra_judge(const uint32_t *words, size_t words_len, uint32_t *answer, size_t
                           answer_len);
 
-/* The same verdict, always tick by tick, for comparison with the other. */
+/* The same verdict, always tick by tick, for comparison with the others. */
 uint32_t sivorandra_judge_ticks(const uint32_t *words, size_t words_len, uint32_t *answer, size_t
                                 answer_len);
+
+/* The same verdict, always event by event, for comparison with the others. */
+uint32_t sivorandra_judge_events(const uint32_t *words, size_t words_len, uint32_t *answer, size_t
+                                 answer_len);
 
 /* Writes rows a up to but not including b of the full-length run into `rows`, one byte a
    core, fenced ones too: done or refused. A refusal leaves `rows` as found; with 11 `rows` is

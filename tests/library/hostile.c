@@ -126,6 +126,7 @@ static void expect(const char *what, uint32_t value, uint32_t got)
 #define ANSWER words_at(&answer), answer.len
 static uint32_t judge(const uint32_t *table, size_t len) { return sivorandra_judge(table, len, ANSWER); }
 static uint32_t ticks(const uint32_t *table, size_t len) { return sivorandra_judge_ticks(table, len, ANSWER); }
+static uint32_t events(const uint32_t *table, size_t len) { return sivorandra_judge_events(table, len, ANSWER); }
 static uint32_t plan(const uint32_t *table, size_t len, uint32_t a, uint32_t b) { return sivorandra_plan(table, len, a, b, bytes_at(&row), row.len, ANSWER); }
 static uint32_t replay(const uint32_t *table, size_t len, const uint32_t *entries, size_t n)
 {
@@ -160,8 +161,11 @@ static void nulls(void)
     fresh(), NONE(answer), expect("judge: no answer", 1, judge(full, TABLE));
     fresh(), NONE(answer), expect("judge: nothing", 1, judge(NULL, 0));
     fresh(), refused(1), expect("judge_ticks: no words", 0, ticks(NULL, 0));
+    fresh(), refused(1), expect("judge_events: no words", 0, events(NULL, 0));
     fresh(), NONE(answer), expect("judge_ticks: no answer", 1, ticks(full, TABLE));
+    fresh(), NONE(answer), expect("judge_events: no answer", 1, events(full, TABLE));
     fresh(), NONE(answer), expect("judge_ticks: nothing", 1, ticks(NULL, 0));
+    fresh(), NONE(answer), expect("judge_events: nothing", 1, events(NULL, 0));
     fresh(), refused(1), expect("conflict: no words", 0, conflict(NULL, 0));
     fresh(), NONE(answer), expect("conflict: no answer", 1, conflict(miss, TABLE));
     fresh(), NONE(answer), expect("conflict: nothing", 1, conflict(NULL, 0));
@@ -386,6 +390,7 @@ static void tables(void)
     for (size_t i = 0; i < sizeof lens / sizeof lens[0]; i++) {
         fresh(), refused(lens[i].number), expect("judge: fewer words", 0, judge(full, lens[i].len));
         fresh(), refused(lens[i].number), expect("judge_ticks: fewer words", 0, ticks(full, lens[i].len));
+        fresh(), refused(lens[i].number), expect("judge_events: fewer words", 0, events(full, lens[i].len));
         fresh(), refused(lens[i].number), expect("conflict: fewer words", 0, conflict(miss, lens[i].len));
         fresh(), refused(lens[i].number), expect("plan: fewer words", 0, plan(full, lens[i].len, ONES, 0));
         fresh(), refused(lens[i].number), no_run(), expect("start: fewer words", 0, start(full, lens[i].len));
@@ -394,6 +399,7 @@ static void tables(void)
     for (size_t i = 0; i < sizeof many / sizeof many[0]; i++) {
         fresh(), refused(many[i].number), expect("judge: all ones", 0, judge(ones, many[i].len));
         fresh(), refused(many[i].number), expect("judge_ticks: all ones", 0, ticks(ones, many[i].len));
+        fresh(), refused(many[i].number), expect("judge_events: all ones", 0, events(ones, many[i].len));
         fresh(), refused(many[i].number), expect("conflict: all ones", 0, conflict(ones, many[i].len));
         fresh(), refused(many[i].number), no_run(), expect("start: all ones", 0, start(ones, many[i].len));
         fresh(), refused(many[i].number), expect("replay: all ones", 0, replay(ones, many[i].len, ones, 1 << 20));
@@ -401,7 +407,9 @@ static void tables(void)
     fresh(), answered(SIVORANDRA_FULL, 0, 5), expect("judge", 0, judge(full, TABLE));
     fresh(), answered(SIVORANDRA_MISS, 2, 3), expect("judge: a miss", 0, judge(miss, TABLE));
     fresh(), answered(SIVORANDRA_FULL, 0, 5), expect("judge_ticks", 0, ticks(full, TABLE));
+    fresh(), answered(SIVORANDRA_FULL, 0, 5), expect("judge_events", 0, events(full, TABLE));
     fresh(), answered(SIVORANDRA_MISS, 2, 3), expect("judge_ticks: a miss", 0, ticks(miss, TABLE));
+    fresh(), answered(SIVORANDRA_MISS, 2, 3), expect("judge_events: a miss", 0, events(miss, TABLE));
     fresh(), answered(SIVORANDRA_KEPT, 6, 0), expect("conflict", 0, conflict(miss, TABLE));
     fresh(), refused(17), expect("conflict: no miss", 0, conflict(full, TABLE));
     fresh(), refused(13), no_run(), expect("start: a miss", 0, start(miss, TABLE));

@@ -19,6 +19,7 @@ static uint32_t end, last;
 static void version(void) { sivorandra_version(); }
 static void judge(void) { sivorandra_judge(table, words, answer, 3); }
 static void judge_ticks(void) { sivorandra_judge_ticks(table, words, answer, 3); }
+static void judge_events(void) { sivorandra_judge_events(table, words, answer, 3); }
 static void plan(void) { sivorandra_plan(table, words, 0, end, rows, sizeof rows, answer, 3); }
 static void replay(void) { sivorandra_replay(table, words, entries, TICKS * SIVORANDRA_ENTRY_WORDS, numbers, TICKS, rows, sizeof rows, answer, 3); }
 static void start(void) { sivorandra_start(table, words, run, RUN, answer, 3); }
@@ -43,7 +44,7 @@ static void take(void)
 }
 
 static struct { const char *name; void (*call)(void); size_t most; } calls[] = {
-    { "version", version, 0 }, { "judge", judge, 0 }, { "judge_ticks", judge_ticks, 0 }, { "plan", plan, 0 }, { "replay", replay, 0 },
+    { "version", version, 0 }, { "judge", judge, 0 }, { "judge_ticks", judge_ticks, 0 }, { "judge_events", judge_events, 0 }, { "plan", plan, 0 }, { "replay", replay, 0 },
     { "start", start, 0 }, { "row", row, 0 }, { "sets", row_as_sets, 0 }, { "working", working, 0 }, { "advance", advance, 0 }, { "withdraw", withdraw, 0 },
     { "withdraw_all", withdraw_all, 0 }, { "sentence", explain, 0 }, { "facts", parse, 0 }, { "response_times", response_times, 0 }, { "conflict", conflict, 0 }, { "slack", slack, 0 }, { "bounds", bounds, 0 },
     { "begin", begin, 0 }, { "take", take, 0 },

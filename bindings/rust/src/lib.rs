@@ -61,7 +61,7 @@ use core::fmt;
 use std::{string::String, vec, vec::Vec};
 
 /// The version that these bindings are for: major * 10000 + minor * 100 + patch. `version` is that of the library that is linked.
-pub const VERSION: u32 = 2300;
+pub const VERSION: u32 = 2700;
 
 /// The most tasks on a chain, and the most records of a table.
 pub const MOST_TASKS: usize = 32;
@@ -345,6 +345,7 @@ extern "C" {
     fn sivorandra_version() -> u32;
     fn sivorandra_judge(words: *const u32, words_len: usize, answer: *mut u32, answer_len: usize) -> u32;
     fn sivorandra_judge_ticks(words: *const u32, words_len: usize, answer: *mut u32, answer_len: usize) -> u32;
+    fn sivorandra_judge_events(words: *const u32, words_len: usize, answer: *mut u32, answer_len: usize) -> u32;
     fn sivorandra_plan(words: *const u32, words_len: usize, a: u32, b: u32, rows: *mut u8, rows_len: usize, answer: *mut u32, answer_len: usize) -> u32;
     #[cfg(feature = "std")]
     fn sivorandra_replay(
@@ -437,7 +438,7 @@ pub fn judge(words: &[u32]) -> Result<Verdict, Refusal> {
     verdict(ask(|answer, len| unsafe { sivorandra_judge(words.as_ptr(), words.len(), answer, len) }))
 }
 
-/// The same verdict, always tick by tick, for comparison with the other.
+/// The same verdict, always tick by tick, for comparison with the others.
 ///
 /// ```
 /// use sivorandra::{judge, judge_ticks};
@@ -447,6 +448,18 @@ pub fn judge(words: &[u32]) -> Result<Verdict, Refusal> {
 /// ```
 pub fn judge_ticks(words: &[u32]) -> Result<Verdict, Refusal> {
     verdict(ask(|answer, len| unsafe { sivorandra_judge_ticks(words.as_ptr(), words.len(), answer, len) }))
+}
+
+/// The same verdict, always event by event, for comparison with the others.
+///
+/// ```
+/// use sivorandra::{judge, judge_events};
+///
+/// let table = [1, 3, 1, 0, 0, 2, 0, 2, 2, 5, 5, 2, 3, 0, 2, 3, 5, 5, 2, 0, 0, 1, 4, 5, 5, 1];
+/// assert_eq!(judge_events(&table), judge(&table));
+/// ```
+pub fn judge_events(words: &[u32]) -> Result<Verdict, Refusal> {
+    verdict(ask(|answer, len| unsafe { sivorandra_judge_events(words.as_ptr(), words.len(), answer, len) }))
 }
 
 /// Writes rows `a` up to but not including `b` of the full-length run into `rows`, one byte a core, fenced ones too.

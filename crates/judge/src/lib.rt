@@ -118,7 +118,7 @@ fn first_miss_by(way: Way, table: Loaded, end: u32) -> Missed
 }
 
 // The verdict on a table's words, with its first miss found in this way.
-pub(crate) fn judge_by(way: Way, words: &[u32]) -> Verdict
+pub fn judge_by(way: Way, words: &[u32]) -> Verdict
     ensures { λ r. ⌜ Judged (now (words .entry)) r ⌝ }
 {
     let table = table::load(words);

@@ -1,4 +1,4 @@
--- `capi::verdicts::sivorandra_judge` meets its contract: the verdict is the judge's, and its three words are written where there is space.
+-- `capi::verdicts::judge_by` meets its contract: the verdict is the judge's, and its three words are written where there is space.
 -- Assumes nothing.
 use mathlib.Core.Path.{_≡_, sym, ap, _∙_}
 use mathlib.Core.Bool.{true}
@@ -6,8 +6,8 @@ use borrow.Author.Needs.{needs}
 use Rattle.buffers.specs.AnswerWords.{slicesFit, ofVerdict}
 use Rattle.capi.specs.Calls.{judgeCall}
 use Rattle.capi.proofs.Calls.{one, words-of, answered, as-found, for-answer}
-use Rattle.capi.proofs.verdicts.sivorandra_judge.Statement.{statement}
-use Rattle.capi.proofs.verdicts.sivorandra_judge.Tie as tie
+use Rattle.capi.proofs.verdicts.judge_by.Statement.{statement}
+use Rattle.capi.proofs.verdicts.judge_by.Tie as tie
 
 -- the state at the call
 abbrev entry : tie.After-fit → tie.Start
@@ -20,8 +20,8 @@ space c = sym (c .before .fit .ensures) ∙ c .if1 .taken
 fit-requires : tie.Need-fit-requires
 fit-requires c κs = search needs
 
-judge-requires : tie.Need-judge-requires
-judge-requires c κs = search needs
+judge-by-requires : tie.Need-judge-by-requires
+judge-by-requires c κs = search needs
 
 of-verdict-requires : tie.Need-of-verdict-requires
 of-verdict-requires c κs = search needs
@@ -42,7 +42,7 @@ returns c =
     let r = o .before in
     let t = r .before in
     let a = entry (t .before) .args in
-    one (words-of (a .answer .now) (p .put .ensures) (o .of-verdict .ensures ∙ ap ofVerdict (r .judge .ensures .value)))
+    one (words-of (a .answer .now) (p .put .ensures) (o .of-verdict .ensures ∙ ap ofVerdict (r .judge-by .ensures .value)))
     ∙ answered _ _ (space t)
 
 same-length-2 : tie.Need-same-length-2
@@ -52,12 +52,12 @@ returns-2 : tie.Need-returns-2
 unfolding judgeCall
 returns-2 c = as-found _ _ (sym (c .before .fit .ensures) ∙ c .if1 .left)
 
-pub sivorandra-judge-spec : {M : Type 1} → statement M
-sivorandra-judge-spec =
+pub judge-by-spec : {M : Type 1} → statement M
+judge-by-spec =
     tie.close
     (tie.spec
     fit-requires
-    judge-requires
+    judge-by-requires
     of-verdict-requires
     put-requires
     same-length
