@@ -9,7 +9,7 @@ import page
 from notes import HEAD, RECORD
 from page import Html, element, number, paragraph, section
 from report_parts import footer, head_cell, refusal_words, sheet_page, verdict_header
-from texts import FITS, REMEDIES
+from texts import FITS, REMEDIES, SHEET_REMEDIES
 
 if TYPE_CHECKING:
     from sheet import Sheet
@@ -46,7 +46,7 @@ def refused_sheet(sheet: "Sheet", name: str, refused: int, position: int, more: 
     lead = f"Refused, number {refused}" + (f", position {names.at(position)}" if position else "") + ": the table was refused before it was judged."
     return page.document(f"{FITS['refused']} \u2013 {name}", [], verdict_header("refused", name, [lead]),
                          section("What is wrong", paragraph(refusal_words(refused, position, names), id="meaning"), *(paragraph(element("b", note[0].upper() + note[1:] + "."), id="note") for note in said), id="fault"),
-                         section("What to do", paragraph(parts.REMEDIES.get(refused, "Look the number up in docs/NUMBERS.md."), id="remedy"), paragraph("The writer of the sheet can correct it; this page can be sent back with it.", class_="soft"), id="todo"),
+                         section("What to do", paragraph(SHEET_REMEDIES.get(refused, "Look the number up in docs/NUMBERS.md."), id="remedy"), paragraph("The writer of the sheet can correct it; this page can be sent back with it.", class_="soft"), id="todo"),
                          section("The sheet", *parts.sheet_parts(sheet, int(found[1]) if found else None), id="input"), more, footer())
 
 

@@ -1,4 +1,4 @@
-"""The parts of a page that only a sheet has: the sheet as it was read, and what to do about a refusal in its words."""
+"""The part of a page that only a sheet has: the sheet as it was read."""
 from typing import List, Optional, Tuple
 
 import page
@@ -6,7 +6,6 @@ from named import cut
 from page import element, listing, paragraph
 from sheet import Sheet, Task, Value
 from sheet_times import RULES, ranges
-from texts import SHEET_REMEDIES as REMEDIES
 
 COLUMNS = ("line", "position", "name", "offset", "width", "second width", "length", "deadline", "period")
 TIMES = ("offset", "length", "deadline", "period")

@@ -9,7 +9,7 @@ from typing import List, Tuple
 from .refusals import Faulty
 
 MODULES = ("notes", "sheet", "sheet_back", "sheet_cells", "sheet_columns", "sheet_times", "texts")
-# (the build backend and ./install read this line too)
+# The build backend and ./install read the line above.
 _lock = threading.Lock()
 _loaded: List[ModuleType] = []
 

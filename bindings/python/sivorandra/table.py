@@ -152,24 +152,31 @@ class Table:
         return replace(self, tasks=(*self.tasks[:position - 1], task, *self.tasks[position:]))
 
     def judge(self) -> Verdict:
+        """The verdict."""
         return judge(self)
 
     def response_times(self) -> Tuple[int, ...]:
+        """The worst-case response time of each task."""
         return response_times(self)
 
     def slack(self) -> Tuple[int, ...]:
+        """The slack of each task."""
         return slack(self)
 
     def bounds(self) -> Optional[Tuple[int, ...]]:
+        """The response-time bounds of the interference test, or None."""
         return bounds(self)
 
     def conflict(self) -> Tuple[int, ...]:
+        """The positions of a minimal set of tasks that misses."""
         return conflict(self)
 
     def sentence(self) -> str:
+        """Why it misses."""
         return sentence(self)
 
     def rows(self, since: int, until: int) -> List[Tuple[int, ...]]:
+        """The rows of the full-length run from a tick up to but not including another."""
         return rows(self, since, until)
 
 
