@@ -6,6 +6,7 @@ use mathlib.Core.Path.{_≡_, refl}
 use mathlib.Core.Bool.{false}
 use Prim.Native.Nat.{ℕ}
 use lib.ListN.{replicate}
+use Rattle.model.proofs.LineByLine.{LineByLine, by-line}
 use Rattle.phase.specs.declared.Phase.{Phase}
 use Rattle.phase.specs.declared.Phase.the-variants.{Working, Holding, Resting}
 use Rattle.phase.specs.declared.Task.{Task}
@@ -117,6 +118,10 @@ lines =
     ∷ fits ∷ stays (fresh (plain 1 3)) 31 3 ∷ stays (fresh (plain 1 3)) 32 2 ∷ stays (fresh (plain 1 3)) 0 0 ∷ stays [] 31 3 ∷ stays [] 34 2
     ∷ []
 
-pub examples : map worked lines ≡ lines
+-- every line is its value by the definitions
+computed : LineByLine worked lines lines
 unfolding calling
-examples = refl
+computed = (refl, (refl, (refl, (refl, (refl, (refl, (refl, (refl, (refl, (refl, (refl, (refl, (refl, (refl, (refl, (refl, (refl, (refl, (refl, (refl, (refl, (refl, (refl, (refl, (refl, (refl, (refl, (refl, (refl, (refl, (refl, (refl, tt))))))))))))))))))))))))))))))))
+
+pub examples : map worked lines ≡ lines
+examples = by-line worked lines lines computed

@@ -6,6 +6,7 @@ use mathlib.Core.List.{List, [], _∷_, _++_, map}
 use Prim.Native.Nat.{ℕ, zero, suc}
 use Prim.Native.String.{String}
 use lib.ListN.{replicate, take}
+use Rattle.model.proofs.LineByLine.{LineByLine, by-line}
 use Rattle.phase.specs.declared.Phase.{Phase}
 use Rattle.phase.specs.declared.Phase.the-variants.{Coming, Working, Resting}
 use Rattle.run.specs.Start.{startedRun}
@@ -138,8 +139,13 @@ lines =
     ∷ stays "take, no room for an answer" (takes (0 ∷ [])) (plan false (Coming 1) 0 nothing) 2
     ∷ []
 
--- every line is its value by the definitions: one table with one check
-pub examples : map computes lines ≡ lines
+-- every line is its value by the definitions, line by line
+computed : LineByLine computes lines lines
 unfolding times beginCall checkRowCall planOver notesWords notesIn holdsPlan planIn beginOf checkRowOf checkRowAnswer answerAt finalAnswer differs missed stateOut faulty anyUnknownByte
     workedRow cellCount startedRun answerOf byWalk byTasks byHorizon firstOut endingOf lastStep headerNumber tableOf chain count visited calling
-examples = refl
+computed =
+    (refl, (refl, (refl, (refl, (refl, (refl, (refl, (refl, (refl, (refl, (refl, (refl, (refl, (refl, (refl, (refl, (refl, (refl, (refl, (refl, (refl, (refl, tt))))))))))))))))))))))
+
+-- .. and as one list
+pub examples : map computes lines ≡ lines
+examples = by-line computes lines lines computed
