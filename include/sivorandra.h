@@ -2,34 +2,39 @@
 
    THE RUN LOOP. A typed call returns 0 where it succeeds, and only there; `answer` says why not.
 
-       struct sivorandra_run run;
+       struct sivorandra_run run;        // of the table in `words`, uint32_t each (see WORDS)
        struct sivorandra_answer answer;
        if (sivorandra_run_start(&run, words, words_len, &answer))
-           return report(&answer);       // no run: sivorandra_number_text(answer.first) says why
+           return report(&answer);       // sivorandra_number_text(answer.first) says why
        for (;;) {                        // once in every tick
            uint32_t empties = ...;       // of the jobs that are released now: those with no work
            uint32_t working, ended;
            uint64_t sets[SIVORANDRA_SETS];
            if (sivorandra_run_sets(&run, empties, sets, &answer) ||
                sivorandra_run_working(&run, empties, &working, &answer))
-               return report(&answer);   // 15: position answer.second is late; 20: wrong empties
+               return report(&answer);   // 15: late, see below; 20: correct `empties`, ask again
            ended = dispatch(sets, working);   // the tick passes; which of `working` have ended?
            if (sivorandra_run_advance(&run, ended & working, empties, &answer))
-               return report(&answer);   // the run is as it was, so another advance can be tried
+               return report(&answer);   // 16: correct `ended`, advance again
        }
 
+   - start takes a table that is firm or full (sivorandra_table_judge says which). In a firm one no
+     job is ever late. In a full one a job that ends early or is empty can make another late. Then
+     15 names it, answer.second, and the run stays in this tick for good.
+   - A refused call leaves the run in its tick and writes zeros: overlooked, the cores stay idle.
    - A set of positions has bit 0 for position 1, the highest priority. A set of cores has bit 0 for
-     core 0, and sets[0] is that of position 1.
+     core 0, and sets[0] is that of position 1. A `p` in the text of a number is answer.second.
    - `empties` is the same in all calls of a tick. A job may be empty only in the tick in which it
-     is released: at O, O + T, O + 2T and so on.
+     is released, O, O + T, O + 2T and so on: count the ticks; O and T are words 1 and 5 of a record.
    - `working` has the positions whose job is to run in this tick, on the cores of its set. Another
-     position may have cores too: its job has ended and holds them, under rules 3 and 4.
+     position may have cores too: its job has ended, or is empty, and holds them (rules 3 and 4).
    - A job that has had its C ticks ends by itself. One that ends earlier is reported, by its bit,
      in the advance of its last tick; 16 refuses a report on a position that is not in `working`.
-   - sivorandra_run_withdraw takes a task out between two ticks: its later jobs are all empty.
-   - The run is a value: copy it, keep it, go back to it.
-   - examples/run_loop.c is the whole program, examples/judge.c judges a file, and sivorandra.hpp is
-     the same for C++. In this file come: costs, numbers, words, the plain calls, the typed calls.
+   - sivorandra_run_withdraw(&run, 2, &answer), between two ticks, withdraws position 2: a job that
+     was released before goes on, and all later ones are empty. 21 and 22 leave the run as it was.
+   - The run is a value: copy it, keep it, go back to it. examples/run_loop.c is the whole program,
+     examples/judge.c judges a file, sivorandra.hpp is the same for C++. In this file come: costs,
+     version and limits, words, answers and numbers, the plain calls, the typed calls.
 
    WHERE IT RUNS. x86-64 Linux today, since the toolchain writes no other archive. Nothing known in
    the sources stands against another machine, and it was not tried. */

@@ -5,19 +5,21 @@
 
        auto run = sivorandra::Run::start(words);
        if (!run)
-           return report(run.refusal());          // text(), number, position
+           return report(run.refusal());          // text(), whose p is position; number, position
        for (;;) {                                 // once in every tick
            std::uint32_t empties = ...;           // of the jobs released now: those with no work
            auto sets = run->sets(empties);        // (*sets)[0]: the cores of position 1
            auto working = run->working(empties);  // the positions whose job is to run now
            if (!sets || !working)
-               return report((!sets ? sets.refusal() : working.refusal()));
+               return report(!sets ? sets.refusal() : working.refusal()); // 15 late, 20 empties
            std::uint32_t ended = dispatch(*sets, *working);    // the tick passes
            if (auto taken = run->advance(ended & *working, empties); !taken)
-               return report(taken.refusal());    // the run is as it was
+               return report(taken.refusal());    // 16: correct `ended`, and advance again
        }
 
-   sivorandra.h has what the sets, the numbers and the words mean, and what a call costs.
+   A set has bit 0 for position 1, or for core 0. `run->withdraw(2)`, between two ticks, withdraws
+   position 2. After 15 the run stays in its tick for good; it comes only in a table that is full
+   and not firm. The first screen of sivorandra.h says more, and what a call costs.
    examples/run_loop.cpp is the whole program, examples/judge.cpp judges a file. */
 #ifndef SIVORANDRA_HPP
 #define SIVORANDRA_HPP

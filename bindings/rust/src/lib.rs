@@ -28,8 +28,11 @@
 //!
 //! - A set of positions has bit 0 for position 1, the highest priority. A job may be empty only in the tick in which it is released.
 //! - A position can have cores and not be in `working`: its job has ended and holds them, under rules 3 and 4. A report on it is refused.
-//! - A refusal is a [`Refusal`], whose variants say what to do: [`Refusal::Late`] is a missed deadline, after which the run stays in its tick; [`Refusal::BadEmpty`] and
-//!   [`Refusal::BadReport`] are mistakes in the two sets, and another call can be tried; [`Refusal::NotARun`] comes for words that no call here returned.
+//! - A start takes a table that is firm or full; [`judge`] says which. In a firm one no job is ever late. In a full one a job that ends early or is empty can make another
+//!   late: [`Refusal::Late`], after which the run stays in its tick for good.
+//! - A refusal leaves the run as it was. `{refusal}` prints its sentence and number; `number()` and `position()` return them. [`Refusal::BadEmpty`] and [`Refusal::BadReport`]
+//!   are mistakes in the two sets: correct them, and call again. [`Refusal::NotFirm`] and [`Refusal::NoPosition`] refuse a withdrawal. `#![deny(unused_must_use)]` makes a
+//!   refusal that is overlooked an error.
 //! - `examples/run_loop.rs` is the whole program, and `examples/judge.rs` judges a file.
 //!
 //! # Linking
