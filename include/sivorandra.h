@@ -25,7 +25,7 @@
    - A set of positions has bit 0 for position 1, the highest priority. A set of cores has bit 0 for
      core 0, and sets[0] is that of position 1. A `p` in the text of a number is answer.second.
    - `empties` is the same in all calls of a tick. A job may be empty only in the tick in which it
-     is released, O, O + T, O + 2T and so on: count the ticks; O and T are words 1 and 5 of a record.
+     is released, at O, O + T and so on: count the ticks; O and T are words 1 and 5 of a record.
    - `working` has the positions whose job is to run in this tick, on the cores of its set. Another
      position may have cores too: its job has ended, or is empty, and holds them (rules 3 and 4).
    - A job that has had its C ticks ends by itself. One that ends earlier is reported, by its bit,
