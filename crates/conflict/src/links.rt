@@ -9,10 +9,10 @@ use table::HEADER;
 use table::RECORD;
 
 // The most words that a table has.
-const WORDS: usize = HEADER + RECORD * MOST_TASKS;
+pub const WORDS: usize = HEADER + RECORD * MOST_TASKS;
 
 // A copy of the words, with zeros after them.
-fn copied(words: &[u32]) -> [u32; WORDS]
+pub fn copied(words: &[u32]) -> [u32; WORDS]
     requires { ⌜ length (now words) ≤ mostWords ⌝ }
     ensures { λ r. ⌜ r ≡ padded (now (words .entry)) ⌝ }
 {

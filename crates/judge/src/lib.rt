@@ -40,14 +40,14 @@ pub enum Way {
 }
 
 // The larger of a task's two widths.
-fn wider(a: u32, b: u32) -> u32
+pub fn wider(a: u32, b: u32) -> u32
     ensures { λ r. ⌜ r ≡ max a b ⌝ }
 {
     if a < b { b } else { a }
 }
 
 // The smaller of a task's two widths.
-fn narrower(a: u32, b: u32) -> u32
+pub fn narrower(a: u32, b: u32) -> u32
     ensures { λ r. ⌜ r ≡ min a b ⌝ }
 {
     if a < b { a } else { b }

@@ -50,7 +50,7 @@ fn counts_above(ran: [u64; MOST_TASKS], place: usize) -> [u64; MOST_TASKS]
 
 // The facts of the first miss, of a place at a tick: the run up to that tick; from the late job's release on, each tick in which it is not granted cores
 // is counted for the places that are.
-pub(crate) fn count(table: Loaded, tick: u32, place: usize) -> Facts
+pub fn count(table: Loaded, tick: u32, place: usize) -> Facts
     requires { ⌜ Fit table × FirstMiss (loadedTable table) tick (suc place) × (tick ≤ table .horizon) ⌝ }
     ensures { λ r. ⌜ factsBy r ≡ factsAt (loadedTable table) tick place ⌝ }
 {

@@ -13,7 +13,7 @@ use model::MOST_TASKS;
 use table::Answer;
 use table::Loaded;
 
-mod counting; // counting.rt: the facts of a miss, counted in the full-length run
+pub mod counting; // counting.rt: the facts of a miss, counted in the full-length run
 pub mod reader; // reader.rt: a sentence parsed
 pub mod writer; // writer.rt: a sentence written
 
