@@ -13,7 +13,7 @@ use Rattle.model.proofs.Lists.{map-at}
 use Rattle.model.specs.Fence.{unfencedCount}
 use Rattle.model.specs.Horizon.{horizon}
 use Rattle.model.specs.Sizes.{mostTasks}
-use Rattle.model.specs.Task.{Table, Task, absentTask, ruleOf}
+use Rattle.model.specs.Task.{Task, absentTask, ruleOf}
 use Rattle.table.proofs.HeaderPasses.{words-long}
 use Rattle.table.proofs.Inside.{Inside}
 use Rattle.table.proofs.Passed.{passed-inside}

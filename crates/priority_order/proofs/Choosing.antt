@@ -1,6 +1,6 @@
 -- The choice among the orders of a list: its steps, and what it says of the order that is chosen.
-use mathlib.Core.Bool.{Bool, cond, false, false≢true, true}
-use mathlib.Core.List.{List, [], _∷_, _++_, map}
+use mathlib.Core.Bool.{Bool, cond, false, true}
+use mathlib.Core.List.{List, [], _∷_, _++_}
 use mathlib.Core.Path.{_≡_, ap, ap₂, refl, subst, sym, _∙_}
 use Prim.Native.Nat.{ℕ, suc, zero, _*_, _+_, _-_, _<_, _≤_}
 use native.Mathlib.Nat.{add-zero}
@@ -19,7 +19,7 @@ use Rattle.priority_order.specs.declared.OrderAnswer.{OrderAnswer}
 use Rattle.priority_order.specs.Answer.{answerBy, answerIn, givenOrder, noOrder, positionsOf}
 use Rattle.priority_order.specs.Orders.{OrderIn}
 use Rattle.priority_order.specs.Repair.{Choice, LateIn, just, keptAfter, lateOf, nextOrder, nothing, powerAfter, repairs, same, verdictIn}
-use Rattle.priority_order.specs.Tried.{chosenOf, firstThat, isAccepted, isFirm, orElse}
+use Rattle.priority_order.specs.Tried.{firstThat, isAccepted, isFirm, orElse}
 use Rattle.priority_order.proofs.Repairing.{late-order, next-accepted, repairs-kept, repairs-more, repairs-none, repairs-spent}
 
 pub firm-accepted : (v : Verdict) → isFirm v ≡ true → isAccepted v ≡ true

@@ -1,10 +1,9 @@
 -- THE CONTRACT of `order`: all orders tried are permutations; the one that is chosen fits, and where none is chosen none fits.
 use mathlib.Core.Bool.{Bool, cond, false, false≢true, not, true, _&&_, _||_}
 use mathlib.Core.List.{List, [], _∷_, _++_, map}
-use mathlib.Core.Logic.{_⊎_, inl, inr}
+use mathlib.Core.Logic.{inl, inr}
 use mathlib.Core.Path.{_≡_, ap, refl, subst, sym, _∙_}
-use Prim.Native.Nat.{ℕ, min, suc, zero, _+_, _-_, _<_, _≤_}
-use native.Mathlib.Nat.{zero-add}
+use Prim.Native.Nat.{ℕ, min, suc, zero, _+_, _-_, _<_}
 use native.Mathlib.Omega.{arith}
 use lib.Dec.{ltb}
 use lib.ListN.{getD, length}
@@ -13,8 +12,6 @@ use Rattle.model.specs.Search.{upFrom}
 use Rattle.table.proofs.Exact.{passed-exact, refusal-exact}
 use Rattle.table.proofs.Order.{first-only}
 use Rattle.table.specs.declared.Answer.{Answer}
-use Rattle.table.specs.declared.Answer.the-variants as table
-use Rattle.table.specs.Answer.{answerOf}
 use Rattle.table.specs.Numbers.{Applies, First, NoneApplies}
 use Rattle.table.specs.Words.{count, tableOf}
 use Rattle.judge.proofs.Contract.{judged-exact}
@@ -30,7 +27,7 @@ use Rattle.priority_order.specs.Orders.{Permutation, ownOrder, reordered
 use Rattle.priority_order.specs.Repair.{Choice, just, keptAfter, lateOf, laterOf, nextOrder}
 use Rattle.priority_order.specs.Repair.{noMiss, nothing, powerAfter, repairs, same, unlessKept, verdictIn}
 use Rattle.priority_order.specs.Sorted.{sortedOrder, sortedOrders}
-use Rattle.priority_order.specs.Tried.{chosenOf, firstThat, isAccepted, isFirm, latestFrom, orElse, sortedFirst, triedOrders, unlessAccepted}
+use Rattle.priority_order.specs.Tried.{firstThat, isAccepted, isFirm, latestFrom, orElse, sortedFirst, triedOrders, unlessAccepted}
 use Rattle.priority_order.proofs.Choosing.{firm-accepted, first-just, first-nothing}
 use Rattle.priority_order.proofs.Moving.{own-permutation}
 use Rattle.priority_order.proofs.Reordering.{order-applies, order-table, tasks-few}

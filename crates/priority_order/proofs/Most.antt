@@ -1,16 +1,16 @@
 -- The task that ran most, by a walk along the counts of 32 places; and equal orders, by a walk along both.
-use mathlib.Core.Bool.{Bool, cond, false, false≢true, true, _&&_}
+use mathlib.Core.Bool.{Bool, cond, false, false≢true, true}
 use mathlib.Core.List.{List, [], _∷_}
 use mathlib.Core.Path.{_≡_, ap, refl, sym, _∙_}
-use Prim.Native.Nat.{ℕ, suc, _<_, _≤_}
+use Prim.Native.Nat.{ℕ, suc, _<_}
 use native.Mathlib.Omega.{arith}
 use lib.Dec.{eqb, ltb}
 use lib.ListN.{drop, getD, length}
 use lib.Seq.{drop-cons}
-use borrow.Author.Tests.{eq-eqb, eqb-false, eqb-true, le-ltb, ltb-false, ltb-true}
+use borrow.Author.Tests.{eq-eqb, eqb-true, le-ltb}
 use Rattle.model.proofs.Bools.{and-left, and-right}
-use Rattle.sentence.specs.Facts.{Part, named, namedFrom}
-use Rattle.priority_order.specs.Repair.{mostFrom, mostRan, same}
+use Rattle.sentence.specs.Facts.{Part, namedFrom}
+use Rattle.priority_order.specs.Repair.{mostFrom, same}
 
 -- the better of the best so far and the count of place i
 abbrev pub better : Part → ℕ → ℕ → Part

@@ -1,6 +1,6 @@
 -- The positions of an order, and the task at a place of a table that was loaded.
 use mathlib.Core.List.{List, map, _++_}
-use mathlib.Core.Path.{_≡_, ap, refl, sym, _∙_}
+use mathlib.Core.Path.{_≡_, ap, _∙_}
 use Prim.Native.Nat.{ℕ, suc, _+_, _-_, _<_, _≤_}
 use native.Mathlib.Omega.{arith}
 use lib.ListN.{List·getD-append, getD, length, length-append, length-map, length-replicate, replicate, take}

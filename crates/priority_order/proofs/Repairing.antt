@@ -5,7 +5,7 @@ use mathlib.Core.Path.{_≡_, ap, refl, subst, sym, _∙_}
 use Prim.Native.Nat.{ℕ, suc, zero, _+_, _-_, _<_, _≤_}
 use native.Mathlib.Omega.{arith}
 use lib.Dec.{ltb}
-use lib.ListN.{getD, length, length-map}
+use lib.ListN.{length, length-map}
 use borrow.Author.Tests.{ltb-false, ltb-true}
 use Rattle.model.proofs.Lists.{up-length}
 use Rattle.model.specs.Horizon.{horizon}
@@ -27,16 +27,15 @@ use Rattle.judge.proofs.Contract.{judged-exact}
 use Rattle.judge.specs.declared.Verdict.{Verdict}
 use Rattle.judge.specs.declared.Verdict.the-variants.{Firm, Full, Miss, Refused}
 use Rattle.judge.specs.JudgeAnswer.{verdictMeaning}
-use Rattle.judge.specs.Judged.{verdictOf}
 use Rattle.sentence.proofs.Answers.{first-found, first-within, never}
-use Rattle.sentence.specs.Facts.{Part, named, namedFrom}
+use Rattle.sentence.specs.Facts.{Part, namedFrom}
 use Rattle.sentence.specs.Waiting.{factsAt, ranWhileWaiting}
 use Rattle.priority_order.specs.declared.repair.Late.{Late}
 use Rattle.priority_order.specs.Orders.{Permutation, moved, reordered}
-use Rattle.priority_order.specs.Repair.{Choice, LateIn, blockingIn, just, keptAfter, lateOf, mostFrom, mostRan, movedAbove, nextBy, nextOrder}
-use Rattle.priority_order.specs.Repair.{nothing, powerAfter, repairs, same, unlessKept, verdictIn}
+use Rattle.priority_order.specs.Repair.{LateIn, blockingIn, just, keptAfter, lateOf, mostFrom, mostRan, movedAbove, nextBy, nextOrder}
+use Rattle.priority_order.specs.Repair.{nothing, powerAfter, repairs, same, verdictIn}
 use Rattle.priority_order.specs.Tried.{isAccepted}
-use Rattle.priority_order.proofs.Most.{better, most-more}
+use Rattle.priority_order.proofs.Most.{most-more}
 use Rattle.priority_order.proofs.Moving.{moved-permutation}
 use Rattle.priority_order.proofs.Reordering.{order-table, tasks-few}
 

@@ -7,25 +7,23 @@ use native.Mathlib.Nat.{min-eq-left, min-eq-right, zero-add}
 use native.Mathlib.Numerals.{add-one}
 use native.Mathlib.Omega.{arith}
 use lib.Dec.{leb, ltb}
-use lib.ListN.{getD, length, length-map}
+use lib.ListN.{length, length-map}
 use borrow.Author.Count.{below-more}
 use borrow.Author.Tests.{leb-false, leb-true}
 use Rattle.model.proofs.Lists.{map-more, up-length, up-more}
 use Rattle.model.specs.Search.{upFrom}
-use Rattle.model.specs.Task.{Table}
 use Rattle.table.proofs.Tasks.{table-length}
 use Rattle.table.specs.Numbers.{NoneApplies}
 use Rattle.table.specs.Words.{count, tableOf}
 use Rattle.judge.specs.declared.Verdict.{Verdict}
 use Rattle.priority_order.specs.declared.Accepted.{Accepted}
 use Rattle.priority_order.specs.declared.repair.Late.{Late}
-use Rattle.priority_order.specs.declared.OrderAnswer.{OrderAnswer}
 use Rattle.priority_order.specs.declared.Outcome.the-variants.{None}
 use Rattle.priority_order.specs.Answer.{answerBy, answerIn, givenOrder, noOrder, positionsOf}
 use Rattle.priority_order.specs.Orders.{Permutation, ownOrder}
 use Rattle.priority_order.specs.Repair.{Choice, LateIn, just, lateOf, laterOf, noMiss, nothing, repairs, verdictIn}
 use Rattle.priority_order.specs.Sorted.{sortedOrder, sortedOrders}
-use Rattle.priority_order.specs.Tried.{chosenOf, firstAccepted, firstThat, isAccepted, isFirm, latestFrom, noneAccepted, orElse}
+use Rattle.priority_order.specs.Tried.{firstAccepted, firstThat, isAccepted, isFirm, latestFrom, noneAccepted, orElse}
 use Rattle.priority_order.specs.Tried.{repairsFrom, sortedFirst, triedOrders, unlessAccepted}
 use Rattle.priority_order.proofs.Choosing.{answer-append, answer-none, first-append, first-here, first-past}
 use Rattle.priority_order.proofs.Moving.{own-permutation}

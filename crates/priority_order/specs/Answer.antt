@@ -11,7 +11,7 @@ use Rattle.model.specs.Verdict.{FirstMiss}
 use Rattle.table.specs.declared.Answer.{Answer}
 use Rattle.table.specs.declared.Answer.the-variants as table
 use Rattle.table.specs.Answer.{answerOf}
-use Rattle.table.specs.Numbers.{Applies, First, NoneApplies}
+use Rattle.table.specs.Numbers.{First, NoneApplies}
 use Rattle.table.specs.Words.{count, tableOf}
 use Rattle.judge.specs.declared.Verdict.{Verdict}
 use Rattle.judge.specs.declared.Verdict.the-variants as judge

@@ -1,5 +1,5 @@
 -- `priority_order::given` meets its contract. Assumes nothing.
-use mathlib.Core.Path.{_≡_, ap, ap₂, sym, _∙_}
+use mathlib.Core.Path.{ap, ap₂, sym, _∙_}
 use Rattle.judge.specs.declared.Verdict.{Verdict}
 use Rattle.priority_order.specs.Answer.{givenOrder}
 use borrow.Author.Needs.{needs}

@@ -1,15 +1,13 @@
 -- `priority_order::repaired` meets its contract: what is left of the repair has the answer of the whole. Assumes nothing.
 use mathlib.Core.Bool.{false, true}
 use mathlib.Core.List.{List}
-use mathlib.Core.Path.{_≡_, ap, refl, subst, sym, _∙_}
-use Prim.Native.Nat.{ℕ, _+_, _-_, _*_, _<_, _≤_}
-use lib.ListN.{length}
+use mathlib.Core.Path.{_≡_, ap, subst, sym, _∙_}
+use Prim.Native.Nat.{ℕ, _-_}
 use borrow.Author.Tests.{not-false, not-true}
-use Rattle.model.specs.Sizes.{mostTasks}
 use Rattle.table.specs.Words.{count}
-use Rattle.priority_order.specs.Answer.{answerIn, noOrder, givenOrder, positionsOf}
+use Rattle.priority_order.specs.Answer.{givenOrder, positionsOf}
 use Rattle.priority_order.specs.Orders.{OrderIn, Permutation}
-use Rattle.priority_order.specs.Repair.{choiceOf, just, nextOrder, nothing, repairs, same, verdictIn}
+use Rattle.priority_order.specs.Repair.{just, nextOrder, same}
 use Rattle.priority_order.specs.Tried.{isAccepted}
 use Rattle.priority_order.proofs.Choosing.{Going, going-given, going-kept, going-none, going-on, going-spent, going-start}
 use Rattle.priority_order.proofs.Reordering.{tasks-few}

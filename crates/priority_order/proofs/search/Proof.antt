@@ -1,24 +1,22 @@
 -- `priority_order::search` meets its contract: `Seen` says what code has of the orders tried so far. Assumes nothing.
-use mathlib.Core.Bool.{false, true}
+use mathlib.Core.Bool.{false}
 use mathlib.Core.List.{List}
-use mathlib.Core.Path.{_≡_, ap, ap₂, refl, subst, sym, _∙_}
-use Prim.Native.Nat.{ℕ, min, _+_, _-_, _<_, _≤_}
+use mathlib.Core.Path.{_≡_, ap, subst, sym, _∙_}
+use Prim.Native.Nat.{ℕ, min, _-_, _≤_}
 use native.Mathlib.Nat.{min-le-left}
-use lib.ListN.{length}
 use borrow.Author.Tests.{not-false, not-true}
-use Rattle.model.specs.Sizes.{mostTasks}
 use Rattle.model.specs.Task.{Table}
 use Rattle.table.specs.declared.Answer.the-variants.{Passed}
 use Rattle.table.proofs.Tasks.{table-length}
-use Rattle.table.specs.Load.{LoadedAs, loadMeaning}
+use Rattle.table.specs.Load.{loadMeaning}
 use Rattle.table.specs.Words.{count, tableOf}
 use Rattle.table.proofs.Fit.{fit, same-table}
 use Rattle.judge.specs.declared.Verdict.the-variants.{Refused}
-use Rattle.table.specs.Fit.{Fit, loadedTable}
+use Rattle.table.specs.Fit.{Fit}
 use Rattle.priority_order.specs.declared.Outcome.the-variants.{None}
 use Rattle.priority_order.specs.Answer.{answerIn, givenOrder, noOrder, positionsOf}
-use Rattle.priority_order.specs.Orders.{OrderIn, Permutation, ownOrder}
-use Rattle.priority_order.specs.Repair.{laterOf, noMiss, repairs, verdictIn}
+use Rattle.priority_order.specs.Orders.{OrderIn, Permutation}
+use Rattle.priority_order.specs.Repair.{laterOf, noMiss, repairs}
 use Rattle.priority_order.specs.Sorted.{sortedOrder, sortedOrders}
 use Rattle.priority_order.specs.Tried.{isFirm}
 use Rattle.priority_order.proofs.Repairing.{passed-answer}

@@ -1,12 +1,12 @@
 -- `priority_order::links::record_at` meets its contract: after i steps the walk is at place i of the chain. Assumes nothing.
 use mathlib.Core.Path.{_≡_, ap, refl, sym, _∙_}
-use Prim.Native.Nat.{ℕ, suc, _-_, _<_, _≤_}
+use Prim.Native.Nat.{suc, _-_, _<_, _≤_}
 use native.Mathlib.Nat.{add-zero}
 use native.Mathlib.Numerals.{add-one}
 use lib.ListN.{length}
 use Rattle.table.proofs.HeaderPasses.{words-long}
 use Rattle.table.specs.Numbers.{one}
-use Rattle.table.specs.Words.{count, next, visited, word}
+use Rattle.table.specs.Words.{next, visited, word}
 use Rattle.conflict.proofs.Linked.{chain-in, next-inside, words-most}
 use Rattle.conflict.specs.Relinked.{mostWords, nextWordAt}
 use native.Mathlib.Omega.{arith}

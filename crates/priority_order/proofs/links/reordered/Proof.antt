@@ -1,12 +1,11 @@
 -- `priority_order::links::reordered` meets its contract: `Linking` says what is yet to be linked. Assumes nothing.
 use mathlib.Core.List.{List}
-use mathlib.Core.Path.{_≡_, ap, refl, subst, sym, _∙_}
-use Prim.Native.Nat.{ℕ, _+_, _-_, _<_, _≤_}
-use native.Mathlib.Nat.{add-zero}
-use lib.ListN.{getD, length, set}
+use mathlib.Core.Path.{subst, sym}
+use Prim.Native.Nat.{ℕ, _-_, _<_, _≤_}
+use lib.ListN.{getD, length}
 use Rattle.model.specs.Sizes.{mostTasks}
-use Rattle.table.specs.Numbers.{NoneApplies, one}
-use Rattle.table.specs.Words.{count, visited}
+use Rattle.table.specs.Numbers.{one}
+use Rattle.table.specs.Words.{count}
 use Rattle.conflict.proofs.Linked.{words-most}
 use Rattle.conflict.specs.Relinked.{mostWords, nextWordAt}
 use Rattle.priority_order.specs.Orders.{Permutation}

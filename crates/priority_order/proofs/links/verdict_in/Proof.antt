@@ -3,7 +3,6 @@ use mathlib.Core.List.{List}
 use mathlib.Core.Path.{_≡_, ap, subst, sym, _∙_}
 use Prim.Native.Nat.{ℕ}
 use lib.ListN.{length, length-take}
-use Rattle.table.specs.Words.{count}
 use Rattle.judge.specs.Judged.{Judged}
 use Rattle.priority_order.specs.Orders.{Permutation, reordered}
 use Rattle.priority_order.proofs.Reordering.{reordered-length}

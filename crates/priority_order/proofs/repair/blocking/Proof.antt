@@ -1,14 +1,12 @@
 -- `priority_order::repair::blocking` meets its contract: the table in the order has this first miss, and its facts are counted. Assumes nothing.
 use mathlib.Core.List.{List}
-use mathlib.Core.Path.{_≡_, ap, refl, subst, sym, _∙_}
+use mathlib.Core.Path.{_≡_, ap, subst, sym, _∙_}
 use Prim.Native.Nat.{ℕ, suc, _-_, _≤_}
 use lib.ListN.{length, length-take}
 use Rattle.model.specs.Horizon.{horizon}
 use Rattle.model.specs.Task.{Table}
 use Rattle.model.specs.Verdict.{FirstMiss}
-use Rattle.table.specs.declared.Answer.{Answer}
 use Rattle.table.specs.declared.Answer.the-variants.{Passed}
-use Rattle.table.specs.declared.Loaded.{Loaded}
 use Rattle.table.specs.Load.{LoadOf}
 use Rattle.table.specs.Words.{count, tableOf}
 use Rattle.table.proofs.Fit.{fit, same-table}

@@ -1,5 +1,5 @@
 -- `priority_order::repair::late_of` meets its contract. Assumes nothing.
-use mathlib.Core.Path.{_≡_, ap, sym, _∙_}
+use mathlib.Core.Path.{ap, sym, _∙_}
 use Rattle.judge.specs.declared.Verdict.{Verdict}
 use Rattle.priority_order.specs.Repair.{lateOf}
 use borrow.Author.Needs.{needs}

@@ -1,6 +1,6 @@
 -- `priority_order::repair::later` meets its contract. Assumes nothing.
 use mathlib.Core.Bool.{Bool, cond}
-use mathlib.Core.Path.{_≡_, ap, sym}
+use mathlib.Core.Path.{ap, sym}
 use Rattle.priority_order.specs.declared.repair.Late.{Late}
 use Rattle.priority_order.proofs.repair.later.Statement.{statement}
 use Rattle.priority_order.proofs.repair.later.Tie as tie

@@ -1,6 +1,6 @@
 -- `priority_order::repair::most_ran` meets its contract: the most of what is left is the most of all. Assumes nothing.
-use mathlib.Core.Path.{_≡_, ap, ap₂, refl, sym, _∙_}
-use Prim.Native.Nat.{ℕ, suc, _-_, _<_, _≤_}
+use mathlib.Core.Path.{_≡_, ap, refl, sym, _∙_}
+use Prim.Native.Nat.{ℕ, suc, _-_, _≤_}
 use Rattle.model.specs.Sizes.{mostTasks}
 use mathlib.Core.Logic.{⊎-elim}
 use native.Mathlib.Numerals.{add-one}

@@ -3,7 +3,6 @@ use mathlib.Core.Bool.{true}
 use mathlib.Core.Path.{_≡_, ap, subst, sym, _∙_}
 use Prim.Native.Nat.{ℕ, _-_, _<_}
 use borrow.Author.Tests.{not-false, not-true}
-use Rattle.table.specs.Words.{count}
 use Rattle.priority_order.specs.Orders.{Permutation, moved}
 use Rattle.priority_order.specs.Repair.{just}
 use Rattle.priority_order.proofs.Reordering.{tasks-few}
