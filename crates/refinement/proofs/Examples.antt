@@ -169,9 +169,9 @@ unfolding computing expected records startOf startAnswer verdictOf answerOf byWa
 starting = tt
 
 -- each table of lines: one check over it
-begun : map begins lines ≡ map expected lines
+begun-lines : map begins lines ≡ map expected lines
 unfolding starting
-begun = refl
+begun-lines = refl
 
 begun-empty : map begins empty-lines ≡ map expected empty-lines
 unfolding starting

@@ -140,9 +140,9 @@ state-of k = tickStateOf (k .loop .registers) (k .loop .places)
 abbrev nums : tie.After-places Inv-loop μ-loop → Numbers
 nums p = let r = columns-of-from-places p .columns-of .result in numbersBy (r .setting) (r .widths) (r .times)
 
-begins : (k : tie.At-loop Inv-loop μ-loop) → k .loop .registers .tick < tick-of (k .before)
+ticks-begin : (k : tie.At-loop Inv-loop μ-loop) → k .loop .registers .tick < tick-of (k .before)
     → TicksBegin (table-of (k .before)) (nums (k .before)) (state-of k) (k .loop .registers .tick + 1)
-begins k l =
+ticks-begin k l =
     let x = entry-from-places (k .before) in
     record { fit = x .pre .0; numbers = own (k .before) .numbers; refines = counting-of k .follows; within = omega arith; early = omega (arith, l, x .pre .2) }
 
@@ -153,7 +153,7 @@ stepped g =
     let p = k .before in
     let x = entry-from-places p in
     let l = then1 g .if1 .taken in
-    one-tick (table-of p) (nums p) (state-of k) _ _ (begins k l)
+    one-tick (table-of p) (nums p) (state-of k) _ _ (ticks-begin k l)
     (met-here (table-of p) (x .pre .0) (tick-of p) (place-of p) (x .pre .1) (state-of k) (k .loop .ran) (counting-of k) l) (g .run-on .ensures)
 
 -- .. as a tick of table t
@@ -220,7 +220,7 @@ add-run-on c =
 run-on-requires : tie.Need-run-on-requires Inv-loop μ-loop
 run-on-requires c κs =
     let e = c .before .before .before in
-    (table-of (e .before .before .before), begins (e .before .before) (e .if1 .taken))
+    (table-of (e .before .before .before), ticks-begin (e .before .before) (e .if1 .taken))
 
 has-requires : tie.Need-has-requires Inv-loop μ-loop
 has-requires c κs = let x = entry-from-then2 c in inside (x .args .table) (x .pre .0) (x .args .tick) (x .args .place) (x .pre .1) .1
