@@ -1,5 +1,5 @@
 -- What was written at the front of a buffer is the text; numbers written one after the other.
-use mathlib.Core.List.{List, [], _∷_, _++_, append-assoc}
+use mathlib.Core.List.{List, [], _∷_, _++_, append-assoc, append-nil}
 use mathlib.Core.Path.{_≡_, refl, sym, ap, _∙_, subst}
 use Prim.Native.Nat.{ℕ, _+_, _≤_, _<_}
 use native.Mathlib.Omega.{arith}
@@ -12,7 +12,6 @@ use Rattle.text.specs.Written.{Put}
 use Rattle.text.proofs.RowText.{fields-next}
 use Rattle.text.proofs.Writing.{put-front, put-length, put-one, put-then}
 use Rattle.session.specs.Session.{TextWritten}
-use Rattle.session.proofs.Transcripts.{nil-right}
 
 pub text-put : {text before after : List ℕ} {n : ℕ} → Put before 0 text after n → n ≤ length before → TextWritten text before after n
 text-put {text} {before} {after} {n} p h = record {
@@ -38,7 +37,7 @@ fields-more ns i h = sym (append-assoc (fields (take i ns)) (space ∷ []) (deci
 -- one number
 pub one-field : (n : ℕ) {at end : ℕ} {before after : List ℕ} → Put before at (space ∷ decimal n) after end → Put before at (fields (n ∷ [])) after end
 unfolding fields
-one-field n {at} {end} {before} {after} p = subst (λ (x : List ℕ). Put before at (space ∷ x) after end) (sym (nil-right (decimal n))) p
+one-field n {at} {end} {before} {after} p = subst (λ (x : List ℕ). Put before at (space ∷ x) after end) (sym (append-nil (decimal n))) p
 
 -- a word, numbers and a newline, one after the other, are a line
 pub line-put :
