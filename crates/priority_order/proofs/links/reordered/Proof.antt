@@ -1,8 +1,9 @@
 -- `priority_order::links::reordered` meets its contract: `Linking` says what is yet to be linked. Assumes nothing.
 use mathlib.Core.List.{List}
-use mathlib.Core.Path.{subst, sym}
+use mathlib.Core.Path.{refl, subst, sym, ap, _∙_}
 use Prim.Native.Nat.{ℕ, _-_, _<_, _≤_}
-use lib.ListN.{getD, length}
+use lib.ListN.{getD, length, replicate, take}
+use lib.Seq.{take-at}
 use Rattle.model.specs.Sizes.{mostTasks}
 use Rattle.table.specs.Numbers.{one}
 use Rattle.table.specs.Words.{count}
@@ -56,7 +57,10 @@ copied-requires : tie.Need-copied-requires Inv-loop μ-loop
 copied-requires c κs = most (c .before)
 
 loop-holds : tie.Need-loop-holds Inv-loop μ-loop
-loop-holds c = let s = c .before .before in linking-start (words s) (s .pre .passes) (s .args .t2) (order s) (c .copied .result) (c .copied .ensures)
+loop-holds c =
+    let s = c .before .before in
+    linking-start (words s) (s .pre .passes) (s .args .t2) (order s) (c .copied .result)
+    (ap (take (length (words s))) (c .copied .ensures) ∙ take-at (words s) (replicate (mostWords - length (words s)) 0) (length (words s)) refl)
 
 mul-place : tie.Need-mul-place Inv-loop μ-loop
 mul-place c = let s = entry (c .before) in omega (arith, few s, c .loop-test .taken)
