@@ -206,7 +206,7 @@ through ls works starts =
 
 -- THEOREM: every marked line of the table of examples, through the contract of `replay`
 pub through-replay : Each (λ l. ByVerdict (l .result) l) lines
-through-replay = through lines examples begun
+through-replay = through lines examples begun-lines
 
 -- and every line with empty jobs
 pub empty-through-replay : Each (λ l. ByVerdict (l .result) l) empty-lines
