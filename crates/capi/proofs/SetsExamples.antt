@@ -6,7 +6,6 @@ use mathlib.Core.Path.{_≡_, refl}
 use mathlib.Core.Bool.{false}
 use Prim.Native.Nat.{ℕ}
 use lib.ListN.{replicate}
-use Rattle.model.proofs.LineByLine.{LineByLine, by-line}
 use Rattle.phase.specs.declared.Phase.{Phase}
 use Rattle.phase.specs.declared.Phase.the-variants.{Working, Holding, Resting}
 use Rattle.phase.specs.declared.Task.{Task}
@@ -119,9 +118,6 @@ lines =
     ∷ []
 
 -- every line is its value by the definitions
-computed : LineByLine worked lines lines
-unfolding calling
-computed = (refl, (refl, (refl, (refl, (refl, (refl, (refl, (refl, (refl, (refl, (refl, (refl, (refl, (refl, (refl, (refl, (refl, (refl, (refl, (refl, (refl, (refl, (refl, (refl, (refl, (refl, (refl, (refl, (refl, (refl, (refl, (refl, tt))))))))))))))))))))))))))))))))
-
 pub examples : map worked lines ≡ lines
-examples = by-line worked lines lines computed
+unfolding calling
+examples = refl

@@ -3,7 +3,6 @@
 use mathlib.Core.List.{List, [], _∷_, map}
 use mathlib.Core.Path.{_≡_, refl}
 use Prim.Native.Nat.{ℕ}
-use Rattle.model.proofs.LineByLine.{LineByLine, by-line}
 use Rattle.model.specs.Working.{setWhere}
 use Rattle.phase.specs.declared.Phase.the-variants.{Working, Resting}
 use Rattle.run.specs.Working.{workingOf}
@@ -69,9 +68,6 @@ lines =
     ∷ fits ∷ stays (fresh (plain 1 3)) 0 3 ∷ stays (fresh (plain 1 3)) 1 2 ∷ stays [] 0 0
     ∷ []
 
-computed : LineByLine worked lines lines
-unfolding calling workingCall workingOf setWhere
-computed = (refl, (refl, (refl, (refl, (refl, (refl, (refl, (refl, (refl, (refl, (refl, (refl, (refl, (refl, (refl, (refl, (refl, (refl, (refl, (refl, (refl, tt)))))))))))))))))))))
-
 pub examples : map worked lines ≡ lines
-examples = by-line worked lines lines computed
+unfolding calling workingCall workingOf setWhere
+examples = refl

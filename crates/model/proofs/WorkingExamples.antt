@@ -5,7 +5,6 @@ use Rattle.model.proofs.Computing.{computing}
 use Rattle.model.proofs.EmptyExamples.{noPlaces}
 use Rattle.model.proofs.Examples.{B}
 use Rattle.model.proofs.LendExamples.{figure-3}
-use Rattle.model.proofs.LineByLine.{LineByLine, by-line}
 use Rattle.model.proofs.SetsExamples.{Line, all-wide, early, line}
 use Rattle.model.specs.Advance.{advance, withdrawAll}
 use Rattle.model.specs.Lists.{book}
@@ -32,9 +31,6 @@ working-lines =
     ∷ line "15 before 20" (B greedy) (advance 1 0 ∷ noPlaces ∷ []) 8 (rowRefused 15 3)
     ∷ []
 
-computed : LineByLine answered working-lines working-lines
-unfolding computing setWhere workingAsked
-computed = (refl, (refl, (refl, (refl, (refl, (refl, (refl, (refl, (refl, (refl, (refl, tt)))))))))))
-
 pub working-examples : map answered working-lines ≡ working-lines
-working-examples = by-line answered working-lines working-lines computed
+unfolding computing setWhere workingAsked
+working-examples = refl

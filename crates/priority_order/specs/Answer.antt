@@ -38,12 +38,12 @@ givenOrder (judge.Full a b) ps = record { outcome = Full a b; order = ps }
 givenOrder (judge.Miss t p) ps = noOrder (None 0)
 givenOrder (judge.Refused n p) ps = noOrder (None 0)
 
--- the chosen order; or none of the orders tried, of which there are so many
+-- the chosen order; or none of the orders tried, with their number
 abbrev pub answerBy : List ℕ → ℕ → Choice → OrderAnswer
 answerBy ws tried nothing = noOrder (None tried)
 answerBy ws tried (just o) = givenOrder (verdictIn ws o) (positionsOf (count ws) o)
 
--- of these orders, tried after so many others that do not fit
+-- of these orders, tried after a number of others that do not fit
 abbrev pub answerIn : List ℕ → ℕ → List (List ℕ) → OrderAnswer
 answerIn ws tried os = answerBy ws (tried + length os) (chosenOf ws os)
 

@@ -25,7 +25,7 @@ pub const JUDGINGS: u32 = 200;
 // The number of sorted orders.
 const SORTED: u32 = 5;
 
-// Firm or Full with S and P in the order given; none of so many orders fits; or Refused with number and position.
+// Firm or Full with S and P in the order given; none of this number of orders fits; or Refused with number and position.
 pub enum Outcome {
     Firm(u32, u32),
     Full(u32, u32),
@@ -136,7 +136,7 @@ fn power_after(number: u64, power: u64) -> u64
     if number == power { 2 * power } else { power }
 }
 
-// Repair of an order that misses, at most `most` judgings, after so many others.
+// Repair of an order that misses, at most `most` judgings, after a number of others.
 fn repaired(words: &[u32], count: usize, start: Late, tried: u32, most: u32) -> OrderAnswer
     requires { ⌜ OrderIn (now words) count (start .order) × LateIn (now words) start × (tried + most < 4294967296) ⌝ }
     ensures { λ r. ⌜ r ≡ answerIn (now (words .entry)) tried (repairs (now (words .entry)) most (start .order) 1 1 (start .order)) ⌝ }
@@ -210,7 +210,7 @@ fn search(words: &[u32], table: Loaded, judgings: u32) -> OrderAnswer
     repaired(words, count, late, first, judgings - first)
 }
 
-// An order of its tasks under which the table in these words is accepted, found in at most so many judgings.
+// An order of its tasks under which the table in these words is accepted, found in at most this number of judgings.
 pub fn order(words: &[u32], judgings: u32) -> OrderAnswer
     ensures { λ r. ⌜ OrderOf (now (words .entry)) judgings r ⌝ }
 {

@@ -26,7 +26,7 @@ fn record_at(words: &[u32], place: usize) -> u32
     number
 }
 
-// The words of the table in an order, with zeros after them: the next of each record is the one after it in the order, that of the last is zero.
+// The words of the table in an order: the next of each record is the one after it in the order, that of the last is zero.
 pub(crate) fn reordered(words: &[u32], order: [u32; MOST_TASKS], count: usize) -> [u32; WORDS]
     requires { ⌜ OrderIn (now words) count order ⌝ }
     ensures { λ r. ⌜ take (length (now (words .entry))) r ≡ reordered (now (words .entry)) order ⌝ }

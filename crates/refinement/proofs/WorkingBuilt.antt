@@ -5,7 +5,6 @@ use mathlib.Core.Path.{_≡_, refl}
 use Prim.Native.Nat.{ℕ, _-_, _^_}
 use Prim.Native.String.{String}
 use lib.ListN.{replicate}
-use Rattle.model.proofs.LineByLine.{LineByLine, by-line}
 use Rattle.model.specs.Sets.{setOf}
 use Rattle.model.specs.Working.{setWhere}
 use Rattle.phase.specs.declared.Phase.the-variants.{Coming, Working, Holding, Resting}
@@ -57,9 +56,6 @@ working-lines =
     ∷ refuses "20: past the count" (pair 1 (Working 0 0 0) (Working 0 0 0)) 4 20 0
     ∷ []
 
-computed : LineByLine asked working-lines working-lines
-unfolding running workingOf setWhere setOf
-computed = (refl, (refl, (refl, (refl, (refl, (refl, (refl, (refl, (refl, (refl, (refl, (refl, (refl, (refl, tt))))))))))))))
-
 pub working-examples : map asked working-lines ≡ working-lines
-working-examples = by-line asked working-lines working-lines computed
+unfolding running workingOf setWhere setOf
+working-examples = refl
