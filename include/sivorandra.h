@@ -671,6 +671,24 @@ SIVORANDRA_TYPED int sivorandra_table_judge(const uint32_t *words, size_t words_
     return sivorandra_told(value, told, SIVORANDRA_IS_FIRM, answer);
 }
 
+/* The same, always tick by tick. */
+SIVORANDRA_TYPED int sivorandra_table_judge_ticks(const uint32_t *words, size_t words_len,
+                                                  struct sivorandra_answer *answer)
+{
+    uint32_t told[SIVORANDRA_ANSWER_WORDS] = { 0 };
+    uint32_t value = sivorandra_judge_ticks(words, words_len, told, SIVORANDRA_ANSWER_WORDS);
+    return sivorandra_told(value, told, SIVORANDRA_IS_FIRM, answer);
+}
+
+/* The same, always event by event. */
+SIVORANDRA_TYPED int sivorandra_table_judge_events(const uint32_t *words, size_t words_len,
+                                                   struct sivorandra_answer *answer)
+{
+    uint32_t told[SIVORANDRA_ANSWER_WORDS] = { 0 };
+    uint32_t value = sivorandra_judge_events(words, words_len, told, SIVORANDRA_ANSWER_WORDS);
+    return sivorandra_told(value, told, SIVORANDRA_IS_FIRM, answer);
+}
+
 /* Rows a up to but not including b, a byte a core. */
 SIVORANDRA_TYPED int sivorandra_table_plan(const uint32_t *words, size_t words_len, uint32_t a,
                                            uint32_t b, uint8_t *rows, size_t rows_len,

@@ -209,16 +209,41 @@ struct Verdict {
     bool accepted() const { return is != Case::miss; }
 };
 
+namespace detail {
+
+inline Result<Verdict> verdict(int status, const sivorandra_answer &answer)
+{
+    auto is = answer.kind == SIVORANDRA_IS_FIRM   ? Verdict::Case::firm
+              : answer.kind == SIVORANDRA_IS_FULL ? Verdict::Case::full
+                                                  : Verdict::Case::miss;
+    return result(answer.kind == SIVORANDRA_IS_MISS ? 0 : status, answer,
+                  Verdict{is, answer.first, answer.second});
+}
+
+} // namespace detail
+
 /* firm, full or miss; or refused by the table's numbers. */
 inline Result<Verdict> judge(Words words)
 {
     sivorandra_answer answer;
     int status = sivorandra_table_judge(words.data(), words.size(), &answer);
-    auto is = answer.kind == SIVORANDRA_IS_FIRM   ? Verdict::Case::firm
-              : answer.kind == SIVORANDRA_IS_FULL ? Verdict::Case::full
-                                                  : Verdict::Case::miss;
-    return detail::result(answer.kind == SIVORANDRA_IS_MISS ? 0 : status, answer,
-                          Verdict{is, answer.first, answer.second});
+    return detail::verdict(status, answer);
+}
+
+/* The same, always tick by tick. */
+inline Result<Verdict> judge_ticks(Words words)
+{
+    sivorandra_answer answer;
+    int status = sivorandra_table_judge_ticks(words.data(), words.size(), &answer);
+    return detail::verdict(status, answer);
+}
+
+/* The same, always event by event. */
+inline Result<Verdict> judge_events(Words words)
+{
+    sivorandra_answer answer;
+    int status = sivorandra_table_judge_events(words.data(), words.size(), &answer);
+    return detail::verdict(status, answer);
 }
 
 /* Rows a up to but not including b, a byte a core. */

@@ -48,8 +48,12 @@ int main(void)
         uint32_t figures[32], run[SIVORANDRA_RUN_WORDS], set;
         uint64_t sets[32];
         uint8_t row[64], text[SIVORANDRA_SENTENCE_BYTES + 1] = { 0 };
-        uint32_t value = sivorandra_judge(words, len, answer, 3);
-        tell(value, "firm");
+        uint32_t value;
+        tell(sivorandra_judge(words, len, answer, 3), "firm");
+        printf("\n");
+        tell(sivorandra_judge_ticks(words, len, answer, 3), "firm");
+        printf("\n");
+        tell(sivorandra_judge_events(words, len, answer, 3), "firm");
         printf("\n");
         value = sivorandra_sentence(words, len, text, SIVORANDRA_SENTENCE_BYTES, answer, 3);
         text[value == 0 && answer[0] == 0 ? answer[1] : 0] = 0;

@@ -47,6 +47,10 @@ int main(void)
         char text[SIVORANDRA_SENTENCE_BYTES + 1];
         tell(sivorandra_table_judge(words, len, &answer));
         printf("\n");
+        tell(sivorandra_table_judge_ticks(words, len, &answer));
+        printf("\n");
+        tell(sivorandra_table_judge_events(words, len, &answer));
+        printf("\n");
         tell(sivorandra_table_sentence(words, len, text, &answer));
         printf(" '%s'\n", text);
         tell(sivorandra_table_response_times(words, len, figures, &answer));

@@ -37,12 +37,13 @@ void mix(const std::uint32_t *words)
 void ask(const question &asked)
 {
     sivorandra::Words words(asked.words, asked.words_len);
-    auto verdict = sivorandra::judge(words);
-    if (verdict) {
-        static const char *const names[] = {"firm", "full", "miss"};
-        std::printf("%s %u %u\n", names[static_cast<int>(verdict->is)], static_cast<unsigned>(verdict->first), static_cast<unsigned>(verdict->second));
-    } else {
-        tell(verdict);
+    for (auto judge : {sivorandra::judge, sivorandra::judge_ticks, sivorandra::judge_events}) {
+        auto verdict = judge(words);
+        if (verdict) {
+            static const char *const names[] = {"firm", "full", "miss"};
+            std::printf("%s %u %u", names[static_cast<int>(verdict->is)], static_cast<unsigned>(verdict->first), static_cast<unsigned>(verdict->second));
+        } else
+            tell(verdict);
         std::printf("\n");
     }
     auto why = sivorandra::sentence(words);

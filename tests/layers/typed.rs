@@ -1,5 +1,5 @@
 //! The functions of Rust for tests/outside/layers, printed as plain.c prints the plain calls.
-use sivorandra::{bounds, conflict, judge, plan, replay, response_times, sentence, slack, Entry, Refusal, RowAnswer, Run, SuppliedPlan, Verdict, PLAN_WORDS, RUN_WORDS};
+use sivorandra::{bounds, conflict, judge, judge_events, judge_ticks, plan, replay, response_times, sentence, slack, Entry, Refusal, RowAnswer, Run, SuppliedPlan, Verdict, PLAN_WORDS, RUN_WORDS};
 use std::fmt::Display;
 use std::io::{stdin, BufRead};
 
@@ -46,7 +46,9 @@ fn entries_of(operations: &str) -> Vec<Entry> {
 
 fn ask(words: &[u32], operations: &str) {
     let verdict = judge(words);
-    println!("{}", told(verdict, |verdict| verdict.to_string()));
+    for verdict in [verdict, judge_ticks(words), judge_events(words)] {
+        println!("{}", told(verdict, |verdict| verdict.to_string()));
+    }
     println!("{}", told(sentence(words), |text| format!("done {} 0 '{text}'", text.len())) + if matches!(verdict, Ok(Verdict::Miss { .. })) { "" } else { " ''" });
     println!("{}", figures(response_times(words)));
     let tested = bounds(words);

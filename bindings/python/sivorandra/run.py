@@ -4,7 +4,7 @@ from dataclasses import dataclass, field
 from typing import Iterable, Sequence, Tuple
 
 from . import library
-from .table import AnyTable, set_of, words_in
+from .table import AnyTable, positions_in, set_of, words_in
 
 
 @dataclass
@@ -17,6 +17,8 @@ class Run:
     >>> run.advance(ended=[1])  # position 1 has ended, and a tick more is reserved for it
     >>> run.tick, run.row()  # position 2 borrows one of its cores
     (1, (2, 1))
+    >>> run.working()  # position 1 has cores and does not work
+    (2,)
     >>> run.advance(ended=[1])
     Traceback (most recent call last):
     sivorandra.refusals.Refusal: refused 16 0 (BAD_REPORT)
@@ -54,6 +56,12 @@ class Run:
         sets = (ctypes.c_uint64 * library.MOST_TASKS)()
         library.call("sets", library.words_of(self.words), set_of(empty), sets)
         return tuple(frozenset(core for core in range(64) if bits >> core & 1) for bits in sets[:self.count])
+
+    def working(self, empty: Iterable[int] = ()) -> Tuple[int, ...]:
+        """The positions whose job works in this tick: those that may be reported as ended."""
+        found = (ctypes.c_uint32 * 1)()
+        library.call("working", library.words_of(self.words), set_of(empty), found)
+        return positions_in(found[0])
 
     def advance(self, ended: Iterable[int] = (), empty: Iterable[int] = ()) -> None:
         """A tick goes by: the jobs of these positions end after it, and those of the others were empty."""

@@ -244,13 +244,13 @@ def count_of(table: AnyTable) -> int:
     return count
 
 
-def judge(table: AnyTable, ticks: bool = False) -> Verdict:
-    """The verdict on a table; where `ticks` is true always tick by tick.
+def judge(table: AnyTable, ticks: bool = False, events: bool = False) -> Verdict:
+    """The verdict on a table; where `ticks` is true always tick by tick, else where `events` is true always event by event.
 
     >>> judge([1, 1, 1, 0, 0, 0, 0, 1, 1, 2, 2, 1])
     Verdict(word='firm', first=0, second=2)
     """
-    case, first, second = library.call("judge_ticks" if ticks else "judge", words_in(table))
+    case, first, second = library.call("judge_ticks" if ticks else "judge_events" if events else "judge", words_in(table))
     return Verdict(("firm", "full", "miss")[case], first, second)
 
 
@@ -295,7 +295,7 @@ def conflict(table: AnyTable) -> Tuple[int, ...]:
     (1,)
     """
     kept = library.call("conflict", words_in(table))[1]
-    return tuple(position + 1 for position in range(library.MOST_TASKS) if kept >> position & 1)
+    return positions_in(kept)
 
 
 def sentence(table: AnyTable) -> str:
@@ -323,6 +323,7 @@ def rows(table: AnyTable, since: int, until: int) -> List[Tuple[int, ...]]:
 
 
 def positions_in(bits: int) -> Tuple[int, ...]:
+    """The positions of a set in a word."""
     return tuple(at + 1 for at in range(bits.bit_length()) if bits >> at & 1)
 
 
