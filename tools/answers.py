@@ -39,7 +39,7 @@ class Answers:
     given: Input
     verdict: Verdict
     table: Optional[Table]
-    sentence: Union[str, None, Missing]
+    sentence: Union[str, Missing]
     conflict: Union[List[int], Missing]
     response_times: Union[List[int], Missing]
     slack: Union[List[int], Missing]
@@ -49,11 +49,9 @@ class Answers:
         return {"miss": MISSED, "refused": REFUSED}.get(self.verdict.word, FINE)
 
 
-def sentence_in(said: bytes, verdict: Verdict) -> Optional[str]:
-    """The sentence on a miss; without a miss the program prints the verdict, and there is none."""
+def sentence_in(said: bytes) -> str:
+    """The sentence on a miss."""
     sentence = said.decode("ascii", "replace").removesuffix("\n")
-    if verdict.word != "miss" and sentence == str(verdict):
-        return None
     if not SENTENCE.fullmatch(sentence):
         raise Trouble(f"the sentence is {sentence!r}")
     return sentence
@@ -74,5 +72,5 @@ def answers_of(folder: str, given: Input) -> Answers:
                 return NotWaited(programs.patience)
             return Refused(*numbers_in(found)) if found.startswith(b"refused ") else read(found)
         figures = lambda found: figures_in(found, table)
-        return Answers(given, verdict, table, answer("why", lambda found: sentence_in(found, verdict)), answer("clash", lambda found: clash_in(found.decode("ascii", "replace"), table).clash),
+        return Answers(given, verdict, table, answer("why", sentence_in), answer("clash", lambda found: clash_in(found.decode("ascii", "replace"), table).clash),
                        answer("longest", figures), answer("spare", figures))
