@@ -233,12 +233,10 @@ class Objects(unittest.TestCase):
         self.assertEqual([as_json.name_of(name) for name in ("-", "a\nb", "\udcff")], [None, "a\nb", "\\xff"])
 
     def test_sentences(self):
-        miss, full = printed.Verdict("miss", 5, 3), printed.Verdict("full", 0, 5)
-        self.assertEqual(answers.sentence_in(b"task 3 misses at tick 5 with 3 of 4 ticks.\n", miss), "task 3 misses at tick 5 with 3 of 4 ticks.")
-        self.assertIsNone(answers.sentence_in(b"full 0 5\n", full))
-        for said, verdict in ((b"full 0 6\n", full), (b"miss 5 3\n", miss), (b"", miss)):
+        self.assertEqual(answers.sentence_in(b"task 3 misses at tick 5 with 3 of 4 ticks.\n"), "task 3 misses at tick 5 with 3 of 4 ticks.")
+        for said in (b"full 0 5\n", b"miss 5 3\n", b""):
             with self.assertRaises(Trouble):
-                answers.sentence_in(said, verdict)
+                answers.sentence_in(said)
 
     def test_records_on_no_chain(self):
         loose = A.replace(b"1\n3\n1\n0\n0\n2\n", b"1\n3\n1\n0\n0\n0\n", 1)
