@@ -51,10 +51,10 @@ extern "C" {
 /* ================================================================ WHAT A CALL COSTS
 
    - Memory: none from the heap. Of the stack less than SIVORANDRA_STACK_BYTES (measured:
-     sentence 16,700 bytes, replay 16,300, check_row 15,600, check_begin 14,600, plan 14,000,
-     conflict 14,000, start 13,300, advance 12,300, slack 11,300, withdraw and withdraw_all
-     11,100, judge 10,300, response_times 6,600, judge_ticks 5,800, bounds 5,600, row 5,400,
-     sets 5,300, working 5,000, facts 700).
+     check_row 15,600 bytes, check_begin 14,600, replay 14,100, sentence 13,700, advance
+     12,800, start 12,200, slack 12,100, conflict 11,800, plan 11,400, withdraw and
+     withdraw_all 11,300, judge 7,300, judge_events 7,200, response_times 6,600, judge_ticks
+     5,700, bounds 5,600, row 5,400, sets 5,300, working 5,000, facts 700).
    - Threads: the library has no state and no data that is written to, so any number of
      threads may call at once, each with slices of its own to be written to; slices that are
      only read may be shared. Of the C library it calls memcpy and memset alone.
