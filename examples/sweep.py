@@ -41,8 +41,8 @@ def main(sheet: str = str(HERE / "cab.csv"), name: str = "camera") -> None:
         pyplot.plot([period for period, _ in fits], times, marker=".", label=task.name)
     pyplot.xlabel(f"period of {name}, in ticks")
     pyplot.ylabel("response times, in ticks")
-    pyplot.legend()
-    pyplot.savefig("sweep.svg")
+    pyplot.legend(loc="center left", bbox_to_anchor=(1, 0.5))
+    pyplot.savefig("sweep.svg", bbox_inches="tight")
 
 
 main(*sys.argv[1:])
