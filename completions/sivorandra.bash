@@ -1,26 +1,32 @@
 # Completion of sivorandra for bash: the options that can still be added, and file names.
 _sivorandra() {
     local word=${COMP_WORDS[COMP_CWORD]} before=${COMP_WORDS[COMP_CWORD - 1]} given option other without=''
-    local options='--verdict --why --longest --bounds --spare --clash --picture --report --from --to --replay --check --words --sheet-of --help --version --strict --sheet --names'
-    local alone='--verdict --why --longest --bounds --spare --check --words --sheet-of --help --version'
+    local options='--verdict --json --jobs --why --longest --bounds --spare --clash --picture --report --from --to --replay --check --compare --words --sheet-of --help --version --strict --sheet --names'
+    local alone='--verdict --json --why --longest --bounds --spare --check --words --sheet-of --help --version'
+    local main=${options%% --strict*}
     COMPREPLY=()
     case $before in
-    --from | --to) return ;;
-    --replay | --check) options='' ;;
+    --from | --to | --jobs) return ;;
+    --replay | --check | --compare) options='' ;;
     esac
     given=" ${COMP_WORDS[*]:1:COMP_CWORD-1} "
     [[ $given != *' --help '* && $given != *' --version '* ]] || return
     for option in $options; do # each option rules out itself and those that it cannot stand beside
         [[ $given == *" $option "* ]] || continue
-        case $option in --strict | --sheet | --names) without+=" $option --help --version"; continue ;; esac
-        without+=" $alone $option"
         case $option in
-        --verdict | --why | --longest | --bounds | --spare | --check) without+=" ${options%% --strict*}" ;;
+        --strict | --sheet | --names) without+=" $option --help --version"; continue ;;
+        --verdict | --json) without+=" ${main/--jobs /}"; continue ;;
+        --jobs) without+=" ${main/--verdict --json /}"; continue ;;
+        esac
+        without+=" $alone $option --jobs"
+        case $option in
+        --why | --longest | --bounds | --spare | --check) without+=" $main" ;;
         --words | --sheet-of) without+=" ${options/ --strict/}" ;;
-        --clash) without+=' --report --replay' ;;
-        --picture) without+=' --report' ;;
+        --clash) without+=' --report --replay --compare' ;;
+        --picture) without+=' --report --compare' ;;
         --report) without+=' --picture --clash' ;;
-        --replay) without+=' --clash' ;;
+        --replay) without+=' --clash --compare' ;;
+        --compare) without+=' --clash --picture --replay' ;;
         esac
     done
     for other in $options; do

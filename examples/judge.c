@@ -1,74 +1,74 @@
-/* The table of tables/a.txt from C: its verdict, why where it misses, its rows, two ticks of a run in which the job of position 1 ends early, and one in which it is empty.
-   In the repository: tools/archive && gcc -Iinclude examples/judge.c -Ltarget/staticlib -lsivorandra -o judge
+/* Judges a table from C: judge FILE prints the verdict, why where it misses, and the first rows.
+   The status is 0 where the table is accepted, 1 where it misses, 2 where it is refused.
+   Here: tools/archive && gcc -Iinclude examples/judge.c -Ltarget/staticlib -lsivorandra -o judge
    Installed: gcc examples/judge.c $(pkg-config --cflags --libs sivorandra) -o judge */
+#include <ctype.h>
 #include <stdio.h>
+#include <stdlib.h>
 #include "sivorandra.h"
 
-/* head, cores, rule, two words of fenced cores; then for each record: next, offset, width, length, deadline, period, width of even jobs */
-static const uint32_t table[] = {
-    1, 3, 1, 0, 0,
-    2, 0, 2, 2, 5, 5, 2,
-    3, 0, 2, 3, 5, 5, 2,
-    0, 0, 1, 4, 5, 5, 1,
-};
-enum { WORDS = sizeof table / sizeof table[0], CORES = 3 };
+enum { ROWS = 10 }; /* at most so many rows are printed */
 
-static void print_row(uint32_t tick, const uint8_t *row)
+/* The numbers of a file, one a line; none, which is no table, where a line has something else. */
+static size_t read_words(FILE *file, uint32_t *words, size_t most)
 {
-    printf("%u", (unsigned)tick);
-    for (int core = 0; core < CORES; core++)
-        printf(" %d", row[core]);
-    printf("\n");
+    char line[16];
+    size_t count = 0;
+    while (fgets(line, sizeof line, file)) {
+        char *end;
+        unsigned long long value = strtoull(line, &end, 10);
+        if (!isdigit((unsigned char)line[0]) || (*end != '\n' && *end != '\0'))
+            return 0;
+        if (value > UINT32_MAX || count == most)
+            return 0;
+        words[count++] = (uint32_t)value;
+    }
+    return count;
 }
 
-/* Whether the call was answered, and by anything but a refusal. */
-static int fine(uint32_t value, const uint32_t *answer)
+static int refused(const struct sivorandra_answer *answer)
 {
-    if (value == SIVORANDRA_ANSWERED && answer[0] < SIVORANDRA_REFUSED)
-        return 1;
-    printf("refused %u %u\n", (unsigned)answer[1], (unsigned)answer[2]);
-    return 0;
+    printf("refused %u %u: %s\n", (unsigned)answer->first, (unsigned)answer->second,
+           sivorandra_number_text(answer->first));
+    return 2;
 }
 
-int main(void)
+int main(int argc, char **argv)
 {
-    static const char *const words[] = { "firm", "full", "miss" };
-    uint32_t answer[SIVORANDRA_ANSWER_WORDS] = { 0 };
-    if (!fine(sivorandra_judge(table, WORDS, answer, 3), answer))
-        return 1;
-    printf("%s %u %u\n", words[answer[0]], (unsigned)answer[1], (unsigned)answer[2]);
-
-    uint32_t ticks = answer[0] == SIVORANDRA_MISS ? answer[1] : answer[1] + answer[2];
-    if (answer[0] == SIVORANDRA_MISS) {
-        uint8_t sentence[SIVORANDRA_SENTENCE_BYTES];
-        if (!fine(sivorandra_sentence(table, WORDS, sentence, sizeof sentence, answer, 3), answer))
-            return 1;
-        printf("%.*s\n", (int)answer[1], (const char *)sentence);
+    static uint32_t words[SIVORANDRA_TABLE_WORDS];
+    static uint8_t rows[ROWS * SIVORANDRA_MOST_CORES];
+    char why[SIVORANDRA_SENTENCE_BYTES + 1];
+    struct sivorandra_answer verdict, answer;
+    FILE *file = argc == 2 ? fopen(argv[1], "r") : NULL;
+    if (!file) {
+        fprintf(stderr, argc == 2 ? "judge: %s cannot be read\n" : "usage: %s FILE\n",
+                argc == 2 ? argv[1] : argv[0]);
+        return 3;
     }
-    uint8_t rows[5 * CORES];
-    if (!fine(sivorandra_plan(table, WORDS, 0, ticks, rows, sizeof rows, answer, 3), answer))
-        return 1;
-    for (uint32_t tick = 0; tick < ticks; tick++)
-        print_row(tick, rows + tick * CORES);
+    size_t count = read_words(file, words, SIVORANDRA_TABLE_WORDS);
+    fclose(file);
 
-    uint32_t run[SIVORANDRA_RUN_WORDS];
-    uint8_t row[SIVORANDRA_ROW_BYTES];
-    if (!fine(sivorandra_start(table, WORDS, run, SIVORANDRA_RUN_WORDS, answer, 3), answer))
-        return 1;
-    printf("the job of position 1 ends after tick 0\n");
-    for (uint32_t tick = 0; tick < 2; tick++) {
-        if (!fine(sivorandra_row(run, SIVORANDRA_RUN_WORDS, 0, row, sizeof row, answer, 3), answer))
-            return 1;
-        print_row(tick, row);
-        if (!fine(sivorandra_advance(run, SIVORANDRA_RUN_WORDS, tick == 0 ? 1 : 0, 0, answer, 3), answer))
-            return 1;
+    int status = sivorandra_table_judge(words, count, &verdict);
+    if (status != 0 && verdict.kind != SIVORANDRA_IS_MISS)
+        return refused(&verdict);
+    int misses = verdict.kind == SIVORANDRA_IS_MISS;
+    printf("%s %u %u\n", misses ? "miss" : verdict.kind == SIVORANDRA_IS_FIRM ? "firm" : "full",
+           (unsigned)verdict.first, (unsigned)verdict.second);
+    if (misses) {
+        if (sivorandra_table_sentence(words, count, why, &answer))
+            return refused(&answer);
+        puts(why);
     }
 
-    printf("the job of position 1 is empty\n");
-    if (!fine(sivorandra_start(table, WORDS, run, SIVORANDRA_RUN_WORDS, answer, 3), answer))
-        return 1;
-    if (!fine(sivorandra_row(run, SIVORANDRA_RUN_WORDS, 1, row, sizeof row, answer, 3), answer))
-        return 1;
-    print_row(0, row);
-    return 0;
+    uint32_t cores = words[1], ticks = verdict.first + (misses ? 0 : verdict.second);
+    uint32_t shown = ticks < ROWS ? ticks : ROWS;
+    if (sivorandra_table_plan(words, count, 0, shown, rows, sizeof rows, &answer))
+        return refused(&answer);
+    for (uint32_t tick = 0; tick < shown; tick++) {
+        printf("%u", (unsigned)tick);
+        for (uint32_t core = 0; core < cores; core++)
+            printf(" %d", rows[tick * cores + core]);
+        printf("\n");
+    }
+    return misses;
 }

@@ -1,54 +1,57 @@
-//! The table of tables/a.txt from Rust: its verdict, why where it misses, its rows, two ticks of a run in which the job of position 1 ends early, and one in which it is empty.
-//! `cargo run --manifest-path bindings/rust/Cargo.toml --example judge`
-use sivorandra::{judge, plan, sentence, Refusal, Run, Verdict};
+//! Judges a table from Rust: judge FILE prints the verdict, why where it misses, and the first rows.
+//! The status is 0 where the table is accepted, 1 where it misses, 2 where it is refused.
+//! `cargo run --manifest-path bindings/rust/Cargo.toml --example judge -- tables/a.txt`
+use sivorandra::{judge, plan, sentence, Refusal, Verdict, MOST_CORES, TABLE_WORDS};
+use std::env;
+use std::fs;
+use std::process::exit;
 
-// head, cores, rule, two words of fenced cores; then for each record: next, offset, width, length, deadline, period, width of even jobs
-const TABLE: [u32; 26] = [
-    1, 3, 1, 0, 0, //
-    2, 0, 2, 2, 5, 5, 2, //
-    3, 0, 2, 3, 5, 5, 2, //
-    0, 0, 1, 4, 5, 5, 1,
-];
-const CORES: usize = 3;
+/// At most so many rows are printed.
+const ROWS: u32 = 10;
 
-fn print_row(tick: usize, row: &[u8]) {
-    let cores: Vec<String> = row.iter().map(u8::to_string).collect();
-    println!("{tick} {}", cores.join(" "));
+/// The numbers of a text, one a line; none, which is no table, where a line has something else.
+fn words_in(text: &str) -> Vec<u32> {
+    let words: Option<Vec<u32>> = text.lines().map(|line| line.parse().ok()).collect();
+    words.filter(|words| words.len() <= TABLE_WORDS).unwrap_or_default()
 }
 
-fn show() -> Result<(), Refusal> {
-    let verdict = judge(&TABLE)?;
+/// Prints the answers; whether the table is accepted.
+fn show(words: &[u32]) -> Result<bool, Refusal> {
+    let verdict = judge(words)?;
     println!("{verdict}");
-    let ticks = match verdict {
-        Verdict::Firm { start, period } | Verdict::Full { start, period } => start + period,
-        Verdict::Miss { tick, .. } => {
-            println!("{}", sentence(&TABLE)?);
-            tick
-        }
+    let (accepted, ticks) = match verdict {
+        Verdict::Firm { start, period } | Verdict::Full { start, period } => (true, start + period),
+        Verdict::Miss { tick, .. } => (false, tick),
     };
-
-    let mut rows = vec![0; ticks as usize * CORES];
-    plan(&TABLE, 0, ticks, &mut rows)?;
-    for (tick, row) in rows.chunks(CORES).enumerate() {
-        print_row(tick, row);
+    if !accepted {
+        println!("{}", sentence(words)?);
     }
 
-    let mut run = Run::start(&TABLE)?;
-    println!("the job of position 1 ends after tick 0");
-    for (tick, reports) in [1, 0].into_iter().enumerate() {
-        print_row(tick, &run.row(0)?[..run.cores()]);
-        run.advance(reports, 0)?;
+    let (cores, shown) = (words[1] as usize, ticks.min(ROWS));
+    let mut rows = [0; ROWS as usize * MOST_CORES];
+    plan(words, 0, shown, &mut rows)?;
+    for (tick, row) in rows.chunks(cores).take(shown as usize).enumerate() {
+        let bytes: Vec<String> = row.iter().map(u8::to_string).collect();
+        println!("{tick} {}", bytes.join(" "));
     }
-
-    println!("the job of position 1 is empty");
-    let run = Run::start(&TABLE)?;
-    print_row(0, &run.row(1)?[..run.cores()]);
-    Ok(())
+    Ok(accepted)
 }
 
 fn main() {
-    if let Err(refusal) = show() {
-        eprintln!("refused {} {}: {refusal}", refusal.number(), refusal.position());
-        std::process::exit(1);
+    let names: Vec<String> = env::args().skip(1).collect();
+    let [name] = &names[..] else {
+        eprintln!("usage: judge FILE");
+        exit(3);
+    };
+    let Ok(text) = fs::read_to_string(name) else {
+        eprintln!("judge: {name} cannot be read");
+        exit(3);
+    };
+    match show(&words_in(&text)) {
+        Ok(accepted) => exit(!accepted as i32),
+        Err(refusal) => {
+            println!("refused {} {}: {refusal}", refusal.number(), refusal.position());
+            exit(2);
+        }
     }
 }

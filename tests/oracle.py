@@ -54,7 +54,7 @@ class Library:
     def __init__(self, work, name):
         subprocess.run([str(ROOT / "tools" / "archive")], check=True)
         build = ["rustc", "--edition", "2021", "-D", "warnings", "-L", f"native={ROOT / 'target' / 'staticlib'}"]
-        subprocess.run([*build, "--crate-type", "rlib", "--crate-name", "sivorandra", "--out-dir", work, str(ROOT / "bindings" / "rust" / "src" / "lib.rs")], check=True)
+        subprocess.run([*build, "--crate-type", "rlib", "--crate-name", "sivorandra", "--cfg", 'feature="std"', "--out-dir", work, str(ROOT / "bindings" / "rust" / "src" / "lib.rs")], check=True)
         subprocess.run([*build, "--extern", f"sivorandra={work}/libsivorandra.rlib", "-o", f"{work}/calls", str(ROOT / "tests" / "library" / f"{name}.rs")], check=True)
         self.run = subprocess.Popen([f"{work}/calls"], stdin=subprocess.PIPE, stdout=subprocess.PIPE)
 

@@ -205,7 +205,7 @@ def drawn():
     for words in ("steering loop", "1,000 (250 ms)", "(1.5 ms of 5 ms)", "(3.5 ms)", "48 (12 ms)", "row finder"):
         check(f"the page of the cab says {words}", words in accepted, "")
     clash = run("--clash", "--picture", "--sheet", text=MISS)[1].decode()
-    check("the clash by names", "The clash of positions 1 (steering loop) and 2 (row finder) alone" in clash, clash[:600])
+    check("the clash by names", "The conflict of positions 1 (steering loop) and 2 (row finder) alone" in clash, clash[:600])
 
 
 def hostile():

@@ -5,7 +5,8 @@ is shown on standard error and nothing is printed. From the second second on a t
 missing, 2 refused or a line that is no row."""
 import collections
 import select
-from typing import List
+import subprocess
+from typing import List, Tuple
 
 import system
 from replay import with_end
@@ -38,7 +39,7 @@ class Gone:
         return lines[number - self.first] if 0 <= number - self.first < len(lines) else b""
 
 
-def hand_on(process, source: Source, gone: Gone) -> None:
+def hand_on(process: subprocess.Popen, source: Source, gone: Gone) -> None:
     """Hands the plan on until it ends or the program has answered."""
     said, plan = process.stdout.fileno(), source.fileno()
     poll = select.poll()
@@ -76,9 +77,9 @@ def no_row(name: str, number: int, line: bytes) -> str:
     return f"{name}: line {number}: {stands} is no row of the tick that is due; {EXPECTED}"
 
 
-def answer(call: Call):
+def answer(call: Call) -> Tuple[int, str]:
     source, gone = Source(call.list, "the plan"), Gone()
-    said = answered(call.program("plan_checker"), call.table, source, gone)
+    said = answered(call.program("check"), call.table, source, gone)
     word, *numbers = said.split() or [b""]
     if word == b"unread":
         raise Declined(no_row(source.name, int(numbers[0]), gone.line(int(numbers[0]))), REFUSED)

@@ -2,15 +2,22 @@
 
 It decides nothing: the number is the program's, and where the table has no such fault there is no note. Lines count from 1, so word k is on line k + 1."""
 import math
+from typing import TYPE_CHECKING, Iterator, List, Optional, Tuple
+
+from texts import RULES
+
+if TYPE_CHECKING:
+    from system import Call
 
 HEAD, RECORD = 5, 7  # words of a table and of a record
 MOST_BYTES, MOST_RECORDS, LARGEST, TICKS, HORIZON = 2519, 32, 2**32 - 1, 1_000_000, 1_000_000_000
 FIELDS = ("next", "O", "v", "C", "D", "T", "w")
 SIGNS = {b" ": "a space", b"\t": "a tab", b"-": "a minus sign", b"+": "a plus sign", b".": "a decimal point", b",": "a comma"}
+RULES_ALLOWED = ", ".join(f"{number} ({name})" for number, name in RULES.items()).replace(", 4", " or 4")
 TAKEN_FOR = {b"O": 0, b"o": 0, b"l": 1, b"I": 1}  # letters that look like digits
 
 
-def strange(line, at):
+def strange(line: bytes, at: int) -> str:
     """The text in a line at this place, the first that has no digit."""
     byte, rest = line[at:at + 1], line[at:].lstrip(b" \t")
     comment = next((mark for mark in (b"#", b"//", b";") if rest.startswith(mark)), None)
@@ -27,12 +34,12 @@ def strange(line, at):
     return SIGNS.get(byte) or f"byte 0x{byte.hex()}" + (f" ({byte.decode()})" if 32 < byte[0] < 127 else "")
 
 
-def lines_of(text):
+def lines_of(text: bytes) -> List[bytes]:
     lines = text.split(b"\n")
     return lines if lines[-1] else lines[:-1]  # the last line may lack its newline
 
 
-def text_fault(text):
+def text_fault(text: bytes) -> Optional[str]:
     """The first line that is no number, and why."""
     if text.startswith(b"\xef\xbb\xbf"):
         return "line 1: a byte order mark (UTF-8)"
@@ -51,7 +58,7 @@ def text_fault(text):
     return None
 
 
-def count_fault(text):
+def count_fault(text: bytes) -> Optional[str]:
     """Why a text of numbers alone is no table."""
     count = len(lines_of(text))
     records, over = divmod(count - HEAD, RECORD)
@@ -71,7 +78,7 @@ def count_fault(text):
 class Table:
     """The words of a text that number 1 lets through, and the walk along their chain: up to 0, to a number that is no record's, or to a record that is met again."""
 
-    def __init__(self, text):
+    def __init__(self, text: bytes):
         self.words = [int(line) for line in lines_of(text)]
         self.head, self.cores, self.rule, low, high = self.words[:HEAD]
         self.fence = low | high << 32
@@ -81,18 +88,18 @@ class Table:
             self.chain.append(self.met)
             self.met = self.word(self.met, "next")
 
-    def line(self, record, field):
+    def line(self, record: int, field: str) -> int:
         return HEAD + RECORD * (record - 1) + FIELDS.index(field) + 1
 
-    def word(self, record, field):
+    def word(self, record: int, field: str) -> int:
         return self.words[self.line(record, field) - 1]
 
-    def header_fault(self, number):
+    def header_fault(self, number: int) -> Optional[str]:
         inside = 1 <= self.cores <= 64
         if number == 2 and not inside:
             return f"line 2: the core count is {self.cores}; 1 to 64 is allowed"
-        if number == 3 and self.rule not in (1, 2, 3, 4):
-            return f"line 3: the rule is {self.rule}; 1 (greedy), 2 (limited), 3 (idling) or 4 (lending) is allowed"
+        if number == 3 and self.rule not in RULES:
+            return f"line 3: the rule is {self.rule}; {RULES_ALLOWED} is allowed"
         if number == 4 and self.head == 0:
             return f"line 1: the head is 0; 1 to {self.records}, the number of the first record, is allowed"
         if number == 19 and inside and self.fence >> self.cores:
@@ -103,7 +110,7 @@ class Table:
             return f"line{' 4' if self.cores <= 32 else 's 4 and 5'}: the fence has all {self.cores} cores; one must be left"
         return None
 
-    def chain_fault(self, number):
+    def chain_fault(self, number: int) -> Optional[str]:
         link, line = ("the head", 1) if not self.chain else (f"next of record {self.chain[-1]}", self.line(self.chain[-1], "next"))
         if number == 5 and self.met > self.records:
             return f"line {line}: {link} is {self.met}; " + (f"the last record is {self.records}" if self.records else "there is no record")
@@ -111,7 +118,7 @@ class Table:
             return f"line {line}: {link} is {self.met}, and record {self.met} is on the chain already; next of the last is 0"
         return None
 
-    def task_fault(self, number, position):
+    def task_fault(self, number: int, position: int) -> Optional[str]:
         if not 1 <= position <= len(self.chain):
             return None
         record = self.chain[position - 1]
@@ -125,7 +132,7 @@ class Table:
                 return f"line {self.line(record, field)}: {field} of record {record} (position {position}) is {word}; {least} to {most:,}{what} is allowed"
         return None
 
-    def horizon(self):
+    def horizon(self) -> Tuple[int, int]:
         """S and P of the tasks on the chain, whose periods are not 0. In P a task of two widths counts with two periods."""
         start, period = 0, 1
         for record in self.chain:
@@ -134,32 +141,36 @@ class Table:
             period = math.lcm(period, every if self.word(record, "v") == self.word(record, "w") else 2 * every)
         return start, period
 
-    def horizon_fault(self):
+    def horizon_fault(self) -> Optional[str]:
         if not all(self.word(record, "T") for record in self.chain) or sum(self.horizon()) <= HORIZON:
             return None
         start, period = self.horizon()
         return f"S is {start:,}, P is {period:,} and S + P is {start + period:,}; {HORIZON:,} is the most"
 
-    def no_spare(self):
+    def no_slack(self) -> str:
         """Why no slack is given for a table that passes."""
         order = "1 (greedy) where no width is above one of the next"
         if self.rule in (3, 4):
-            return f"line 3: the rule is {self.rule}; spare ticks are given under 2 (limited), and under {order}"
+            return f"line 3: the rule is {self.rule}; slack is given under 2 (limited), and under {order}"
         for position, (record, below) in enumerate(zip(self.chain, self.chain[1:]), 1):
             wide = max("v", "w", key=lambda field: self.word(record, field))
             narrow = min("v", "w", key=lambda field: self.word(below, field))
             if self.rule == 1 and self.word(record, wide) > self.word(below, narrow):
                 this, other = (f"{field} of record {one} (position {at}) is {self.word(one, field)}" for field, one, at in ((wide, record, position), (narrow, below, position + 1)))
-                return f"line {self.line(record, wide)}: {this} and {other}; spare ticks are given under {order}"
-        return "a table that misses a deadline has no spare ticks; --why says more"
+                return f"line {self.line(record, wide)}: {this} and {other}; slack is given under {order}"
+        return "a table that misses a deadline has no slack; --why says more"
 
-    def off_chain(self):
-        for record in sorted(set(range(1, self.records + 1)) - set(self.chain)):
+    def loose(self) -> List[int]:
+        """The records on no chain."""
+        return sorted(set(range(1, self.records + 1)) - set(self.chain))
+
+    def off_chain(self) -> Iterator[str]:
+        for record in self.loose():
             yield f"lines {self.line(record, 'next')} to {self.line(record, FIELDS[-1])}: record {record} is on no chain, so it is no task"
 
 
-def notes(text, answer):
-    """The notes beside this answer to a text."""
+def notes(text: bytes, answer: str, verdict: str = "") -> List[str]:
+    """The notes beside this answer to a text; one on number 17 has the verdict."""
     word, number, position = (*answer.split(), "", "", "")[:3]
     number, position = (int(field) if field.isascii() and field.isdigit() else 0 for field in (number, position))
     text = text[:MOST_BYTES + 1]
@@ -175,16 +186,24 @@ def notes(text, answer):
     elif number == 9:
         fault = table.horizon_fault()
     elif number == 13:
-        fault = "a table that misses a deadline is not started, and has no longest answers; --why says more"
+        fault = "a table that misses a deadline is not started, and has no worst-case response times; --why says more"
     elif number == 17:
-        fault = "a table that misses no deadline has no clash; --verdict says more"
+        fault = f"the table has no miss: {verdict}" if verdict else "the table has no miss"
     elif number == 23:
-        fault = table.no_spare()
+        fault = table.no_slack()
     else:
         fault = table.header_fault(number) or table.chain_fault(number)
     return [fault] if fault else []
 
 
-def answer(call):
+def strict_note(text: bytes) -> Optional[str]:
+    """What --strict has to say of a table that was taken."""
+    table = Table(text)
+    loose, last = [str(record) for record in table.loose()], table.chain[-1]
+    who = f"records {', '.join(loose)} are" if len(loose) > 1 else f"record {''.join(loose)} is"
+    return f"line {table.line(last, 'next')}: next of record {last} is 0 and ends the chain; {who} on no chain (--strict)" if loose else None
+
+
+def answer(call: "Call") -> Tuple[int, str]:
     """The mode of the notes alone: the program's first line is in the place of a list. The notes are printed at its end."""
     return 0, call.list

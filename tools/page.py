@@ -1,9 +1,14 @@
 """How a page looks: one HTML file that needs nothing from elsewhere and no script, and is XML too. It is given what to show, and decides nothing."""
+import contextlib
 import os
 import re
+from typing import Any, Callable, Iterable, List, Optional, Sequence, Tuple
 from xml.sax.saxutils import escape, quoteattr
 
-from chart import RED, colour
+from chart_kinds import Inset
+from svg import colour
+from system import Trouble
+from texts import STRIP
 
 HERE = os.path.dirname(os.path.abspath(__file__))
 POLICY = "default-src 'none'; style-src 'unsafe-inline'"  # whatever opens it fetches nothing
@@ -17,54 +22,61 @@ ICONS = {
 }
 
 
-# Text that is markup already.
 class Html(str):
-    pass
+    """Text that is markup already."""
 
 
-def joined(parts):
+def version() -> str:
+    """The version, from the file beside the tools or above them."""
+    for place in (HERE, os.path.dirname(HERE)):
+        with contextlib.suppress(OSError), open(os.path.join(place, "VERSION"), encoding="utf-8") as file:
+            return file.read().strip()
+    raise Trouble("VERSION is missing")
+
+
+def joined(parts: Iterable[Any]) -> Html:
     return Html("".join(part if isinstance(part, Html) else escape(printable(str(part))) for part in parts if part is not None))
 
 
-# An element; `class_` is its class, and a word whose value is None is left out.
-def element(name, /, *inner, **words):
+def element(name: str, /, *inner: Any, **words: Any) -> Html:
+    """An element; `class_` is its class, and a word whose value is None is left out."""
     attributes = "".join(f" {key.rstrip('_').replace('_', '-')}={quoteattr(printable(str(value)))}" for key, value in words.items() if value is not None)
     return Html(f"<{name}{attributes}/>" if not inner else f"<{name}{attributes}>{joined(inner)}</{name}>")
 
 
-# A text of any characters with those that no page can show written out.
-def printable(text):
+def printable(text: str) -> str:
+    """A text of any characters with those that no page can show written out."""
     return re.sub("[^\n -~\u00a0-\ud7ff\ue000-\ufffd\U00010000-\U0010ffff]", lambda found: found[0].encode("unicode_escape", "replace").decode(), text)
 
 
-def section(title, *inner, **words):
+def section(title: str, *inner: Any, **words: Any) -> Html:
     return element("section", element("h2", title), *inner, **words)
 
 
-def paragraph(*inner, **words):
+def paragraph(*inner: Any, **words: Any) -> Html:
     return element("p", *inner, **words)
 
 
-def listing(items, **words):
+def listing(items: Iterable[Any], **words: Any) -> Html:
     return element("ul", *(element("li", *(item if isinstance(item, (list, tuple)) else [item])) for item in items), **words)
 
 
-# A position in its colour.
-def chip(position):
+def chip(position: int) -> Html:
+    """A position in its colour."""
     return element("span", position, class_=f"chip p{position}")
 
 
-# A number as it is read: thousands apart.
-def number(count):
+def number(count: int) -> str:
+    """A number as it is read: thousands apart."""
     return f"{count:,}"
 
 
-def icon(name):
+def icon(name: str) -> Html:
     return element("svg", element("path", d=ICONS[name]), class_="icon", viewBox="0 0 50 50", aria_hidden="true")
 
 
-# A bar of `whole`, in which parts (length, class or colour) follow each other. The text beside it has the same.
-def bar(whole, parts, thick=False):
+def bar(whole: int, parts: Iterable[Tuple[int, str]], thick: bool = False) -> Html:
+    """A bar of `whole`, in which parts (length, class or colour) follow each other. The text beside it has the same."""
     drawn, at = [element("rect", class_="track", width=1000, height=10)], 0
     for length, look in parts:
         wide = round(1000 * length / whole, 2)
@@ -75,18 +87,18 @@ def bar(whole, parts, thick=False):
     return element("svg", *drawn, class_="bar thick" if thick else "bar", viewBox="0 0 1000 10", preserveAspectRatio="none", aria_hidden="true")
 
 
-# A part of a drawing as an SVG of its own size, or of its parent's.
-def view(inner, left, wide, high, **words):
+def view(inner: Html, left: float, wide: float, high: float, **words: Any) -> Html:
+    """A part of a drawing as an SVG of its own size, or of its parent's."""
     return element("svg", Html(inner), viewBox=f"{round(left, 2)} 0 {round(wide, 2)} {round(high, 2)}", **words)
 
 
-# How far to the right a chart goes.
-def reach(sheet):
+def reach(sheet: Inset) -> float:
+    """How far to the right a chart goes."""
     return max(sheet.right, sheet.x(sheet.end)) + sheet.pad
 
 
-# A chart: its names stay, its ticks are scrolled; on paper it is cut into lines. `title` is its description for screen readers.
-def drawing(sheet, title, farthest):
+def drawing(sheet: Inset, title: str, farthest: float) -> Tuple[Html, List[Html]]:
+    """A chart: its names stay, its ticks are scrolled; on paper it is cut into lines. `title` is its description for screen readers."""
     high, right = sheet.bottom + 10, reach(sheet)
     names = view("".join(sheet.side), 0, sheet.NAMES, high, width=sheet.NAMES, height=high, class_="names", aria_hidden="true")
     all_ticks = element("g", Html("".join(sheet.parts)), id=f"{sheet.own}all")
@@ -95,9 +107,9 @@ def drawing(sheet, title, farthest):
     return element("div", names, ticks, class_="drawing"), panes(sheet, farthest, high)
 
 
-# The same drawing in lines for paper, each as long as the sheet is wide; where it is higher than the sheet it is made smaller, and lines are longer.
-# A line goes from a numbered tick to a numbered tick, so that no number is cut; the last is as long as the others, so that nothing that ends there is.
-def panes(sheet, right, high):
+def panes(sheet: Inset, right: float, high: float) -> List[Html]:
+    """The same drawing in lines for paper, each as long as the sheet is wide; where it is higher than the sheet it is made smaller, and lines are longer.
+    A line goes from a numbered tick to a numbered tick, so that no number is cut; the last is as long as the others, so that nothing that ends there is."""
     across, down = PAPER
     room, step = across * max(1, high / down) - sheet.NAMES, sheet.step
     length = max(1, int((room - 2 * sheet.pad) / sheet.wide / step)) * step
@@ -118,8 +130,8 @@ def panes(sheet, right, high):
     return drawn
 
 
-# Charts over each other with their ticks aligned, each with its title, what they are called where they are several, and links to some ticks.
-def charts(sheets, titles, called, end=False):
+def charts(sheets: Sequence[Inset], titles: Sequence[str], called: Optional[Sequence[str]], end: bool = False) -> List[Optional[Html]]:
+    """Charts over each other with their ticks aligned, each with its title, what they are called where they are several, and links to some ticks."""
     first, inner, printed = sheets[0], [], []
     for sheet, title, name in zip(sheets, titles, called or [None] * len(sheets)):
         shown, lines = drawing(sheet, title, max(map(reach, sheets)))
@@ -135,15 +147,15 @@ def charts(sheets, titles, called, end=False):
     return [links, hint, scroller, element("div", *(line for lines in zip(*printed) for line in lines), class_="panes")]
 
 
-# How to read charts: what is in each of them, and these names. Samples are drawn by the chart.
-def legend(sheet, more):
-    def sample(draw):
+def legend(sheet: Inset, more: Sequence[Tuple[str, str]]) -> List[Html]:
+    """How to read charts: what is in each of them, and these names. Samples are drawn by the chart."""
+    def sample(draw: Callable[[], None]) -> Html:
         return element("svg", Html(sheet.apart(draw)), viewBox="-1 -3 30 18", aria_hidden="true")
 
     items = [
         (lambda: sheet.arrow("up", 14, 13), "release of a job"),
         (lambda: sheet.arrow("down", 14, 13), "its deadline"),
-        (lambda: sheet.add("rect", x=0, y=2, width=28, height=8, fill="#d8d8d8"), "from release to deadline; coloured where the task runs"),
+        (lambda: sheet.add("rect", x=0, y=2, width=28, height=8, fill="#d8d8d8"), STRIP),
         *((lambda name=name: sheet.sample(name, 0, 0), words) for name, words in sheet.named(more)),
     ]
     pairs = "Odd jobs of a task (the first, the third) may have another width than even ones." if sheet.pairs else None
@@ -151,18 +163,18 @@ def legend(sheet, more):
             paragraph("The number in a cell is the position of the task that has the core; an empty cell is an idle core. ", pairs, class_="soft")]
 
 
-# A table that may be wider than the page.
-def wide_table(rows, name, **words):
+def wide_table(rows: Sequence[Html], name: str, **words: Any) -> Html:
+    """A table that may be wider than the page."""
     return element("div", element("table", *rows, **words), class_="scroll", tabindex=0, role="region", aria_label=name)
 
 
-# The colours of positions, for cells and chips.
-def colours(positions):
+def colours(positions: Iterable[int]) -> str:
+    """The colours of positions, for cells and chips."""
     return "".join(".p%d { background: %s; color: %s; }\n" % (position, *colour(position)) for position in positions)
 
 
-# The whole page.
-def document(title, positions, *inner):
+def document(title: str, positions: Iterable[int], *inner: Any) -> str:
+    """The whole page."""
     with open(os.path.join(HERE, "page.css"), encoding="utf-8") as file:
         style = file.read()
     head = element("head", element("meta", charset="utf-8"), element("meta", http_equiv="Content-Security-Policy", content=POLICY),

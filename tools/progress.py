@@ -5,6 +5,7 @@ import contextlib
 import fcntl
 import os
 import select
+from typing import Tuple
 
 import system
 from system import Call, FINE
@@ -46,11 +47,11 @@ def hand_on(counting: bool, source: int = 0) -> bytes:
             system.LINE.say(f"{lines - 1:,} of {total:,} rows")
 
 
-def judging(_call: Call):
+def judging(_call: Call) -> Tuple[int, str]:
     hand_on(False)
     return FINE, ""
 
 
-def counting(_call: Call):
+def counting(_call: Call) -> Tuple[int, str]:
     hand_on(True)
     return FINE, ""

@@ -4,6 +4,7 @@ The program's answer is handed on as it is; with --names each of its lines has n
 import os
 import re
 import subprocess
+from typing import Tuple
 
 import progress
 import system
@@ -11,7 +12,6 @@ from sheet_back import sheet_of as sheet_of_words
 from sheet_names import behind
 from system import Call, FINE, MISSED, REFUSED, Trouble
 
-PROGRAMS = {"rows": "sivorandra", "verdict": "verdict"}  # of other modes it is `query`, which gets the mode
 TWO = r" [0-9]+ [0-9]+"
 STATUSES = {rf"(firm|full){TWO}|task .*\.|none|[1-9][0-9]*( [0-9]+)*": FINE, rf"miss{TWO}": MISSED, rf"refused{TWO}": REFUSED}
 
@@ -33,9 +33,10 @@ def with_names(call: Call, process: subprocess.Popen) -> bytes:
     return first.removesuffix(b"\n")
 
 
-def answer(call: Call):
-    name = PROGRAMS.get(call.mode, "query")
-    with system.running(call.program(name), (b"" if call.mode in PROGRAMS else f"{call.mode}\n".encode()) + call.table) as process:
+def answer(call: Call) -> Tuple[int, str]:
+    command, given = call.asking(call.mode)
+    name = os.path.basename(command[0])
+    with system.running(command, given) as process:
         said = with_names(call, process) if call.names else progress.hand_on(call.mode == "rows" and not os.isatty(1), process.stdout.fileno())
         first = said.decode("ascii", "replace")
         status = status_of(first, name)
@@ -44,15 +45,15 @@ def answer(call: Call):
     return status, first
 
 
-def words(call: Call):
+def words(call: Call) -> Tuple[int, str]:
     """All words of a sheet, whether or not a program takes them."""
     system.write(call.sheet.text())
     return FINE, ""
 
 
-def sheet_of(call: Call):
+def sheet_of(call: Call) -> Tuple[int, str]:
     """A sheet of a table, unless the program refuses that; its bounds are asked, which show it at once."""
-    with system.running(call.program("query"), b"bounds\n" + call.table) as process:
+    with system.running(*call.asking("bounds")) as process:
         first = system.first_line(process).decode("ascii", "replace").removesuffix("\n")
     status = status_of(first, "query")
     system.write((f"{first}\n" if status == REFUSED else sheet_of_words(call.table)).encode())

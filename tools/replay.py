@@ -3,16 +3,17 @@
 First start's answer and the row of tick 0; then for each line `a REPORTS EMPTIES` its answer, and where it is taken the row of the next tick. Where its empty
 jobs leave another row than was shown, that row comes before the answer. A withdrawal, `w POSITION`, or `W SET` of several together, stays in its tick; where it leaves
 another row, that comes after the answer. A line `r` asks what is shown already, `r EMPTIES` the row that these leave; `s` and `s EMPTIES`
-ask the same as sets of cores, which come as the program has them. It counts the ticks and nothing else, and reads a line when the one before is answered:
+ask the same as sets of cores, `j` and `j EMPTIES` who works, and both come as the program has them. It counts the ticks and nothing else, and reads a line when the one before is answered:
 the list may be a pipe. Status 2: something is refused, or a line is no operation."""
 import re
-from typing import Iterable, Iterator, List
+import subprocess
+from typing import Iterable, Iterator, List, Optional, Tuple
 
 import system
 from system import Call, Declined, FINE, REFUSED, Source, Trouble
+from texts import EXPECTED, stands
 
 MOST = 60  # bytes that are read of a line, and more than an operation has
-EXPECTED = "'a REPORTS', 'a REPORTS EMPTIES', 'w POSITION', 'W SET', 'r', 'r EMPTIES', 's' or 's EMPTIES' (numbers up to 4294967295) was expected"
 NONE = b"not an operation"
 
 
@@ -22,10 +23,10 @@ def lines_of(source: Source) -> Iterator[bytes]:
         yield line.removesuffix(b"\n")
 
 
-def empties_of(line: bytes):
+def empties_of(line: bytes) -> Optional[bytes]:
     """The set of empty jobs that an advance names, if any."""
     found = re.fullmatch(rb"a [0-9]+ 0*([1-9][0-9]*)", line)
-    return found and found[1]
+    return found[1] if found else None
 
 
 def with_end(table: bytes) -> bytes:
@@ -34,15 +35,10 @@ def with_end(table: bytes) -> bytes:
     return table + (b"\n" if table and not table.endswith(b"\n") else b"") + b"--\n"
 
 
-def stands(line: bytes) -> str:
-    """A line that is no operation, as it is shown."""
-    return repr(line)[1:] + (" (Windows line ends)" if line.endswith(b"\r") else "") if line else "an empty line"
-
-
 class Session:
     """The program behind a list: each question has its answer."""
 
-    def __init__(self, process):
+    def __init__(self, process: subprocess.Popen):
         self.process = process
 
     def heard(self) -> bytes:
@@ -94,7 +90,7 @@ def played(program: List[str], table: bytes, lines: Iterable[bytes], name: str) 
                 yield b"%d %s" % (tick, row.removeprefix(b"row "))
 
 
-def answer(call: Call):
+def answer(call: Call) -> Tuple[int, str]:
     source, status, first = system.list_of(call), FINE, ""
     for line in played(call.program("replay"), call.table, lines_of(source), source.name):
         first = first or line.decode("ascii", "replace")

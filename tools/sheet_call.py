@@ -1,18 +1,16 @@
 """A question on a sheet: the sheet is read once, its words become the table that the programs are asked about, and notes name its cells."""
 import dataclasses
-from typing import Callable, List, Tuple
+from typing import List, Tuple
 
 import sheet
 import sheet_cells
 import sheet_notes
 import system
 from sheet_cells import Faulty
-from system import Call, Declined, REFUSED, Source
+from system import Call, Declined, Mode, REFUSED, Source
 
 TABLE = 2520  # bytes of a table that decide everything
 BLOCK = 1 << 16
-
-Mode = Callable[[Call], Tuple[int, str]]
 
 
 def bytes_of(file: str) -> bytes:
@@ -44,9 +42,10 @@ def reading(mode: Mode) -> Mode:
     def answer(call: Call) -> Tuple[int, str]:
         found = read(call.file)
         say_all(found.notes)
-        status, first = mode(dataclasses.replace(call, table=found.text()[:TABLE], sheet=found))
+        asked = dataclasses.replace(call, table=found.text()[:TABLE], sheet=found)
+        status, first = mode(asked)
         system.LINE.clear()
-        say_all(sheet_notes.notes_on(found, first) if first else [])
+        say_all(sheet_notes.notes_on(found, first, system.verdict_of(asked, first)) if first else [])
         return status, ""
     return answer
 

@@ -4,11 +4,11 @@ from typing import List, Optional
 
 from sheet_cells import Wrong, normal, shown
 from sheet_times import Tick
+from texts import SENTENCE
 
 ITEM = r'(?:"(?:[^"]|"")*"|[^\s,"]+)'
 SET = rf"{ITEM}(?:,{ITEM})*"
 OPERATION = re.compile(rf"([aWwrs])((?: {SET}){{0,2}})", re.S)
-SENTENCE = re.compile(r"task (\d+) misses at tick (\d+) with (\d+) of (\d+) ticks((?:; task \d+ ran \d+)*)\.")
 RAN = re.compile(r"; task (\d+) ran (\d+)")
 MOST_SHOWN = 60  # characters of a name
 

@@ -63,11 +63,11 @@ def on_a_miss(sheet: Sheet, at: int, position: int) -> List[str]:
     return [f"line {task.line}: {quoted(task.name)} (position {position}) misses its deadline at {moment(at, sheet.settings.tick)}"]
 
 
-def notes_on(sheet: Sheet, answer: str) -> List[str]:
+def notes_on(sheet: Sheet, answer: str, verdict: str = "") -> List[str]:
     """The notes beside this answer to the words of a sheet."""
     found = MISS.fullmatch(answer)
     if found:
         return on_a_miss(sheet, int(found[1]), int(found[2]))
     if answer.split()[:2] == ["refused", "1"]:
         return too_large(sheet)
-    return [in_cells(note, sheet) for note in notes.notes(sheet.text(), answer)]
+    return [in_cells(note, sheet) for note in notes.notes(sheet.text(), answer, verdict)]

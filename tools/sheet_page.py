@@ -1,4 +1,4 @@
-"""The parts of a page that only a sheet has: the sheet as it was read, and what to do about a refusal in its words."""
+"""The part of a page that only a sheet has: the sheet as it was read."""
 from typing import List, Optional, Tuple
 
 import page
@@ -11,15 +11,6 @@ COLUMNS = ("line", "position", "name", "offset", "width", "second width", "lengt
 TIMES = ("offset", "length", "deadline", "period")
 MOST_TASKS, AROUND = 64, 8  # lines of tasks that are shown, and how many before the marked one
 MOST_SHOWN = 24
-REMEDIES = {
-    1: "A table has at most 32 tasks, and no number in it is above 4,294,967,295: take tasks out, or write a longer tick.",
-    2: "Mend the line cores: 1 to 64.",
-    3: "Mend the line rule: greedy, limited, idling or lending, or its number, 1 to 4.",
-    7: "Mend the width, or the fence: a width is 1 up to the number of unfenced cores.",
-    8: "In ticks an offset may be up to 1,000,000; a length and a period are 1 to 1,000,000; a deadline is 1 up to the period. A longer tick makes all of them smaller.",
-    9: "Periods that divide each other make P small, and a task whose widths differ counts with two periods; smaller offsets make S small. A longer tick makes both smaller.",
-    19: "Mend the line fence: it has cores of the table, counted from 0, and not all of them.",
-}
 
 
 def settings_words(sheet: Sheet) -> str:

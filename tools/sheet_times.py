@@ -6,6 +6,7 @@ from dataclasses import dataclass
 from fractions import Fraction
 from typing import Optional, Set, Tuple
 
+import texts
 from sheet_cells import Wrong, shown
 
 UNITS = {"ns": 1, "us": 1_000, "\u00b5s": 1_000, "\u03bcs": 1_000, "ms": 1_000_000, "s": 1_000_000_000}  # in ns; both letters that look like a micro sign
@@ -15,7 +16,7 @@ LONGEST = 40  # digits of a time with a unit
 UNIT_NAMES = "ns, us, ms or s"
 NUMBER = re.compile(r"([0-9]+)(?:([.,])([0-9]+))?(?:[ \u00a0]*([a-z\u00b5\u03bc]+))?")
 THOUSANDS = re.compile(r"[1-9][0-9]{0,2}")
-RULES = {"greedy": "1", "limited": "2", "idling": "3", "lending": "4"}
+RULES = {name: str(number) for number, name in texts.RULES.items()}
 RANGE = re.compile(r"(?<=[0-9])(?:\.\.|-|\u2013)(?=[0-9])|(?<=[0-9])\s+(?:\.\.|-|\u2013)\s+(?=[0-9])")
 
 
@@ -131,7 +132,7 @@ def widths_of(text: str) -> Tuple[str, Optional[str]]:
 
 def rule_of(text: str) -> str:
     """The digits of a rule, by its name or its number."""
-    return RULES.get(text.casefold()) or whole(text, "greedy, limited, idling, lending or a number")
+    return RULES.get(text.casefold()) or whole(text, f"{', '.join(RULES)} or a number")
 
 
 def core_of(digits: str) -> int:

@@ -13,18 +13,19 @@ import signal
 import stat
 import subprocess
 import time
-from typing import TYPE_CHECKING, Callable, Iterator, List, NamedTuple, Optional, Sequence
+from typing import TYPE_CHECKING, Any, Callable, Iterator, List, NamedTuple, Optional, Sequence, Tuple, Union
 
 import notes
 
 if TYPE_CHECKING:
     from sheet import Sheet
 
-FINE, MISSED, REFUSED, TROUBLE, USAGE = 0, 1, 2, 3, 64
+FINE, MISSED, REFUSED, TROUBLE, STRICT, USAGE = 0, 1, 2, 3, 4, 64
 ANSWERED = 100  # is added to a status, so that the end of a Python that could not start is never taken for one
 SIGNALS = signal.SIGHUP, signal.SIGINT, signal.SIGTERM
 QUIET = 2.0  # seconds before the first word on a terminal
 EVERY = 0.5  # seconds between two words
+PROGRAMS = {"rows": "sivorandra", "verdict": "verdict", "replay": "replay", "check": "plan_checker"}  # of another question it is `query`, which reads the question before the table
 
 
 class Trouble(Exception):
@@ -49,7 +50,8 @@ class Stopped(BaseException):
 
 @dataclasses.dataclass(frozen=True)
 class Call:
-    """What was asked for: the folder of the programs, the table and its file, the list and the ticks; the mode, the sheet that the table was written as, and whether names go behind lines."""
+    """What was asked for: the folder of the programs, the table and its file, the list and the ticks; the mode, the sheet that the table was written as, and whether names go behind lines.
+    Of several files: their names, whether all of them are sheets, whether a record on no chain is no success, and how many are asked at once."""
     programs: str = ""
     table: bytes = b""
     file: str = ""
@@ -59,9 +61,24 @@ class Call:
     mode: str = ""
     sheet: "Optional[Sheet]" = None
     names: bool = False
+    files: Sequence[str] = ()
+    sheets: bool = False
+    strict: bool = False
+    jobs: int = 1
 
-    def program(self, name: str) -> List[str]:
-        return [os.path.join(self.programs, name)]
+    def program(self, question: str) -> List[str]:
+        return asked(self.programs, question)[0]
+
+    def asking(self, question: str) -> "Tuple[List[str], bytes]":
+        return asked(self.programs, question, self.table)
+
+
+def asked(folder: str, question: str, table: bytes = b"") -> "Tuple[List[str], bytes]":
+    """The program of a folder that a question is for, and all that it reads."""
+    return [os.path.join(folder, PROGRAMS.get(question, "query"))], (b"" if question in PROGRAMS else f"{question}\n".encode()) + table
+
+
+Mode = Callable[[Call], Tuple[int, str]]  # it writes the answer, and gives the status and the first line, which notes go by
 
 
 class Made(NamedTuple):
@@ -92,7 +109,7 @@ def ready(descriptor: int, events: int, seconds: Optional[float] = None) -> bool
     return bool(poll.poll(None if seconds is None else 1000 * seconds))
 
 
-def write(data) -> None:
+def write(data: Union[bytes, memoryview]) -> None:
     """Writes all of it to standard output, also where that does not wait."""
     left = memoryview(data)
     while left:
@@ -149,7 +166,7 @@ class Bytes(io.RawIOBase):
     def fileno(self) -> int:
         return self.descriptor
 
-    def readinto(self, buffer) -> int:
+    def readinto(self, buffer: Any) -> int:
         while True:
             try:
                 return os.readv(self.descriptor, [buffer])
@@ -165,7 +182,7 @@ class Source:
         self.name = called if handed else path
         self.bytes = self.tried(lambda: io.BufferedReader(Bytes(int(handed[1] or 0) if handed else os.open(path, os.O_RDONLY))))
 
-    def tried(self, action: Callable):
+    def tried(self, action: Callable[[], Any]) -> Any:
         try:
             return action()
         except OSError as error:
@@ -192,6 +209,7 @@ def list_of(call: Call) -> Source:
 # ---- The programs
 
 _running: List[subprocess.Popen] = []
+_children: List[int] = []  # processes of our own that answer a call each
 _starting, _ending, _pending = False, False, 0  # whether a program is being started, whether all is ending, the signal that came
 
 
@@ -252,6 +270,14 @@ def first_line(process: subprocess.Popen, most: int = 1 << 12) -> bytes:
     return process.stdout.readline(most)
 
 
+def verdict_of(call: Call, first: str) -> str:
+    """The verdict on a table that has no miss to explain (number 17), for the note on it."""
+    if not first.startswith("refused 17 "):
+        return ""
+    with running(call.program("verdict"), call.table) as process:
+        return first_line(process).decode("ascii", "replace").removesuffix("\n")
+
+
 # ---- The end
 
 def stop(number: int, _frame) -> None:
@@ -270,12 +296,12 @@ def fault(error: Exception) -> str:
     return f"{os.path.basename(at.tb_frame.f_code.co_filename)}, line {at.tb_lineno}: {type(error).__name__}: {error}"
 
 
-def ended(mode: Callable[[Call], "tuple[int, str]"], call: Call) -> int:
+def ended(mode: Mode, call: Call) -> int:
     """The status of a mode; the notes beside its answer are printed."""
     try:
         status, first = mode(call)
         LINE.clear()
-        for note in notes.notes(call.table, first):
+        for note in notes.notes(call.table, first, verdict_of(call, first)):
             say(note)
         return status
     except Gone:
@@ -291,7 +317,7 @@ def ended(mode: Callable[[Call], "tuple[int, str]"], call: Call) -> int:
         return TROUBLE
 
 
-def main(mode: Callable[[Call], "tuple[int, str]"], call: Call) -> None:
+def main(mode: Mode, call: Call) -> None:
     """Answers a mode and ends: what it has started with it, by a signal as the signal does."""
     global _ending
     for number in SIGNALS:
@@ -306,6 +332,9 @@ def main(mode: Callable[[Call], "tuple[int, str]"], call: Call) -> None:
             _ending = True
     except Stopped:
         _ending = True
+    for child in _children:
+        os.kill(child, signal.SIGTERM)
+        os.waitpid(child, 0)
     for process in list(_running):
         end(process)
     if _pending:

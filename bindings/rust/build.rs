@@ -1,4 +1,5 @@
-//! Says where libsivorandra.a is, and has it linked anew where it has changed: SIVORANDRA_LIB names its folder, else it is the repository's target/staticlib.
+//! Says where libsivorandra.a is, and has it linked anew where it has changed: SIVORANDRA_LIB names its folder, else it is the repository's target/staticlib, or the lib beside an
+//! installed share/sivorandra/rust.
 use std::env;
 use std::path::PathBuf;
 use std::process::exit;
@@ -7,7 +8,10 @@ fn main() {
     println!("cargo:rerun-if-env-changed=SIVORANDRA_LIB");
     let here = PathBuf::from(env::var_os("CARGO_MANIFEST_DIR").expect("cargo sets it"));
     let given = env::var_os("SIVORANDRA_LIB");
-    let folder = here.join(given.as_ref().map_or("../../target/staticlib".into(), PathBuf::from));
+    let installed = "../../../lib";
+    let is_installed = given.is_none() && here.ends_with("share/sivorandra/rust") && here.join(installed).join("libsivorandra.a").is_file();
+    let usual = if is_installed { installed } else { "../../target/staticlib" };
+    let folder = here.join(given.as_ref().map_or(usual.into(), PathBuf::from));
     let archive = folder.join("libsivorandra.a");
     println!("cargo:rerun-if-changed={}", archive.display());
     if !archive.is_file() {

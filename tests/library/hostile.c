@@ -1,5 +1,5 @@
 /* Hostile calls of the library from C, each compared with the header: NULL with length 0, lengths around every limit,
-   counts and words of all ones, fences, odd and even jobs, empty jobs, lent cores, rows as sets of cores, positions withdrawn one by one and together, lists that are none, anything past the count. Every slice lies between guards, which must stay.
+   counts and words of all ones, fences, odd and even jobs, empty jobs, lent cores, rows as sets of cores, who works, positions withdrawn one by one and together, lists that are none, anything past the count. Every slice lies between guards, which must stay.
    Prints each call that differs; the last line is 'N calls, M wrong'. */
 #include <stdio.h>
 #include <string.h>
@@ -126,6 +126,7 @@ static void expect(const char *what, uint32_t value, uint32_t got)
 #define ANSWER words_at(&answer), answer.len
 static uint32_t judge(const uint32_t *table, size_t len) { return sivorandra_judge(table, len, ANSWER); }
 static uint32_t ticks(const uint32_t *table, size_t len) { return sivorandra_judge_ticks(table, len, ANSWER); }
+static uint32_t events(const uint32_t *table, size_t len) { return sivorandra_judge_events(table, len, ANSWER); }
 static uint32_t plan(const uint32_t *table, size_t len, uint32_t a, uint32_t b) { return sivorandra_plan(table, len, a, b, bytes_at(&row), row.len, ANSWER); }
 static uint32_t replay(const uint32_t *table, size_t len, const uint32_t *entries, size_t n)
 {
@@ -135,6 +136,7 @@ static uint32_t start(const uint32_t *table, size_t len) { return sivorandra_sta
 static uint32_t shown_with(uint32_t empties) { return sivorandra_row(words_at(&run), run.len, empties, bytes_at(&row), row.len, ANSWER); }
 static uint32_t shown(void) { return shown_with(0); }
 static uint32_t sets_with(uint32_t empties) { return sivorandra_sets(words_at(&run), run.len, empties, longs_at(&sets), sets.len, ANSWER); }
+static uint32_t working_with(uint32_t empties) { return sivorandra_working(words_at(&run), run.len, empties, words_at(&numbers), numbers.len, ANSWER); }
 static uint32_t sentence(const uint32_t *table, size_t len) { return sivorandra_sentence(table, len, bytes_at(&row), row.len, ANSWER); }
 static uint32_t advance_with(uint32_t reports, uint32_t empties) { return sivorandra_advance(words_at(&run), run.len, reports, empties, ANSWER); }
 static uint32_t advance(uint32_t reports) { return advance_with(reports, 0); }
@@ -159,8 +161,11 @@ static void nulls(void)
     fresh(), NONE(answer), expect("judge: no answer", 1, judge(full, TABLE));
     fresh(), NONE(answer), expect("judge: nothing", 1, judge(NULL, 0));
     fresh(), refused(1), expect("judge_ticks: no words", 0, ticks(NULL, 0));
+    fresh(), refused(1), expect("judge_events: no words", 0, events(NULL, 0));
     fresh(), NONE(answer), expect("judge_ticks: no answer", 1, ticks(full, TABLE));
+    fresh(), NONE(answer), expect("judge_events: no answer", 1, events(full, TABLE));
     fresh(), NONE(answer), expect("judge_ticks: nothing", 1, ticks(NULL, 0));
+    fresh(), NONE(answer), expect("judge_events: nothing", 1, events(NULL, 0));
     fresh(), refused(1), expect("conflict: no words", 0, conflict(NULL, 0));
     fresh(), NONE(answer), expect("conflict: no answer", 1, conflict(miss, TABLE));
     fresh(), NONE(answer), expect("conflict: nothing", 1, conflict(NULL, 0));
@@ -186,6 +191,10 @@ static void nulls(void)
     fresh(), NONE(sets), expect("sets: no sets", 1, sets_with(0));
     fresh(), NONE(answer), expect("sets: no answer", 1, sets_with(0));
     fresh(), NONE(run), NONE(sets), NONE(answer), expect("sets: nothing", 1, sets_with(ONES));
+    fresh(), NONE(run), refused(14), numbers.want[GUARD] = 0, expect("working: no run", 0, working_with(0));
+    fresh(), NONE(numbers), expect("working: no set", 1, working_with(0));
+    fresh(), NONE(answer), expect("working: no answer", 1, working_with(0));
+    fresh(), NONE(run), NONE(numbers), NONE(answer), expect("working: nothing", 1, working_with(ONES));
     fresh(), NONE(run), refused(14), expect("advance: no run", 0, advance(0));
     fresh(), NONE(answer), expect("advance: no answer", 1, advance(0));
     fresh(), NONE(run), NONE(answer), expect("advance: nothing", 1, advance(ONES));
@@ -381,6 +390,7 @@ static void tables(void)
     for (size_t i = 0; i < sizeof lens / sizeof lens[0]; i++) {
         fresh(), refused(lens[i].number), expect("judge: fewer words", 0, judge(full, lens[i].len));
         fresh(), refused(lens[i].number), expect("judge_ticks: fewer words", 0, ticks(full, lens[i].len));
+        fresh(), refused(lens[i].number), expect("judge_events: fewer words", 0, events(full, lens[i].len));
         fresh(), refused(lens[i].number), expect("conflict: fewer words", 0, conflict(miss, lens[i].len));
         fresh(), refused(lens[i].number), expect("plan: fewer words", 0, plan(full, lens[i].len, ONES, 0));
         fresh(), refused(lens[i].number), no_run(), expect("start: fewer words", 0, start(full, lens[i].len));
@@ -389,6 +399,7 @@ static void tables(void)
     for (size_t i = 0; i < sizeof many / sizeof many[0]; i++) {
         fresh(), refused(many[i].number), expect("judge: all ones", 0, judge(ones, many[i].len));
         fresh(), refused(many[i].number), expect("judge_ticks: all ones", 0, ticks(ones, many[i].len));
+        fresh(), refused(many[i].number), expect("judge_events: all ones", 0, events(ones, many[i].len));
         fresh(), refused(many[i].number), expect("conflict: all ones", 0, conflict(ones, many[i].len));
         fresh(), refused(many[i].number), no_run(), expect("start: all ones", 0, start(ones, many[i].len));
         fresh(), refused(many[i].number), expect("replay: all ones", 0, replay(ones, many[i].len, ones, 1 << 20));
@@ -396,7 +407,9 @@ static void tables(void)
     fresh(), answered(SIVORANDRA_FULL, 0, 5), expect("judge", 0, judge(full, TABLE));
     fresh(), answered(SIVORANDRA_MISS, 2, 3), expect("judge: a miss", 0, judge(miss, TABLE));
     fresh(), answered(SIVORANDRA_FULL, 0, 5), expect("judge_ticks", 0, ticks(full, TABLE));
+    fresh(), answered(SIVORANDRA_FULL, 0, 5), expect("judge_events", 0, events(full, TABLE));
     fresh(), answered(SIVORANDRA_MISS, 2, 3), expect("judge_ticks: a miss", 0, ticks(miss, TABLE));
+    fresh(), answered(SIVORANDRA_MISS, 2, 3), expect("judge_events: a miss", 0, events(miss, TABLE));
     fresh(), answered(SIVORANDRA_KEPT, 6, 0), expect("conflict", 0, conflict(miss, TABLE));
     fresh(), refused(17), expect("conflict: no miss", 0, conflict(full, TABLE));
     fresh(), refused(13), no_run(), expect("start: a miss", 0, start(miss, TABLE));
@@ -751,6 +764,53 @@ static void as_sets(void)
         }
 }
 
+/* Who works: one word in front and no more, lengths around every limit; every set of empty jobs; one that lends; 0 in a refusal; and beside the advance, which takes these reports alone. */
+static void who_works(void)
+{
+    static const uint32_t of[8] = { 5, 6, 5, 4, 1, 2, 1, 0 };
+    static const size_t lens[] = { 0, 1, 2, 3, 31, 32, 356, 357, 358, 359 };
+    static const uint32_t past[] = { 8, 9, 16, 0x80000000u, 0xffffffffu };
+    for (size_t i = 0; i < sizeof lens / sizeof lens[0]; i++) {
+        size_t len = lens[i];
+        fresh(), numbers.len = len;
+        if (len >= 1)
+            answered(0, 0, 0), numbers.want[GUARD] = 5;
+        expect("working: every length", len < 1, working_with(0));
+        fresh(), run.len = len, len >= RUN ? answered(0, 0, 0) : refused(14), numbers.want[GUARD] = len >= RUN ? 5 : 0, expect("working: words of the run", 0, working_with(0));
+        fresh(), answer.len = len;
+        if (len >= 3)
+            answered(0, 0, 0), numbers.want[GUARD] = 5;
+        expect("working: words of the answer", len < 3, working_with(0));
+    }
+    for (uint32_t empties = 0; empties < 8; empties++) {
+        fresh(), answered(0, 0, 0), numbers.want[GUARD] = of[empties], expect("working: every set of empty jobs", 0, working_with(empties));
+        for (uint32_t reports = 0; reports < 16; reports++) {
+            uint32_t at[RUN], three[3];
+            fresh(), memcpy(at, run.now + GUARD, sizeof at), sivorandra_advance(at, RUN, reports, empties, three, 3);
+            calls++, wrong += (three[0] == SIVORANDRA_DONE) != ((reports & of[empties]) == reports);
+        }
+    }
+    for (size_t i = 0; i < sizeof past / sizeof past[0]; i++) {
+        fresh(), refused(20), numbers.want[GUARD] = 0, expect("working: empty past the count", 0, working_with(past[i]));
+        fresh(), set(KIND + 1, 1, 5), answered(SIVORANDRA_REFUSED, 15, 1), numbers.want[GUARD] = 0, expect("working: 15 before 20", 0, working_with(past[i]));
+        fresh(), set(KIND + 1, 1, 5), set(0, 1, 5), refused(14), numbers.want[GUARD] = 0, expect("working: 14 before 15 and 20", 0, working_with(past[i]));
+    }
+    fresh(), set(USED, RUN - USED, ONES), answered(0, 0, 0), numbers.want[GUARD] = 5, expect("working: ones past the count", 0, working_with(0));
+    fresh(), set(0, RUN, ONES), refused(14), numbers.want[GUARD] = 0, expect("working: all ones", 0, working_with(0));
+    fresh(), set(0, RUN, 0), refused(14), numbers.want[GUARD] = 0, expect("working: all zeros", 0, working_with(0));
+
+    /* position 1 holds two cores and lends one to position 2, which works; then position 2 has its own */
+    enum { TWO = 19 };
+    static const uint32_t table[TWO] = { 1, 2, SIVORANDRA_LENDING, 0, 0, 2, 0, 2, 2, 4, 4, 2, 0, 0, 1, 2, 4, 4, 1 };
+    static const uint32_t ticks[3] = { 1, 2, 2 };
+    uint32_t at[RUN], three[3];
+    sivorandra_start(table, TWO, at, RUN, three, 3);
+    for (uint32_t tick = 0; tick < 3; tick++) {
+        fresh(), words(&run, RUN, at, RUN), answered(0, 0, 0), numbers.want[GUARD] = ticks[tick], expect("working: one that lends", 0, working_with(0));
+        sivorandra_advance(at, RUN, tick == 0, 0, three, 3);
+    }
+}
+
 /* Positions withdrawn from the run of `full` under idling, in its first tick and in its second; refusals; and the set built by hand. */
 static void withdrawals(void)
 {
@@ -866,7 +926,7 @@ static void lists(void)
 
 int main(void)
 {
-    nulls(), sentences(), tables(), horizons(), bounds(), lengths(), built(), fences(), parities(), empty_jobs(), lending(), as_sets(), withdrawals(), together(), lists(), figures(), supplied();
+    nulls(), sentences(), tables(), horizons(), bounds(), lengths(), built(), fences(), parities(), empty_jobs(), lending(), as_sets(), who_works(), withdrawals(), together(), lists(), figures(), supplied();
     printf("%u calls, %u wrong\n", calls, wrong);
     return wrong != 0;
 }

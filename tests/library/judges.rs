@@ -1,6 +1,6 @@
 //! Calls of the library for tests/outside/judges: each line of standard input is a call, and one line answers it.
-//! `judge WORD..` asks the faster of the two judges, `ticks WORD..` the tick judge; the answer is the program's verdict line.
-use sivorandra::{judge, judge_ticks, Refusal, Verdict};
+//! `judge WORD..` asks the fastest way, `ticks WORD..` the tick judge, `events WORD..` the event judge; the answer is the program's verdict line.
+use sivorandra::{judge, judge_events, judge_ticks, Refusal, Verdict};
 use std::io::{self, BufRead, Write};
 
 fn line_of(verdict: Result<Verdict, Refusal>) -> String {
@@ -15,7 +15,11 @@ fn main() -> io::Result<()> {
     for line in io::stdin().lock().lines() {
         let line = line?;
         let mut given = line.split_whitespace();
-        let call = if given.next() == Some("ticks") { judge_ticks } else { judge };
+        let call = match given.next() {
+            Some("ticks") => judge_ticks,
+            Some("events") => judge_events,
+            _ => judge,
+        };
         let words: Vec<u32> = given.map(|word| word.parse().expect("a number")).collect();
         writeln!(out, "{}", line_of(call(&words)))?;
         out.flush()?;

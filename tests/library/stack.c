@@ -19,11 +19,13 @@ static uint32_t end, last;
 static void version(void) { sivorandra_version(); }
 static void judge(void) { sivorandra_judge(table, words, answer, 3); }
 static void judge_ticks(void) { sivorandra_judge_ticks(table, words, answer, 3); }
+static void judge_events(void) { sivorandra_judge_events(table, words, answer, 3); }
 static void plan(void) { sivorandra_plan(table, words, 0, end, rows, sizeof rows, answer, 3); }
 static void replay(void) { sivorandra_replay(table, words, entries, TICKS * SIVORANDRA_ENTRY_WORDS, numbers, TICKS, rows, sizeof rows, answer, 3); }
 static void start(void) { sivorandra_start(table, words, run, RUN, answer, 3); }
 static void row(void) { sivorandra_row(run, RUN, 0, rows, sizeof rows, answer, 3); }
 static void row_as_sets(void) { sivorandra_sets(run, RUN, 0, sets, SIVORANDRA_SETS, answer, 3); }
+static void working(void) { sivorandra_working(run, RUN, 0, numbers, 1, answer, 3); }
 static void advance(void) { sivorandra_advance(run, RUN, 0, 0, answer, 3); }
 static void withdraw(void) { sivorandra_withdraw(run, RUN, TASKS, answer, 3); }
 static void withdraw_all(void) { sivorandra_withdraw_all(run, RUN, 0xffffffffu, answer, 3); }
@@ -42,8 +44,8 @@ static void take(void)
 }
 
 static struct { const char *name; void (*call)(void); size_t most; } calls[] = {
-    { "version", version, 0 }, { "judge", judge, 0 }, { "judge_ticks", judge_ticks, 0 }, { "plan", plan, 0 }, { "replay", replay, 0 },
-    { "start", start, 0 }, { "row", row, 0 }, { "sets", row_as_sets, 0 }, { "advance", advance, 0 }, { "withdraw", withdraw, 0 },
+    { "version", version, 0 }, { "judge", judge, 0 }, { "judge_ticks", judge_ticks, 0 }, { "judge_events", judge_events, 0 }, { "plan", plan, 0 }, { "replay", replay, 0 },
+    { "start", start, 0 }, { "row", row, 0 }, { "sets", row_as_sets, 0 }, { "working", working, 0 }, { "advance", advance, 0 }, { "withdraw", withdraw, 0 },
     { "withdraw_all", withdraw_all, 0 }, { "sentence", explain, 0 }, { "facts", parse, 0 }, { "response_times", response_times, 0 }, { "conflict", conflict, 0 }, { "slack", slack, 0 }, { "bounds", bounds, 0 },
     { "begin", begin, 0 }, { "take", take, 0 },
 };

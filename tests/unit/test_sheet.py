@@ -378,7 +378,7 @@ class Notes(unittest.TestCase):
             (head + "camera,1,1,99999999999,,5\n", "refused 1 0", "line 6, column D: the length of camera is 99999999999, more than ten digits"),
             (head + "camera,1,1,4294967296,,5\n", "refused 1 0", "line 6, column D: the length of camera is 4294967296, and the largest number is 4,294,967,295"),
             (head + "".join(f"t{k},{k + 1},1,1,,5\n" for k in range(33)), "refused 1 0", "line 38: 33 tasks, at most 32"),
-            (head + "camera,1,2,1,,5\nvalve,2,1,1,,5\n", "refused 23 0", "line 6, column C: the width of camera (position 1) is 2 and the width of valve (position 2) is 1; spare ticks are given under 1 (greedy) where no width is above one of the next"),
+            (head + "camera,1,2,1,,5\nvalve,2,1,1,,5\n", "refused 23 0", "line 6, column C: the width of camera (position 1) is 2 and the width of valve (position 2) is 1; slack is given under 1 (greedy) where no width is above one of the next"),
         ]:
             self.assertEqual(self.noted(text, answer), [note])
         self.assertEqual(self.noted(head + "camera,1,1,1,,5\n", "firm 0 5"), [])

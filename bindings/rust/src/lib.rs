@@ -1,35 +1,70 @@
 //! Safe functions over Sivorandra, a proved timing judge for tables of gang tasks.
 //!
+//! # The run loop
+//!
+//! ```
+//! use sivorandra::{link, Record, Refusal, Run, LENDING};
+//!
+//! # fn without_work(tick: u32) -> u32 { if tick == 5 { 0b010 } else { 0 } }
+//! # fn dispatch(_: &[u64; 32], _: u32, tick: u32) -> u32 { (tick == 0) as u32 }
+//! fn cab() -> Result<(), Refusal> {
+//!     // offset, width of odd jobs, length, deadline, period, width of even jobs; position 1 first
+//!     let records = [[0, 2, 2, 5, 5, 2], [0, 2, 3, 5, 5, 2], [0, 1, 4, 5, 5, 1]].map(Record::from);
+//!     let mut run = Run::start(link(3, LENDING, 0, &records, &[0, 1, 2])?.words())?;
+//!     for tick in 0..12 {
+//!         let empties = without_work(tick); // of the jobs that are released now: those with no work
+//!         let sets = run.sets(empties)?; // sets[0]: the cores of position 1, core 0 the lowest bit
+//!         let working = run.working(empties)?; // the positions whose job is to run now
+//!         let ended = dispatch(&sets, working, tick); // the tick passes; which of them have ended?
+//!         run.advance(ended & working, empties)?; // a refusal leaves the run as it was
+//!         if tick == 7 {
+//!             run.withdraw(3)?; // all later jobs of position 3 are empty
+//!         }
+//!     }
+//!     Ok(())
+//! }
+//! # cab().unwrap();
+//! ```
+//!
+//! - A set of positions has bit 0 for position 1, the highest priority. A job may be empty only in the tick in which it is released.
+//! - A position can have cores and not be in `working`: its job has ended and holds them, under rules 3 and 4. A report on it is refused.
+//! - A start takes a table that is firm or full; [`judge`] says which. In a firm one no job is ever late. In a full one a job that ends early or is empty can make another
+//!   late: [`Refusal::Late`], after which the run stays in its tick for good.
+//! - A refusal leaves the run as it was. `{refusal}` prints its sentence and number; `number()` and `position()` return them. [`Refusal::BadEmpty`] and [`Refusal::BadReport`]
+//!   are mistakes in the two sets: correct them, and call again. [`Refusal::NotFirm`] and [`Refusal::NoPosition`] refuse a withdrawal. `#![deny(unused_must_use)]` makes a
+//!   refusal that is overlooked an error.
+//! - `examples/run_loop.rs` is the whole program, and `examples/judge.rs` judges a file.
+//!
+//! # Linking
+//!
 //! With cargo the build script finds libsivorandra.a (`tools/archive` makes it; SIVORANDRA_LIB names the folder of another); with rustc alone:
-//! `rustc --edition 2021 --crate-type rlib --crate-name sivorandra -L native=target/staticlib bindings/rust/src/lib.rs`
+//! `rustc --edition 2021 --cfg 'feature="std"' --crate-type rlib --crate-name sivorandra -L native=target/staticlib bindings/rust/src/lib.rs`
 //!
-//! A table is given by its words: head, cores, rule and two words of fence, then next, O, v, C, D, T and w of each record. Odd jobs of a task, its first, third and so on,
-//! take v cores, even ones w.
+//! The library runs on x86-64 Linux today, since the toolchain writes no other archive. Nothing known in the sources stands against another machine, and it was not tried.
 //!
-//! ```
-//! use sivorandra::{judge, Verdict};
+//! # Memory
 //!
-//! let table = [
-//!     1, 3, 1, 0, 0, // head, cores, rule, fence
-//!     2, 0, 2, 2, 5, 5, 2, // next, offset, width, length, deadline, period, width of even jobs
-//!     3, 0, 2, 3, 5, 5, 2, //
-//!     0, 0, 1, 4, 5, 5, 1,
-//! ];
-//! assert_eq!(judge(&table)?, Verdict::Full { start: 0, period: 5 });
-//! # Ok::<(), sivorandra::Refusal>(())
-//! ```
-//!
-//! No function takes memory but `replay` and `sentence`, which return some, and none has a state of its own: any number of threads may call at once.
-//! `include/sivorandra.h` has what a call costs in time and stack.
+//! Without its default feature `std` the crate is `no_std` and takes no memory from the heap. With it there are also `replay` and `sentence`, which return some. No function has a state
+//! of its own: any number of threads may call at once. `include/sivorandra.h` has what a call costs in time and stack.
+#![no_std]
 #![warn(missing_docs)]
+#![deny(unsafe_op_in_unsafe_fn)]
+
+#[cfg(feature = "std")]
+extern crate std;
 
 mod refusal;
+mod table;
 
 pub use refusal::Refusal;
-use std::fmt;
+pub use table::{link, Record, Table};
+
+use core::fmt;
+#[cfg(feature = "std")]
+use std::{string::String, vec, vec::Vec};
 
 /// The version that these bindings are for: major * 10000 + minor * 100 + patch. `version` is that of the library that is linked.
-pub const VERSION: u32 = 2300;
+pub const VERSION: u32 = 2700;
 
 /// The most tasks on a chain, and the most records of a table.
 pub const MOST_TASKS: usize = 32;
@@ -109,6 +144,7 @@ pub const FENCED: u8 = 255;
 pub const SETS: usize = MOST_TASKS;
 
 /// The words of an entry of a list.
+#[cfg(feature = "std")]
 const ENTRY_WORDS: usize = 3;
 
 /// No sentence is longer: a buffer of this size is never refused with 18.
@@ -176,6 +212,7 @@ impl fmt::Display for Verdict {
 /// assert_eq!(out.row?[..1], [2]);
 /// # Ok::<(), sivorandra::Refusal>(())
 /// ```
+#[cfg(feature = "std")]
 #[derive(Clone, Copy, Debug, PartialEq, Eq, Hash)]
 #[non_exhaustive]
 pub enum Entry {
@@ -198,6 +235,7 @@ pub enum Entry {
     },
 }
 
+#[cfg(feature = "std")]
 impl Entry {
     fn words(self) -> [u32; ENTRY_WORDS] {
         match self {
@@ -219,6 +257,7 @@ impl Entry {
 /// assert_eq!(replay.row?[..3], [2, 2, 3]);
 /// # Ok::<(), Refusal>(())
 /// ```
+#[cfg(feature = "std")]
 #[derive(Clone, Debug, PartialEq, Eq)]
 pub struct Replay {
     /// The answer to each entry of the list.
@@ -309,7 +348,9 @@ extern "C" {
     fn sivorandra_version() -> u32;
     fn sivorandra_judge(words: *const u32, words_len: usize, answer: *mut u32, answer_len: usize) -> u32;
     fn sivorandra_judge_ticks(words: *const u32, words_len: usize, answer: *mut u32, answer_len: usize) -> u32;
+    fn sivorandra_judge_events(words: *const u32, words_len: usize, answer: *mut u32, answer_len: usize) -> u32;
     fn sivorandra_plan(words: *const u32, words_len: usize, a: u32, b: u32, rows: *mut u8, rows_len: usize, answer: *mut u32, answer_len: usize) -> u32;
+    #[cfg(feature = "std")]
     fn sivorandra_replay(
         words: *const u32,
         words_len: usize,
@@ -325,6 +366,7 @@ extern "C" {
     fn sivorandra_start(words: *const u32, words_len: usize, run: *mut u32, run_len: usize, answer: *mut u32, answer_len: usize) -> u32;
     fn sivorandra_row(run: *const u32, run_len: usize, empties: u32, row: *mut u8, row_len: usize, answer: *mut u32, answer_len: usize) -> u32;
     fn sivorandra_sets(run: *const u32, run_len: usize, empties: u32, sets: *mut u64, sets_len: usize, answer: *mut u32, answer_len: usize) -> u32;
+    fn sivorandra_working(run: *const u32, run_len: usize, empties: u32, set: *mut u32, set_len: usize, answer: *mut u32, answer_len: usize) -> u32;
     fn sivorandra_withdraw(run: *mut u32, run_len: usize, position: u32, answer: *mut u32, answer_len: usize) -> u32;
     fn sivorandra_withdraw_all(run: *mut u32, run_len: usize, set: u32, answer: *mut u32, answer_len: usize) -> u32;
     fn sivorandra_sentence(words: *const u32, words_len: usize, buffer: *mut u8, buffer_len: usize, answer: *mut u32, answer_len: usize) -> u32;
@@ -399,7 +441,7 @@ pub fn judge(words: &[u32]) -> Result<Verdict, Refusal> {
     verdict(ask(|answer, len| unsafe { sivorandra_judge(words.as_ptr(), words.len(), answer, len) }))
 }
 
-/// The same verdict, always tick by tick, for comparison with the other.
+/// The same verdict, always tick by tick, for comparison with the others.
 ///
 /// ```
 /// use sivorandra::{judge, judge_ticks};
@@ -409,6 +451,18 @@ pub fn judge(words: &[u32]) -> Result<Verdict, Refusal> {
 /// ```
 pub fn judge_ticks(words: &[u32]) -> Result<Verdict, Refusal> {
     verdict(ask(|answer, len| unsafe { sivorandra_judge_ticks(words.as_ptr(), words.len(), answer, len) }))
+}
+
+/// The same verdict, always event by event, for comparison with the others.
+///
+/// ```
+/// use sivorandra::{judge, judge_events};
+///
+/// let table = [1, 3, 1, 0, 0, 2, 0, 2, 2, 5, 5, 2, 3, 0, 2, 3, 5, 5, 2, 0, 0, 1, 4, 5, 5, 1];
+/// assert_eq!(judge_events(&table), judge(&table));
+/// ```
+pub fn judge_events(words: &[u32]) -> Result<Verdict, Refusal> {
+    verdict(ask(|answer, len| unsafe { sivorandra_judge_events(words.as_ptr(), words.len(), answer, len) }))
 }
 
 /// Writes rows `a` up to but not including `b` of the full-length run into `rows`, one byte a core, fenced ones too.
@@ -455,6 +509,7 @@ pub fn sentence_in(words: &[u32], buffer: &mut [u8]) -> Result<usize, Refusal> {
 /// assert_eq!(sentence(&table), Err(Refusal::NoMiss));
 /// # Ok::<(), Refusal>(())
 /// ```
+#[cfg(feature = "std")]
 pub fn sentence(words: &[u32]) -> Result<String, Refusal> {
     let mut buffer = [0; SENTENCE_BYTES];
     let length = sentence_in(words, &mut buffer)?;
@@ -561,6 +616,7 @@ pub fn bounds(words: &[u32]) -> Result<Option<[u32; MOST_TASKS]>, Refusal> {
 /// assert_eq!(replay.row, Err(Refusal::Late { position: 3 }));
 /// # Ok::<(), Refusal>(())
 /// ```
+#[cfg(feature = "std")]
 pub fn replay(words: &[u32], list: &[Entry]) -> Result<Replay, Refusal> {
     let entries: Vec<u32> = list.iter().flat_map(|entry| entry.words()).collect();
     let mut numbers = vec![0; list.len()];
@@ -591,7 +647,7 @@ impl Run {
         Ok(Run { words: run })
     }
 
-    /// A run from any words: words that are no run are refused with 14 by `row`, `sets`, `advance` and the withdrawals.
+    /// A run from any words: words that are no run are refused with 14 by `row`, `sets`, `working`, `advance` and the withdrawals.
     ///
     /// ```
     /// use sivorandra::{Refusal, Run, RUN_WORDS};
@@ -690,6 +746,28 @@ impl Run {
         let mut sets = [0; SETS];
         done(ask(|answer, len| unsafe { sivorandra_sets(self.words.as_ptr(), self.words.len(), empties, sets.as_mut_ptr(), sets.len(), answer, len) }))?;
         Ok(sets)
+    }
+
+    /// The set of the positions whose job works in the present tick, bit p for position p + 1: it has cores, its own or lent ones, and has not ended. These are the positions that a report
+    /// may name; one that holds cores or lends them is not among them. It has `row`'s numbers.
+    ///
+    /// ```
+    /// use sivorandra::{Refusal, Run, LENDING};
+    ///
+    /// // two cores wanted at position 1, one at position 2
+    /// let mut run = Run::start(&[1, 2, LENDING, 0, 0, 2, 0, 2, 2, 4, 4, 2, 0, 0, 1, 2, 4, 4, 1])?;
+    /// assert_eq!(run.working(0)?, 0b01);
+    /// assert_eq!(run.working(0b01)?, 0b10); // the job of position 1 is empty, and lends its cores
+    /// run.advance(0b01, 0)?; // it has ended
+    /// assert_eq!(run.sets(0)?[..2], [0b10, 0b01]); // position 1 holds a core ..
+    /// assert_eq!(run.working(0)?, 0b10); // .. and does not work
+    /// assert_eq!(run.working(0b100), Err(Refusal::BadEmpty)); // there is no position 3
+    /// # Ok::<(), Refusal>(())
+    /// ```
+    pub fn working(&self, empties: u32) -> Result<u32, Refusal> {
+        let mut set = 0;
+        done(ask(|answer, len| unsafe { sivorandra_working(self.words.as_ptr(), self.words.len(), empties, &mut set, 1, answer, len) }))?;
+        Ok(set)
     }
 
     /// Moves the run by one tick. Bit p of `reports` is set if the job of position p + 1 ends after this tick, bit p of `empties` if it is released in this tick and empty. A

@@ -1,6 +1,6 @@
 //! The numbers with which a call is refused.
-use std::error::Error;
-use std::fmt;
+use core::error::Error;
+use core::fmt;
 
 /// Why a call is refused: one variant for each number of the scope, with the position that is at fault, or the tick, where the number has one.
 ///

@@ -7,10 +7,10 @@ use Rattle.run.specs.Row.{rowAnswer, bytesIn, rowOf}
 use Rattle.run.specs.Sets.{setsIn, setsOf}
 use Rattle.run.specs.Run.{grantsIn, lentIn, mapFirst, moved, offerIn, seeksIn, withdrawnIn}
 use Rattle.run.specs.Withdraw.{withdrawAnswer, withdrawOf, withdrawAllOf}
-use Rattle.capi.specs.Encoding.{placesWords, encodeTo, arePlaces, placesIn, holdsRun, runIn}
-use Rattle.capi.specs.Runs.{rowCall, setsCall, advanceCall, withdrawCall, withdrawAllCall}
+use Rattle.buffers.specs.Encoding.{placesWords, encodeTo, arePlaces, placesIn, holdsRun, runIn}
+use Rattle.capi.specs.Runs.{rowCall, setsCall, entryCall}
 
 unfoldable pub calling : Unit {0}
-unfolding computing rowCall setsCall advanceCall withdrawCall withdrawAllCall holdsRun arePlaces runIn placesIn encodeTo placesWords rowOf rowAnswer bytesIn setsOf setsIn advanceOf
+unfolding computing rowCall setsCall entryCall holdsRun arePlaces runIn placesIn encodeTo placesWords rowOf rowAnswer bytesIn setsOf setsIn advanceOf
     advanceAnswer withdrawOf withdrawAllOf withdrawAnswer pastCount runOut firstLateIn wrongEmptiesIn wrongReportsIn grantsIn lentIn offerIn seeksIn mapFirst moved withdrawnIn
 calling = tt

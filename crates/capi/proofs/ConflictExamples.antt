@@ -1,6 +1,6 @@
 -- The result of the call that gives the tasks in conflict, computed from the definitions: the set of the positions kept, 17 where there is no miss, a table's
 -- number, and everything as found where the answer has no space.
-use mathlib.Core.List.{List, [], _∷_, _++_, map}
+use mathlib.Core.List.{List, [], _∷_, map}
 use mathlib.Core.Path.{_≡_, refl}
 use Prim.Native.Nat.{ℕ}
 use lib.ListN.{replicate}

@@ -9,7 +9,7 @@ use Rattle.phase.specs.declared.Phase.{Phase}
 use Rattle.phase.specs.declared.Phase.the-variants.{Working, Holding, Resting}
 use Rattle.phase.specs.declared.Task.{Task}
 use Rattle.capi.specs.Calls.{CallResult}
-use Rattle.capi.specs.Encoding.{placeWords}
+use Rattle.buffers.specs.Encoding.{placeWords}
 use Rattle.capi.specs.Runs.{rowCall, advanceCall}
 use Rattle.capi.proofs.Calling.{calling}
 

@@ -2,17 +2,17 @@
 use mathlib.Core.Path.{_≡_, refl, sym, ap, _∙_}
 use mathlib.Core.Bool.{Bool, true, false, _&&_}
 use mathlib.Core.List.{List, [], _∷_}
-use Prim.Native.Nat.{ℕ, _≤_, _<_}
+use Prim.Native.Nat.{ℕ}
 use native.Mathlib.Omega.{arith}
-use lib.ListN.{length}
-use lib.Dec.{leb}
-use borrow.Author.Tests.{le-leb, lt-leb}
+use lib.ListN.{take}
+use Rattle.model.specs.Sizes.{mostCores}
 use Rattle.refinement.specs.declared.Replayed.{Replayed}
 use Rattle.refinement.specs.declared.Replayed.the-variants.{Shown, RowRefused, Refused, Unfit}
-use Rattle.refinement.specs.Replay.{ReplayOutcome, ReplayOf}
-use Rattle.capi.specs.AnswerWords.{answerWritten}
+use Rattle.refinement.specs.Replay.{ReplayOutcome, ReplayOf, replayMeaning}
+use Rattle.buffers.specs.AnswerWords.{answerFits, answerWritten}
 use Rattle.capi.specs.Calls.{callResult, byRoom}
-use Rattle.capi.specs.Replays.{fitted, ofReplayed, byOutcome, replayCall}
+use Rattle.buffers.specs.AnswerWords.{fitted, ofReplayed}
+use Rattle.capi.specs.Replays.{byOutcome, replayCall}
 
 not-fitted : (v : Replayed) → fitted v ≡ false → v ≡ Unfit
 not-fitted Shown e = absurd (let z : _≡_ {A = Bool} true false = e in let n : _≡_ {A = ℕ} 0 1 = cc in omega arith)
@@ -26,9 +26,9 @@ short-by false u lent found e = refl
 
 module _ (ws es numbers row answer : List ℕ) where
   -- the slice `answer` is too short
-  pub replay-narrow : length answer < 3 → replayCall ws es numbers row answer ≡ callResult 1 (numbers ∷ (row ∷ (answer ∷ [])))
+  pub replay-narrow : answerFits answer ≡ false → callResult 1 (numbers ∷ (row ∷ (answer ∷ []))) ≡ replayCall ws es numbers row answer
   unfolding replayCall
-  replay-narrow h = simp (lt-leb 3 (length answer) h)
+  replay-narrow h = sym (simp h)
 
   module _ (o : ReplayOutcome) (r : ReplayOf ws es numbers row o) where
     -- the call goes by the outcome
@@ -39,13 +39,13 @@ module _ (ws es numbers row answer : List ℕ) where
     -- another lent slice does not fit
     pub replay-unfit : fitted (o .answer) ≡ false → callResult 1 (o .numbers ∷ (o .bytes ∷ (answer ∷ []))) ≡ replayCall ws es numbers row answer
     replay-unfit e =
-        let f = r .unfit-found (not-fitted (o .answer) e) in
+        let f = r .unfit-found (ap (λ (v : Replayed). replayMeaning v (take mostCores (o .bytes))) (not-fitted (o .answer) e)) in
         (λ i. callResult 1 (f .0 i ∷ (f .1 i ∷ (answer ∷ []))))
-        ∙ sym (by-outcome ∙ short-by (leb 3 (length answer)) (fitted (o .answer)) _ _ e)
+        ∙ sym (by-outcome ∙ short-by (answerFits answer) (fitted (o .answer)) _ _ e)
 
     -- every lent slice fits
     pub replay-room :
-        {new : List ℕ} → fitted (o .answer) ≡ true → 3 ≤ length answer → new ≡ answerWritten (ofReplayed (o .answer)) answer
+        {new : List ℕ} → fitted (o .answer) ≡ true → answerFits answer ≡ true → new ≡ answerWritten (ofReplayed (o .answer)) answer
         → callResult 0 (o .numbers ∷ (o .bytes ∷ (new ∷ []))) ≡ replayCall ws es numbers row answer
     replay-room e h n =
-        ap (λ (l : List ℕ). callResult 0 (o .numbers ∷ (o .bytes ∷ (l ∷ [])))) n ∙ sym (by-outcome ∙ simp (le-leb 3 (length answer) h, e))
+        ap (λ (l : List ℕ). callResult 0 (o .numbers ∷ (o .bytes ∷ (l ∷ [])))) n ∙ sym (by-outcome ∙ simp (h, e))

@@ -8,7 +8,7 @@ use lib.ListN.{replicate}
 use Rattle.phase.specs.declared.Phase.{Phase}
 use Rattle.phase.specs.declared.Phase.the-variants.{Coming, Working, Resting}
 use Rattle.capi.specs.Calls.{CallResult}
-use Rattle.capi.specs.Encoding.{placeWords}
+use Rattle.buffers.specs.Encoding.{placeWords}
 use Rattle.capi.specs.Runs.{rowCall, advanceCall, withdrawCall}
 use Rattle.capi.proofs.Calling.{calling}
 

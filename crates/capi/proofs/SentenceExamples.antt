@@ -10,7 +10,8 @@ use Rattle.sentence.specs.Facts.{expressible, ascending}
 use Rattle.sentence.specs.Sentence.{sentenceText, sentenceHead, parts}
 use Rattle.sentence.specs.Parsed.{parsed, candidate, numbersFrom, paired, same}
 use Rattle.capi.specs.Calls.{callResult}
-use Rattle.capi.specs.Sentences.{countOf, countsFrom, factWordsOf, factsCall}
+use Rattle.buffers.specs.Facts.{countOf, countsFrom, factWordsOf}
+use Rattle.capi.specs.Sentences.{factsCall}
 
 -- a number of words as they are lent
 abbrev lent : ℕ → List ℕ

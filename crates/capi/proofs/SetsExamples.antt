@@ -6,12 +6,11 @@ use mathlib.Core.Path.{_≡_, refl}
 use mathlib.Core.Bool.{false}
 use Prim.Native.Nat.{ℕ}
 use lib.ListN.{replicate}
-use Rattle.model.proofs.LineByLine.{LineByLine, by-line}
 use Rattle.phase.specs.declared.Phase.{Phase}
 use Rattle.phase.specs.declared.Phase.the-variants.{Working, Holding, Resting}
 use Rattle.phase.specs.declared.Task.{Task}
 use Rattle.capi.specs.Calls.{CallResult, callResult}
-use Rattle.capi.specs.Encoding.{placeWords}
+use Rattle.buffers.specs.Encoding.{placeWords}
 use Rattle.capi.specs.Runs.{setsCall}
 use Rattle.capi.proofs.Calling.{calling}
 
@@ -35,33 +34,33 @@ worked l = record {
 }
 
 -- a number of words as they are lent
-abbrev lent : ℕ → List ℕ
+abbrev pub lent : ℕ → List ℕ
 lent n = replicate n 77
 
 abbrev task : ℕ → Phase → Task
 task v ph = record { offset = 0; width = v; length = 2; deadline = 4; period = 4; second = v; even = false; phase = ph }
 
 -- the run in words, with these six words in front, its tasks in these phases, and anything past the count
-abbrev words : List ℕ → Phase → Phase → List ℕ
+abbrev pub words : List ℕ → Phase → Phase → List ℕ
 words head a b = head ++ (placeWords (task 2 a) ++ (placeWords (task 1 b) ++ lent 330))
 
 -- under rule n on c cores with no fence and no position withdrawn
-abbrev plain : ℕ → ℕ → List ℕ
+abbrev pub plain : ℕ → ℕ → List ℕ
 plain n c = n ∷ c ∷ 2 ∷ 0 ∷ 0 ∷ 0 ∷ []
 
 -- .. and with a fence in two words
-abbrev fenced : ℕ → ℕ → ℕ → List ℕ
+abbrev pub fenced : ℕ → ℕ → ℕ → List ℕ
 fenced c low high = 1 ∷ c ∷ 2 ∷ low ∷ high ∷ 0 ∷ []
 
 -- both tasks released in this tick; and the first holds its cores, while the second has work and none
-abbrev fresh : List ℕ → List ℕ
+abbrev pub fresh : List ℕ → List ℕ
 fresh head = words head (Working 0 0 0) (Working 0 0 0)
 
-abbrev held : ℕ → List ℕ
+abbrev pub held : ℕ → List ℕ
 held n = words (plain n 2) (Holding 1 1) (Working 1 0 0)
 
 -- the first or the second has not ended its job at its deadline
-abbrev late : ℕ → Phase → Phase → List ℕ
+abbrev pub late : ℕ → Phase → Phase → List ℕ
 late n a b = words (plain n 3) a b
 
 -- with the empty jobs e the two tasks have these sets; of 34 words and an answer of 4 the last stay
@@ -119,9 +118,6 @@ lines =
     ∷ []
 
 -- every line is its value by the definitions
-computed : LineByLine worked lines lines
-unfolding calling
-computed = (refl, (refl, (refl, (refl, (refl, (refl, (refl, (refl, (refl, (refl, (refl, (refl, (refl, (refl, (refl, (refl, (refl, (refl, (refl, (refl, (refl, (refl, (refl, (refl, (refl, (refl, (refl, (refl, (refl, (refl, (refl, (refl, tt))))))))))))))))))))))))))))))))
-
 pub examples : map worked lines ≡ lines
-examples = by-line worked lines lines computed
+unfolding calling
+examples = refl

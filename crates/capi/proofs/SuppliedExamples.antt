@@ -6,7 +6,6 @@ use mathlib.Core.List.{List, [], _∷_, _++_, map}
 use Prim.Native.Nat.{ℕ, zero, suc}
 use Prim.Native.String.{String}
 use lib.ListN.{replicate, take}
-use Rattle.model.proofs.LineByLine.{LineByLine, by-line}
 use Rattle.phase.specs.declared.Phase.{Phase}
 use Rattle.phase.specs.declared.Phase.the-variants.{Coming, Working, Resting}
 use Rattle.run.specs.Start.{startedRun}
@@ -18,8 +17,8 @@ use Rattle.plan_check.specs.Plan.{cellCount}
 use Rattle.plan_check.specs.Row.{faulty, anyUnknownByte, workedRow}
 use Rattle.plan_check.specs.CheckRow.{answerAt, finalAnswer, checkRowAnswer, checkRowOf}
 use Rattle.capi.specs.Calls.{CallResult, callResult}
-use Rattle.capi.specs.Encoding.{placeWords}
-use Rattle.capi.specs.Supplied.{notesWords, planOver, notesIn, holdsPlan, planIn}
+use Rattle.buffers.specs.Encoding.{placeWords}
+use Rattle.buffers.specs.Supplied.{notesWords, planOver, notesIn, holdsPlan, planIn}
 use Rattle.capi.specs.CheckRow.{beginCall, checkRowCall}
 use Rattle.capi.proofs.Calling.{calling}
 
@@ -139,13 +138,8 @@ lines =
     ∷ stays "take, no room for an answer" (takes (0 ∷ [])) (plan false (Coming 1) 0 nothing) 2
     ∷ []
 
--- every line is its value by the definitions, line by line
-computed : LineByLine computes lines lines
+-- every line is its value by the definitions
+pub examples : map computes lines ≡ lines
 unfolding times beginCall checkRowCall planOver notesWords notesIn holdsPlan planIn beginOf checkRowOf checkRowAnswer answerAt finalAnswer differs missed stateOut faulty anyUnknownByte
     workedRow cellCount startedRun answerOf byWalk byTasks byHorizon firstOut endingOf lastStep headerNumber tableOf chain count visited calling
-computed =
-    (refl, (refl, (refl, (refl, (refl, (refl, (refl, (refl, (refl, (refl, (refl, (refl, (refl, (refl, (refl, (refl, (refl, (refl, (refl, (refl, (refl, (refl, tt))))))))))))))))))))))
-
--- .. and as one list
-pub examples : map computes lines ≡ lines
-examples = by-line computes lines lines computed
+examples = refl

@@ -10,7 +10,7 @@ use Rattle.phase.specs.declared.Phase.{Phase}
 use Rattle.phase.specs.declared.Phase.the-variants.{Working}
 use Rattle.phase.specs.declared.Task.{Task}
 use Rattle.capi.specs.Calls.{CallResult, callResult}
-use Rattle.capi.specs.Encoding.{placeWords}
+use Rattle.buffers.specs.Encoding.{placeWords}
 use Rattle.capi.specs.Runs.{withdrawAllCall}
 use Rattle.capi.proofs.Calling.{calling}
 

@@ -3,12 +3,11 @@ use mathlib.Core.Bool.{Bool, cond}
 use mathlib.Core.List.{List, [], _∷_}
 use Prim.Native.Nat.{ℕ}
 use lib.ListN.{length}
-use lib.Dec.{leb}
 use Rattle.table.specs.Words.{tableOf}
 use Rattle.judge.specs.Judged.{verdictOf}
 use Rattle.plan.specs.Plan.{plannedOf, planMeaning, bufferOf}
 use Rattle.conflict.specs.Answer.{conflictOf}
-use Rattle.capi.specs.AnswerWords.{ofVerdict, ofPlanned, ofGiven, answerWritten}
+use Rattle.buffers.specs.AnswerWords.{answerFits, ofVerdict, ofPlanned, ofGiven, answerWritten}
 
 -- the return value, and the lent slices in the order of the parameters
 pub record CallResult : Type 0 where
@@ -20,11 +19,7 @@ callResult v ls = record { value = v; lent = ls }
 
 -- where there is space the call is answered, 0; a lent slice too short leaves everything as found, 1
 abbrev pub byRoom : Bool → List (List ℕ) → List (List ℕ) → CallResult
-byRoom answerFits lent found = cond answerFits (callResult 0 lent) (callResult 1 found)
-
--- the slice `answer` has space for three words
-abbrev pub answerFits : List ℕ → Bool
-answerFits answer = leb 3 (length answer)
+byRoom fit lent found = cond fit (callResult 0 lent) (callResult 1 found)
 
 -- the verdict of the words
 unfoldable pub judgeCall : List ℕ → List ℕ → CallResult

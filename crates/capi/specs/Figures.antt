@@ -1,22 +1,20 @@
 -- The results of the calls that give a number for each task: 32 numbers in a lent buffer of words, and the answer.
-use mathlib.Core.Bool.{Bool, _&&_, cond}
 use mathlib.Core.List.{List, [], _∷_, _++_}
 use Prim.Native.Nat.{ℕ}
 use lib.ListN.{length, drop}
-use lib.Dec.{leb}
 use Rattle.model.specs.Sizes.{mostTasks}
 use Rattle.table.specs.declared.Answer.{Answer}
 use Rattle.response_time.specs.ResponseTimes.{responseTimesOf}
 use Rattle.slack.specs.Answer.{slackOf}
 use Rattle.interference.specs.declared.Bounds.{Bounds}
 use Rattle.interference.specs.Bounds.{boundsOf}
-use Rattle.capi.specs.AnswerWords.{ofGiven, answerWritten}
-use Rattle.capi.specs.Calls.{CallResult, byRoom, answerFits}
+use Rattle.buffers.specs.AnswerWords.{slicesFit, ofGiven, answerWritten, metWord}
+use Rattle.capi.specs.Calls.{CallResult, byRoom}
 
 -- 32 numbers in front, and the answer
 unfoldable pub figuresCall : Answer → List ℕ → List ℕ → List ℕ → CallResult
 figuresCall given found figures answer =
-    byRoom (answerFits answer && leb mostTasks (length figures))
+    byRoom (slicesFit (length figures) mostTasks answer)
     ((found ++ drop mostTasks figures) ∷ (answerWritten (ofGiven given 0) answer ∷ []))
     (figures ∷ (answer ∷ []))
 
@@ -28,14 +26,10 @@ responseTimesCall ws figures answer = figuresCall (responseTimesOf ws .answer) (
 abbrev pub slackCall : List ℕ → List ℕ → List ℕ → CallResult
 slackCall ws figures answer = figuresCall (slackOf ws .answer) (slackOf ws .slack) figures answer
 
--- beside a table that is not refused: 1 where it passes the interference test, 0 where it does not
-abbrev pub metWord : Bool → ℕ
-metWord t = cond t 1 0
-
 -- 32 bounds in front, and the answer
 unfoldable pub boundsCallOf : Bounds → List ℕ → List ℕ → CallResult
 boundsCallOf b figures answer =
-    byRoom (answerFits answer && leb mostTasks (length figures))
+    byRoom (slicesFit (length figures) mostTasks answer)
     ((b .tested .bounds ++ drop mostTasks figures) ∷ (answerWritten (ofGiven (b .answer) (metWord (b .tested .met))) answer ∷ []))
     (figures ∷ (answer ∷ []))
 

@@ -6,6 +6,7 @@ pub mod Still
 pub mod Dropping
 pub mod Minimal
 pub mod Linked
+pub mod LinkedWords
 pub mod Relinked
 pub mod Linking
 pub mod Judging

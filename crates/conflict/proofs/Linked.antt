@@ -32,7 +32,7 @@ unfoldable pub Distinct : List ℕ → Type 0
 Distinct [] = Unit {0}
 Distinct (n ∷ ns) = All (λ m. ¬ (n ≡ m)) ns × Distinct ns
 
-distinct-from : (ns : List ℕ) → ((i j : ℕ) → i < j → j < length ns → ¬ (getD ns i 0 ≡ getD ns j 0)) → Distinct ns
+pub distinct-from : (ns : List ℕ) → ((i j : ℕ) → i < j → j < length ns → ¬ (getD ns i 0 ≡ getD ns j 0)) → Distinct ns
 unfolding Distinct
 distinct-from [] h = tt
 distinct-from (n ∷ ns) h =

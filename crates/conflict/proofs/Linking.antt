@@ -1,13 +1,13 @@
 -- The walk along the chain as code makes it: at each place the records kept from there on are yet to be linked.
 use mathlib.Core.Bool.{Bool, cond, false, true}
-use mathlib.Core.List.{List, [], _∷_}
+use mathlib.Core.List.{List, [], _∷_, _++_}
 use mathlib.Core.Logic.{⊎-elim}
 use mathlib.Core.Path.{ap, ap₂, fun-ext, refl, sym, _∙_, _≡_}
-use Prim.Native.Nat.{ℕ, suc, _+_, _-_, _<_, _≤_}
+use Prim.Native.Nat.{ℕ, zero, suc, _+_, _-_, _<_, _≤_}
 use native.Mathlib.Nat.{add-zero, eq-or-lt-of-le, zero-add}
 use native.Mathlib.Omega.{arith}
-use lib.ListN.{drop, drop-of-length-le, length, set, take}
-use lib.Seq.{drop-cons, take-set-lt}
+use lib.ListN.{drop, drop-of-length-le, length, replicate, set, take, take-append-drop}
+use lib.Seq.{drop-at, drop-cons, drop-set-lt, take-at, take-set-lt}
 use Rattle.model.specs.Search.{bit}
 use Rattle.model.specs.Sizes.{mostTasks}
 use Rattle.table.proofs.Passed.{passed-count}
@@ -15,8 +15,14 @@ use Rattle.table.proofs.Tasks.{chain-at, chain-length, table-length}
 use Rattle.table.specs.Numbers.{NoneApplies}
 use Rattle.table.specs.Words.{chain, count, head, visited, next, records}
 use Rattle.conflict.specs.SubTable.{chosen}
-use Rattle.conflict.specs.Relinked.{linked, nextWordAt, relinked}
-use Rattle.conflict.proofs.Linked.{chain-ends, chain-in, next-inside}
+use Rattle.conflict.specs.Relinked.{linked, mostWords, nextWordAt, padded, relinked}
+use Rattle.conflict.proofs.Linked.{chain-ends, chain-in, linked-length, next-inside}
+
+-- zeros behind zeros
+pub zeros-after : (n m : ℕ) → drop {A = ℕ} n (replicate m 0) ≡ replicate (m - n) 0
+zeros-after zero m = let e : m ≡ m - 0 = omega arith in ap (λ (k : ℕ). replicate {A = ℕ} k 0) e
+zeros-after (suc n) zero = let e : 0 ≡ 0 - suc n = omega arith in ap (λ (k : ℕ). replicate {A = ℕ} k 0) e
+zeros-after (suc n) (suc m) = let e : m - n ≡ suc m - suc n = omega arith in zeros-after n m ∙ ap (λ (k : ℕ). replicate {A = ℕ} k 0) e
 
 -- the records kept from place k on
 abbrev rest : List ℕ → ℕ → ℕ → List ℕ
@@ -50,14 +56,16 @@ pub record Linking (ws : List ℕ) (x : ℕ) (copy : List ℕ) (link place numbe
   pub here : number ≡ visited ws place
   pub inside : link < length ws
   pub linking : linked link (rest ws x place) (take (length ws) copy) ≡ relinked ws x
+  pub behind : drop (length ws) copy ≡ replicate (mostWords - length ws) 0
 
-pub linking-start : (ws : List ℕ) (x : ℕ) (copy : List ℕ) → 0 < length ws → take (length ws) copy ≡ ws → Linking ws x copy 0 0 (head ws)
+pub linking-start : (ws : List ℕ) (x : ℕ) (copy : List ℕ) → 0 < length ws → copy ≡ padded ws → Linking ws x copy 0 0 (head ws)
 unfolding relinked visited
 linking-start ws x copy l e = record {
   within = omega arith;
   here = refl;
   inside = l;
-  linking = ap₂ (linked 0) (rest-start ws x) e;
+  linking = ap₂ (linked 0) (rest-start ws x) (ap (take (length ws)) e ∙ take-at ws (replicate (mostWords - length ws) 0) (length ws) refl);
+  behind = ap (drop (length ws)) e ∙ drop-at ws (replicate (mostWords - length ws) 0) (length ws) refl;
 }
 
 module _ (ws : List ℕ) (none : NoneApplies ws) (x : ℕ) (copy : List ℕ) (link place number : ℕ) (w : Linking ws x copy link place number) where
@@ -88,6 +96,7 @@ module _ (ws : List ℕ) (none : NoneApplies ws) (x : ℕ) (copy : List ℕ) (li
     linking =
         ap (linked (nextWordAt number) (rest ws x (suc place))) (take-set-lt (length ws) copy link number (w .inside))
         ∙ (ap (λ (ns : List ℕ). linked link ns (take (length ws) copy)) (sym these) ∙ w .linking);
+    behind = drop-set-lt (length ws) copy link number (w .inside) ∙ w .behind;
   }
     where
       these : rest ws x place ≡ number ∷ rest ws x (suc place)
@@ -104,6 +113,7 @@ module _ (ws : List ℕ) (none : NoneApplies ws) (x : ℕ) (copy : List ℕ) (li
     here = ap (next ws) (w .here);
     inside = w .inside;
     linking = ap (λ (ns : List ℕ). linked link ns (take (length ws) copy)) (sym these) ∙ w .linking;
+    behind = w .behind;
   }
     where
       these : rest ws x place ≡ rest ws x (suc place)
@@ -112,11 +122,11 @@ module _ (ws : List ℕ) (none : NoneApplies ws) (x : ℕ) (copy : List ℕ) (li
           ∙ ap (λ (b : Bool). cond b (visited ws place ∷ rest ws x (suc place)) (rest ws x (suc place))) e
 
   -- the end of the chain
-  pub linking-end : number ≡ 0 → take (length ws) (set copy link 0) ≡ relinked ws x
-  unfolding linked
+  pub linking-end : number ≡ 0 → set copy link 0 ≡ padded (relinked ws x)
   linking-end z =
-      take-set-lt (length ws) copy link 0 (w .inside)
-      ∙ (ap (λ (ns : List ℕ). linked link ns (take (length ws) copy)) (sym (ap (rest ws x) over ∙ rest-end ws x)) ∙ w .linking)
+      sym (take-append-drop (length ws) (set copy link 0))
+      ∙ ap₂ (λ (a b : List ℕ). a ++ b) front
+      (drop-set-lt (length ws) copy link 0 (w .inside) ∙ (w .behind ∙ ap (λ (n : ℕ). replicate (mostWords - n) 0) (sym size)))
     where
       over : place ≡ count ws
       over =
@@ -124,3 +134,11 @@ module _ (ws : List ℕ) (none : NoneApplies ws) (x : ℕ) (copy : List ℕ) (li
           (λ (e : place ≡ count ws). e)
           (λ (e : place < count ws). absurd (omega (arith, w .here, chain-in ws none place e .0)))
           (eq-or-lt-of-le (w .within))
+
+      size : length (relinked ws x) ≡ length ws
+      size = unfold relinked in linked-length 0 (chosen (bit x) (chain ws)) ws
+
+      front : take (length ws) (set copy link 0) ≡ relinked ws x
+      front = unfold linked in
+          take-set-lt (length ws) copy link 0 (w .inside)
+          ∙ (ap (λ (ns : List ℕ). linked link ns (take (length ws) copy)) (sym (ap (rest ws x) over ∙ rest-end ws x)) ∙ w .linking)

@@ -1,216 +1,73 @@
 -- THEOREM (every-part): the words of a part represent that part, and where some task is left no number turns them down, if none turns down the whole.
-use mathlib.Core.Bool.{true}
-use mathlib.Core.List.{List, map}
-use mathlib.Core.Logic.{_⊎_, inl, inr}
-use mathlib.Core.Path.{ap, ap₂, fun-ext, subst, sym, _∙_, _≡_}
-use Prim.Native.Nat.{ℕ, suc, zero, _%_, _*_, _+_, _-_, _/_, _<_, _≤_}
-use native.Mathlib.Nat.{add-zero, le-refl}
+use mathlib.Core.List.{List}
+use mathlib.Core.Path.{ap, subst, sym, _∙_, _≡_}
+use Prim.Native.Nat.{ℕ, _<_, _≤_}
 use native.Mathlib.Omega.{arith}
-use lib.ListN.{List·getD-eq-default, getD, length}
-use lib.Seq.{ext-getD}
-use Rattle.model.specs.Fence.{unfencedCount}
+use lib.ListN.{length}
 use Rattle.model.specs.Horizon.{horizon}
 use Rattle.model.specs.Search.{bit}
-use Rattle.model.specs.Sizes.{mostTasks}
-use Rattle.model.specs.Task.{Table, Task, absentTask, ruleOf, task}
-use Rattle.table.proofs.HeaderPasses.{words-long}
-use Rattle.table.proofs.Inside.{Inside}
-use Rattle.table.proofs.Passed.{passed-horizon, passed-inside, passed-valid}
-use Rattle.table.proofs.Tasks.{chain-at, chain-length, table-at, table-length}
-use Rattle.table.proofs.Tests.{again-decides, past-decides, stops-decides}
-use Rattle.table.proofs.Walk.{ends-there, five-decides, six-decides, stops-there}
-use Rattle.table.specs.Answer.{repeatedAt, lastStep, outOfRangeAt}
-use Rattle.table.specs.Limits.{CoresOut, FenceOut, RuleOut, TimesOut, WidthOut}
-use Rattle.table.specs.Numbers.{RepeatedAt, Applies, EndAt, NoneApplies, OutOfRangeAt, Reaches}
-use Rattle.table.specs.Numbers.{eight, five, four, nine, nineteen, one, seven, six, three, two}
-use Rattle.table.specs.Words.{chain, coreCount, count, fence, fenceOf, field, head, headerWords, visited, next, recordWords, records}
-use Rattle.table.specs.Words.{tableOf, taskAt, taskOfRecord, word}
+use Rattle.model.specs.Task.{Table, Task}
+use Rattle.table.proofs.Passed.{passed-horizon, passed-valid}
+use Rattle.table.proofs.Tasks.{chain-at, chain-length, table-length}
+use Rattle.table.specs.Numbers.{Applies, NoneApplies}
+use Rattle.table.specs.Words.{chain, tableOf, taskOfRecord}
 use Rattle.conflict.specs.SubTable.{chosen, subTable}
-use Rattle.conflict.specs.Relinked.{nextWordAt, relinked}
+use Rattle.conflict.specs.Relinked.{relinked}
 use Rattle.conflict.proofs.Chosen.{chosen-all, chosen-map}
-use Rattle.conflict.proofs.Linked.{All, Distinct, chain-all, chain-distinct, chosen-distinct, distinct-at, linked-first, linked-length, linked-next}
-use Rattle.conflict.proofs.Linked.{linked-other, next-inside}
+use Rattle.conflict.proofs.Linked.{All, Distinct, chain-distinct, chosen-distinct, linked-length}
+use Rattle.conflict.proofs.LinkedWords.{OnChain, chain-kept, linked-applies, linked-empty, linked-table, tasks-kept}
 use Rattle.conflict.proofs.Parts.{part-fewer}
 
--- a task within its limits is turned down neither by 7 nor by 8
-inside-widths : (m : ℕ) (τ : Task) → Inside m τ → ¬ WidthOut m τ
-inside-widths m τ i (inl (inl e)) = omega (arith, i .odd-from)
-inside-widths m τ i (inl (inr e)) = omega (arith, i .odd-from)
-inside-widths m τ i (inr (inl e)) = omega (arith, i .even-from)
-inside-widths m τ i (inr (inr e)) = omega (arith, i .even-from)
-
-inside-times : (m : ℕ) (τ : Task) → Inside m τ → ¬ TimesOut τ
-inside-times m τ i (inl e) = omega (arith, i .offset-most)
-inside-times m τ i (inr (inl e)) = e (i .length-from)
-inside-times m τ i (inr (inr (inl e))) = e (i .period-from)
-inside-times m τ i (inr (inr (inr e))) = e (i .deadline-from)
-
--- ---- the words of a part
-
 module _ (ws : List ℕ) (none : NoneApplies ws) (x : ℕ) where
-  abbrev us : List ℕ
-  us = relinked ws x
-
   -- the records kept
   abbrev ns : List ℕ
   ns = chosen (bit x) (chain ws)
 
-  long : headerWords ≤ length ws
-  long = words-long ws (λ h. none 1 0 (one h))
+  on-chain : All (OnChain ws) ns
+  on-chain =
+      chosen-all (OnChain ws) 0 (bit x) (chain ws)
+      (λ i l. let m : i < length (chain ws) = l in (i, omega (arith, chain-length ws), chain-at ws i 0 (omega (arith, chain-length ws))))
 
-  records-in : All (λ n. (1 ≤ n) × (n ≤ records ws)) ns
-  records-in = chosen-all (λ n. (1 ≤ n) × (n ≤ records ws)) 0 (bit x) (chain ws) (chain-all ws none)
+  differ : Distinct ns
+  differ = chosen-distinct (bit x) (chain ws) (chain-distinct ws none)
 
-  records-differ : Distinct ns
-  records-differ = chosen-distinct (bit x) (chain ws) (chain-distinct ws none)
-
-  records-there : All (λ n. (1 ≤ n) × (nextWordAt n < length ws)) ns
-  records-there i l = let h = records-in i l in (h .0, next-inside ws (getD ns i 0) (h .0) (h .1))
-
-  pub same-length : length us ≡ length ws
+  pub same-length : length (relinked ws x) ≡ length ws
   unfolding relinked
   same-length = linked-length 0 ns ws
 
-  same-records : records us ≡ records ws
-  same-records = ap (λ (n : ℕ). (n - headerWords) / recordWords) same-length
-
-  -- the header but for its head, and each record but for its next, stay
-  same-header : (i : ℕ) → 1 ≤ i → i < headerWords → word us i ≡ word ws i
-  unfolding relinked
-  same-header i a b = linked-other i 0 ns ws (λ e. omega arith) (λ q l e. omega arith)
-
-  same-field : (n j : ℕ) → 1 ≤ j → j < recordWords → field us n j ≡ field ws n j
-  unfolding relinked
-  same-field n j a b = linked-other (headerWords + (n - 1) * recordWords + j) 0 ns ws (λ e. omega arith) (λ q l e. omega arith)
-
-  same-task : (n : ℕ) → taskOfRecord us n ≡ taskOfRecord ws n
-  same-task n =
-      let f : (j : ℕ) → 1 ≤ j → j < recordWords → field us n j ≡ field ws n j = same-field n in
-      let one = f 1 (omega arith) (omega arith) in
-      let two = f 2 (omega arith) (omega arith) in
-      let three = f 3 (omega arith) (omega arith) in
-      let four = f 4 (omega arith) (omega arith) in
-      let five = f 5 (omega arith) (omega arith) in
-      let six = f 6 (omega arith) (omega arith) in
-      λ i. record { offset = one i; oddWidth = two i; length = three i; deadline = four i; period = five i; evenWidth = six i }
-
-  -- the walk meets the records kept, and then the zero
-  visited-kept : (k : ℕ) → k ≤ length ns → visited us k ≡ getD ns k 0
-  unfolding visited
-  visited-kept zero l = unfold relinked in linked-first 0 ns ws (omega (arith, long)) (λ q m e. omega arith)
-  visited-kept (suc k) l = ap (next us) (visited-kept k (omega arith)) ∙ behind
-    where
-      behind : next us (getD ns k 0) ≡ getD ns (suc k) 0
-      behind =
-          ap (word us) (add-zero (nextWordAt (getD ns k 0)))
-          ∙ (unfold relinked in linked-next 0 ns ws (length ws) (le-refl (length ws)) records-there records-differ k l)
-
-  ends-kept : EndAt us (length ns)
-  ends-kept = visited-kept (length ns) (le-refl (length ns)) ∙ List·getD-eq-default ns 0 (le-refl (length ns))
-
-  reaches-kept : Reaches us (length ns)
-  reaches-kept j l =
-      let m : visited us j ≡ getD ns j 0 = visited-kept j (omega arith) in
-      let h = records-in j l in (
-        λ e. omega (arith, m, h),
-        λ e. omega (arith, m, h, same-records),
-        λ a. distinct-at ns records-differ (a .0) j (a .1) l (sym (visited-kept (a .0) (omega (arith, a .1))) ∙ (a .2 ∙ m)),
-      )
-
-  count-kept : count us ≡ length ns
-  count-kept = ends-there us (length ns) reaches-kept ends-kept
-
-  -- so its chain is that of the records kept
-  pub chain-kept : chain us ≡ chosen (bit x) (chain ws)
-  chain-kept =
-      ext-getD 0 (chain us) ns (chain-length us ∙ count-kept)
-      (λ i l. let m : i < length ns = omega (arith, chain-length us, count-kept) in
-      chain-at us i 0 (omega (arith, count-kept)) ∙ visited-kept i (omega arith))
-
-  tasks-kept : tableOf us .tasks ≡ subTable (tableOf ws) x .tasks
-  unfolding tableOf
-  tasks-kept = ap₂ (λ (f : ℕ → Task) (l : List ℕ). map f l) (fun-ext same-task) chain-kept ∙ chosen-map (taskOfRecord ws) (bit x) (chain ws)
+  part-tasks : tableOf (relinked ws x) .tasks ≡ subTable (tableOf ws) x .tasks
+  unfolding relinked tableOf
+  part-tasks = tasks-kept ws none ns on-chain differ ∙ chosen-map (taskOfRecord ws) (bit x) (chain ws)
 
   -- THE WORDS REPRESENT THE PART
-  pub part-table : tableOf us ≡ subTable (tableOf ws) x
-  unfolding tableOf
+  pub part-table : tableOf (relinked ws x) ≡ subTable (tableOf ws) x
+  unfolding relinked tableOf
   part-table =
-      let τs = tasks-kept in
-      let m = same-header 1 (omega arith) (omega arith) in
-      let r = same-header 2 (omega arith) (omega arith) in
-      let low = same-header 3 (omega arith) (omega arith) in
-      let high = same-header 4 (omega arith) (omega arith) in
-      λ i. record { tasks = τs i; cores = m i; fence = fenceOf (low i) (high i); rule = ruleOf (r i) }
+      linked-table ws none ns on-chain differ
+      ∙ ap
+      (λ (τs : List Task). record { tasks = τs; cores = tableOf ws .cores; fence = tableOf ws .fence; rule = tableOf ws .rule })
+      (chosen-map (taskOfRecord ws) (bit x) (chain ws))
 
-  -- ---- no number turns them down
-
-  same-cores : coreCount us ≡ coreCount ws
-  same-cores = same-header 1 (omega arith) (omega arith)
-
-  same-fence : fence us ≡ fence ws
-  same-fence = ap₂ fenceOf (same-header 3 (omega arith) (omega arith)) (same-header 4 (omega arith) (omega arith))
-
-  last-kept : lastStep us ≡ length ns
-  last-kept = stops-there us (length ns) reaches-kept (stops-decides us (length ns) .1 (inl ends-kept))
-
-  never-past : ¬ Applies us 5 0
-  never-past a =
-      let h : OutOfRangeAt us (length ns) =
-      past-decides us (length ns) .0 (subst (λ (k : ℕ). outOfRangeAt us k ≡ true) last-kept (five-decides us .1 a)) in
-      omega (arith, ends-kept)
-
-  never-again : ¬ Applies us 6 0
-  never-again a =
-      let h : RepeatedAt us (length ns) =
-      again-decides us (length ns) .0 (subst (λ (k : ℕ). repeatedAt us k ≡ true) last-kept (six-decides us .1 a)) in
-      reaches-kept (h .0) (h .1) .0 (h .2 ∙ ends-kept)
-
-  -- each task is one of the table's, and so within its limits
-  abbrev wide : List ℕ → ℕ
-  wide vs = unfencedCount (fence vs) (coreCount vs)
-
-  inside-kept : (q : ℕ) → 1 ≤ q → q ≤ count us → Inside (wide us) (taskAt us q)
-  inside-kept q a b =
-      let l : q - 1 < count us = omega arith in
-      let here : Inside (wide ws) (task (subTable (tableOf ws) x) (q - 1)) =
-      chosen-all (Inside (wide ws)) absentTask (bit x) (tableOf ws .tasks) (passed-inside ws none) (q - 1)
-      (omega (arith, table-length us, ap {B = ℕ} length tasks-kept)) in
-      subst (λ (m : ℕ). Inside m (taskAt us q)) (sym (ap₂ unfencedCount same-fence same-cores))
-      (subst (Inside (wide ws)) (ap (λ (τs : List Task). getD τs (q - 1) absentTask) (sym tasks-kept) ∙ table-at us (q - 1) l) here)
-
-  sooner : horizon (tableOf us) ≤ horizon (tableOf ws)
+  sooner : horizon (tableOf (relinked ws x)) ≤ horizon (tableOf ws)
   sooner = subst (λ (s : Table). horizon s ≤ horizon (tableOf ws)) (sym part-table) (part-fewer (tableOf ws) (passed-valid ws none) x .sooner)
 
-  head-kept : head us ≡ getD ns 0 0
-  unfolding visited
-  head-kept = visited-kept 0 (omega arith)
+  as-many : length (subTable (tableOf ws) x .tasks) ≡ length ns
+  unfolding relinked
+  as-many =
+      ap {B = ℕ} length (sym part-tasks)
+      ∙ (table-length (relinked ws x) ∙ (sym (chain-length (relinked ws x)) ∙ ap {B = ℕ} length (chain-kept ws none ns on-chain differ)))
 
-  some-kept : 0 < length (subTable (tableOf ws) x .tasks) → 0 < length ns
-  some-kept l = omega (arith, l, ap {B = ℕ} length tasks-kept, table-length us, count-kept)
-
-  pub part-passes : 0 < length (subTable (tableOf ws) x .tasks) → NoneApplies us
-  part-passes l n p (one h) =
-      none 1 0
-      (one
-      (subst (λ (k : ℕ). (k < headerWords) ⊎ (((k - headerWords) % recordWords ≡ 0 → ⊥) ⊎ (mostTasks < (k - headerWords) / recordWords))) same-length h))
-  part-passes l n p (two h) = none 2 0 (two (subst CoresOut same-cores h))
-  part-passes l n p (three h) = none 3 0 (three (subst RuleOut (same-header 2 (omega arith) (omega arith)) h))
-  part-passes l n p (nineteen h) =
-      none 19 0 (nineteen (subst (FenceOut (coreCount ws)) same-fence (subst (λ (m : ℕ). FenceOut m (fence us)) same-cores h)))
-  part-passes l n p (four h) = omega (arith, h, head-kept, records-in 0 (some-kept l))
-  part-passes l n p (five k c h) = never-past (five k c h)
-  part-passes l n p (six k c h) = never-again (six k c h)
-  part-passes l n p (seven q o h) = inside-widths (wide us) (taskAt us q) (inside-kept q (o .0) (o .1)) h
-  part-passes l n p (eight q o h) = inside-times (wide us) (taskAt us q) (inside-kept q (o .0) (o .1)) h
-  part-passes l n p (nine h) = omega (arith, h, sooner, passed-horizon ws none)
+  -- no number turns them down
+  pub part-passes : 0 < length (subTable (tableOf ws) x .tasks) → NoneApplies (relinked ws x)
+  unfolding relinked
+  part-passes l n p a =
+      let h = linked-applies ws none ns on-chain differ (omega (arith, as-many)) n p a in
+      omega (arith, h .2, sooner, passed-horizon ws none)
 
   -- the empty part is refused by 4
-  pub part-empty : (length (subTable (tableOf ws) x .tasks) ≡ 0) → Applies us 4 0
-  unfolding visited
-  part-empty e = four (sym (ap (visited us) nothing) ∙ ends-kept)
-    where
-      nothing : length ns ≡ 0
-      nothing = omega (arith, e, ap {B = ℕ} length tasks-kept, table-length us, count-kept)
+  pub part-empty : (length (subTable (tableOf ws) x .tasks) ≡ 0) → Applies (relinked ws x) 4 0
+  unfolding relinked
+  part-empty e = linked-empty ws none ns on-chain differ (omega (arith, as-many))
 
 -- THE THEOREM: every part that is not empty passes, as relinked words, where the whole does, and is that part
 pub every-part :

@@ -1,8 +1,8 @@
 -- The words of a part of a table (request 110): the chain is linked over the records that are dropped, and all else stays. `every-part` shows that they
 -- represent that part, and that no number turns them down where it is not empty.
-use mathlib.Core.List.{List, [], _∷_}
+use mathlib.Core.List.{List, [], _∷_, _++_}
 use Prim.Native.Nat.{ℕ, _+_, _*_, _-_}
-use lib.ListN.{set}
+use lib.ListN.{length, replicate, set}
 use Rattle.model.specs.Search.{bit}
 use Rattle.model.specs.Sizes.{mostTasks}
 use Rattle.table.specs.Words.{headerWords, recordWords, chain}
@@ -11,6 +11,10 @@ use Rattle.conflict.specs.SubTable.{chosen}
 -- the most words that a table has
 abbrev pub mostWords : ℕ
 mostWords = headerWords + recordWords * mostTasks
+
+-- words in an array for the most that a table has: zeros after them
+abbrev pub padded : List ℕ → List ℕ
+padded ws = ws ++ replicate (mostWords - length ws) 0
 
 -- the index of the word with the next of record n
 abbrev pub nextWordAt : ℕ → ℕ

@@ -4,7 +4,7 @@ ghost use Rattle.conflict.specs.Answer.{noConflict, ConflictOf};
 use judge::Verdict;
 use table::Answer;
 
-mod links; // links.rt: the words of the kept tasks
+pub mod links; // links.rt: the words of the kept tasks
 mod passes; // passes.rt: the passes that drop the tasks that are not needed
 
 // The answer: passed, or Refused with number and position. And the set of the positions kept, bit 0 for position 1; empty in a refusal.
@@ -27,7 +27,7 @@ fn refused(number: u32, position: u32) -> ConflictAnswer
 pub fn conflict(words: &[u32]) -> ConflictAnswer
     ensures { λ r. ⌜ ConflictOf (now (words .entry)) r ⌝ }
 {
-    let verdict = fast_judge::judge(words);
+    let verdict = judge::judge(words);
     match verdict {
         Verdict::Firm(_, _) => refused(17, 0),
         Verdict::Full(_, _) => refused(17, 0),

@@ -14,7 +14,7 @@ fn still_misses(words: &[u32], kept: u32) -> bool
 {
     let part = crate::links::relinked(words, kept);
     let size = words.len();
-    let verdict = fast_judge::judge(&part[..size]);
+    let verdict = judge::judge(&part[..size]);
     match verdict {
         Verdict::Firm(_, _) => false,
         Verdict::Full(_, _) => false,

@@ -19,7 +19,7 @@ fn line(name: &[u8], word: &[u8], first: u32, second: u32) {
 }
 
 fn show(name: &[u8], words: &[u32]) {
-    let verdict = judge::judge(words);
+    let verdict = judge::by_ticks::judge(words);
     match verdict {
         Verdict::Firm(s, p) => line(name, b"firm", s, p),
         Verdict::Full(s, p) => line(name, b"full", s, p),

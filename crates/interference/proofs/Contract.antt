@@ -15,8 +15,8 @@ use Rattle.table.specs.Answer.{answerOf}
 use Rattle.table.specs.Load.{LoadOf, loadMeaning}
 use Rattle.table.specs.Numbers.{Applies, First, NoneApplies}
 use Rattle.table.specs.Words.{tableOf}
-use Rattle.judge.proofs.Contract.{same-table}
-use Rattle.judge.specs.Judged.{loadedTable}
+use Rattle.table.proofs.Fit.{same-table}
+use Rattle.table.specs.Fit.{loadedTable}
 use Rattle.interference.specs.declared.Bounds.{Bounds}
 use Rattle.interference.specs.declared.Tested.{Tested}
 use Rattle.interference.specs.Bounds.{BoundsOf, boundsBy, boundsOf, noBounds, notMet, testedOf}

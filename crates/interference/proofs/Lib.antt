@@ -1,5 +1,6 @@
 -- How the interference test meets its contract.
 pub mod Sums
 pub mod Finding
+pub mod OffChain
 pub mod Passing
 pub mod Contract

@@ -25,7 +25,7 @@ use Rattle.cores.proofs.Ascending.{length-kept}
 use Rattle.table.specs.declared.Loaded.{Loaded}
 use Rattle.table.specs.Task.{noTask, taskOf}
 use Rattle.table.proofs.Places.{tasks-length}
-use Rattle.judge.specs.Judged.{Fit, loadedTable}
+use Rattle.table.specs.Fit.{Fit, loadedTable}
 use Rattle.interference.specs.declared.Tested.{Tested}
 use Rattle.interference.specs.Bounds.{Above, TestedOf, boundsIn, isMet, notMet, testedOf}
 use Rattle.interference.proofs.Sums.{place-at}

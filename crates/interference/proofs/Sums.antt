@@ -16,7 +16,7 @@ use Rattle.table.specs.declared.Task.{Task}
 use Rattle.table.specs.Limits.{mostTime}
 use Rattle.table.specs.Task.{noTask, taskOf}
 use Rattle.table.proofs.Places.{task-at, tasks-length}
-use Rattle.judge.specs.Judged.{Fit, loadedTable}
+use Rattle.table.specs.Fit.{Fit, loadedTable}
 use Rattle.interference.specs.Bounds.{Above, mostCoresIn, mostSpan}
 
 -- what place i is given at most

@@ -18,7 +18,7 @@ use Rattle.table.specs.Answer.{answerOf}
 use Rattle.table.specs.Load.{loadMeaning}
 use Rattle.table.specs.Numbers.{First, NoneApplies}
 use Rattle.table.specs.Words.{tableOf}
-use Rattle.judge.specs.Judged.{Fit, loadedTable}
+use Rattle.table.specs.Fit.{Fit, loadedTable}
 use Rattle.interference.specs.declared.Bounds.{Bounds}
 use Rattle.interference.specs.declared.Tested.{Tested}
 

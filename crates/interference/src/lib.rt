@@ -3,7 +3,7 @@ ghost use mathlib.Core.Bool.{cond};
 ghost use mathlib.Core.Path.{_≡_};
 ghost use Prim.Native.Nat.{suc, _-_, _≤_};
 ghost use Rattle.model.specs.Sizes.{mostCores};
-ghost use Rattle.judge.specs.Judged.{loadedTable, Fit};
+ghost use Rattle.table.specs.Fit.{loadedTable, Fit};
 ghost use Rattle.interference.specs.Bounds.{BoundsOf, TestedOf, noBounds, notMet};
 use model::MOST_TASKS;
 use table::Answer;

@@ -6,7 +6,7 @@ ghost use lib.ListN.{getD};
 ghost use Rattle.model.specs.Interference.{boundFrom, firstWindow, mostHalvings, mostTries, need, shortenedWindow, suffices};
 ghost use Rattle.model.specs.Task.{task};
 ghost use Rattle.table.specs.Limits.{mostTime};
-ghost use Rattle.judge.specs.Judged.{loadedTable, Fit};
+ghost use Rattle.table.specs.Fit.{loadedTable, Fit};
 ghost use Rattle.interference.specs.Bounds.{Above, Sought};
 use crate::workload;
 use model::MOST_TASKS;

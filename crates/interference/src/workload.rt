@@ -5,7 +5,7 @@ ghost use lib.ListN.{getD};
 ghost use Rattle.model.specs.Interference.{coresIn, interferenceIn};
 ghost use Rattle.table.specs.Limits.{mostTime};
 ghost use Rattle.table.specs.Task.{taskOf};
-ghost use Rattle.judge.specs.Judged.{loadedTable, Fit};
+ghost use Rattle.table.specs.Fit.{loadedTable, Fit};
 ghost use Rattle.interference.specs.Bounds.{Above, mostCoresIn, mostInterference, mostSpan};
 use model::MOST_TASKS;
 use table::Loaded;

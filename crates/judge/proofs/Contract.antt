@@ -1,35 +1,32 @@
 -- The contract of the verdict of the words follows from the numbers of the table and from the model's theorem on its verdict.
 use native.Mathlib.Omega.{arith}
 use mathlib.Core.Path.{_≡_, refl, sym, ap, _∙_, subst}
-use mathlib.Core.List.{List, _++_}
+use mathlib.Core.List.{List}
 use mathlib.Core.Logic.{_⊎_, _↔_, inl, inr, ⊎-elim}
-use Prim.Native.Nat.{ℕ, zero, suc, _-_, _≤_, _<_}
-use lib.ListN.{length, take, drop, length-append, length-replicate, length-map, take-append-drop}
-use Rattle.model.specs.Task.{Table, Rule, greedy, limited, idling, lending, ruleOf, AllValid, task}
+use Prim.Native.Nat.{ℕ, zero, suc, _≤_}
+use Rattle.model.specs.Task.{Table, Rule, greedy, limited, idling, lending, ruleOf}
 use Rattle.model.specs.Lists.{NeverMissed}
-use Rattle.model.specs.Horizon.{lastS, hyperperiod, horizon}
 use Rattle.model.specs.Firm.{FirmRule}
 use Rattle.model.specs.Verdict.{Exact, verdict}
 use Rattle.model.specs.Verdict as model
 use Rattle.model.proofs.Verdict.{verdict-exact}
-use Rattle.model.specs.Sizes.{mostTasks}
 use Rattle.table.specs.declared.Answer.{Answer}
 use Rattle.table.specs.declared.Answer.the-variants.{Passed}
 use Rattle.table.specs.declared.Answer.the-variants as table
 use Rattle.table.specs.declared.Loaded.{Loaded}
-use Rattle.table.specs.Task.{taskOf, tasksOf, noTask}
 use Rattle.table.specs.Words.{rule, tableOf}
 use Rattle.table.specs.Numbers.{NoneApplies}
 use Rattle.table.specs.Answer.{answerOf}
-use Rattle.table.specs.Load.{LoadOf, LoadedAs, loadMeaning}
+use Rattle.table.specs.Load.{LoadOf, loadMeaning}
 use Rattle.table.proofs.Exact.{refusal-exact, passed-exact}
-use Rattle.table.proofs.Passed.{passed-cores, passed-rule, passed-valid, passed-inside}
-use Rattle.table.specs.Limits.{mostTime}
+use Rattle.table.proofs.Passed.{passed-rule, passed-valid}
+use Rattle.table.proofs.Fit.{fit, same-table}
 use Rattle.judge.specs.declared.Verdict.{Verdict}
 use Rattle.judge.specs.declared.Verdict.the-variants.{Firm, Full, Miss, Refused}
 use Rattle.judge.specs.JudgeAnswer.{JudgeAnswer, judged, verdictMeaning, verdictCase}
 use Rattle.judge.specs.JudgeAnswer as meaning
-use Rattle.judge.specs.Judged.{judgedBy, verdictOf, FirmWords, Judged, loadedTable, Fit, acceptedOf}
+use Rattle.table.specs.Fit.{loadedTable}
+use Rattle.judge.specs.Judged.{judgedBy, verdictOf, FirmWords, Judged, acceptedOf}
 use Rattle.judge.specs.FirstMiss.{missedBefore, byMiss}
 use Rattle.judge.proofs.FirstMiss.{verdict-by}
 
@@ -176,52 +173,17 @@ judged-exact ws = go (answerOf ws) refl
     go Passed e = by-passed ws e
     go (table.Refused n p) e = by-refused ws n p e
 
--- THE TABLE THAT WAS LOADED
+-- THE VERDICT on a table that was loaded
 
-module _ (ws : List ℕ) (r : Loaded) (l : LoadOf ws r) (e : r .answer ≡ Passed) where
-  h : LoadedAs ws r
-  h = l .holds (ap loadMeaning e)
-
-  none : NoneApplies ws
-  none = l .passed .0 (ap loadMeaning e)
-
-  -- it is the table of the words
-  pub same-table : loadedTable r ≡ tableOf ws
-  unfolding tableOf
-  same-table = λ i. record { tasks = tasks′ i; cores = h .cores i; fence = h .fence i; rule = ruleOf (h .rule i) }
-    where
-      tasks′ : tasksOf (r .tasks) (r .count) ≡ tableOf ws .tasks
-      tasks′ = h .tasks
-
-  -- of 32 places
-  places : length (r .tasks) ≡ mostTasks
-  places =
-      let front : length (take (r .count) (r .tasks)) ≡ r .count = sym (length-map (take (r .count) (r .tasks)) taskOf) ∙ (ap length (h .tasks) ∙ sym (h .count)) in
-      let whole : length (take (r .count) (r .tasks) ++ drop (r .count) (r .tasks)) ≡ length (r .tasks) = ap length (take-append-drop (r .count) (r .tasks)) in
-      let back : length (drop (r .count) (r .tasks)) ≡ mostTasks - r .count = ap length (h .past) ∙ length-replicate (mostTasks - r .count) noTask in
-      omega (arith, length-append (take (r .count) (r .tasks)) (drop (r .count) (r .tasks)), whole, front, back, h .count-from)
-
-  -- and fit to be run
-  pub fit : Fit r
-  fit = record {
-    places = places;
-    some = h .count-from .0;
-    few = h .count-from .1;
-    narrow = omega (arith, h .cores, passed-cores ws none .1);
-    valid = subst AllValid (sym same-table) (passed-valid ws none);
-    short = λ p q. subst (λ (s : Table). p < length (s .tasks) → task s p .period ≤ mostTime) (sym same-table)
-        (λ i. passed-inside ws none p i .period-from .1) (omega (arith, h .count, ap (λ (s : Table). length (s .tasks)) same-table));
-    start = h .start ∙ ap (λ (s : Table). lastS (s .tasks)) (sym same-table);
-    period = h .period ∙ ap (λ (s : Table). hyperperiod (s .tasks)) (sym same-table);
-    horizon = h .horizon ∙ ap horizon (sym same-table);
-    limit = omega (arith, h .horizon-most);
-  }
-
-  -- so the verdict on it is that of the words
-  pub run-value : (v : Verdict) → v ≡ byMiss (missedBefore (loadedTable r) (suc (r .horizon))) (acceptedOf r) → Judged ws v
-  run-value v q =
-      subst (Judged ws) (passed-is ws (passed-exact ws .1 none) ∙ (ap (λ (s : Table). verdictCase (judged (verdict s))) (sym same-table) ∙ sym (q ∙ verdict-by r fit)))
-      (judged-exact ws)
+-- one that passed has the verdict of the words
+pub run-value :
+    (ws : List ℕ) (r : Loaded) → LoadOf ws r → r .answer ≡ Passed → (v : Verdict)
+    → v ≡ byMiss (missedBefore (loadedTable r) (suc (r .horizon))) (acceptedOf r) → Judged ws v
+run-value ws r l e v q =
+    subst (Judged ws)
+    (passed-is ws (passed-exact ws .1 (l .passed .0 (ap loadMeaning e)))
+    ∙ (ap (λ (s : Table). verdictCase (judged (verdict s))) (sym (same-table ws r l e)) ∙ sym (q ∙ verdict-by r (fit ws r l e))))
+    (judged-exact ws)
 
 -- a refusal is the verdict of the words
 pub refused-value : (ws : List ℕ) (r : Loaded) → LoadOf ws r → (n p : ℕ) → r .answer ≡ table.Refused n p → Judged ws (Refused n p)

@@ -16,10 +16,11 @@ use Rattle.model.proofs.Search.{any-of, none-any, least-is}
 use Rattle.model.proofs.Faithful.{missed-exact, missed-in-exact}
 use Rattle.table.specs.declared.Loaded.{Loaded}
 use Rattle.judge.specs.declared.Verdict.the-variants.{Firm, Full}
-use Rattle.judge.specs.declared.misses.Missed as missed
-use Rattle.judge.specs.declared.misses.Missed.the-variants.{Never, At}
+use Rattle.judge.specs.declared.Missed as missed
+use Rattle.judge.specs.declared.Missed.the-variants.{Never, At}
 use Rattle.judge.specs.JudgeAnswer.{judged, verdictCase}
-use Rattle.judge.specs.Judged.{loadedTable, Fit, acceptedOf}
+use Rattle.table.specs.Fit.{loadedTable, Fit}
+use Rattle.judge.specs.Judged.{acceptedOf}
 use Rattle.judge.specs.FirstMiss.{missedBefore, noMiss, firstAt, missMeaning, MissedOf, byMiss}
 
 module _ (s : Table) (ok : AllValid s) where

@@ -1,10 +1,13 @@
--- The proofs of the judge's contract: from the ticks of the machine to the first miss, the verdict, and what changes no verdict.
+-- The proofs of the judge's contract: from the run to the first miss, the verdict, what changes no verdict, and that all ways agree.
 pub mod Examples
+pub mod CostExamples
 pub mod Widths
-pub mod Ticks
-pub mod Refines
-pub mod Late
+pub mod LateByTicks
+pub mod LateByEvents
 pub mod FirstMiss
+pub mod ByJumps
+pub mod OneStep
 pub mod Contract
 pub mod OffChain
 pub mod Fence
+pub mod Agree

@@ -3,15 +3,13 @@ use mathlib.Core.Path.{_≡_}
 use mathlib.Core.Bool.{cond}
 use mathlib.Core.List.{List}
 use mathlib.Core.Logic.{_↔_, _⊎_}
-use Prim.Native.Nat.{ℕ, _≤_, _<_}
-use lib.ListN.{length}
-use Rattle.model.specs.Task.{Table, AllValid, task, ruleOf}
+use Prim.Native.Nat.{ℕ}
+use Rattle.model.specs.Task.{Table, ruleOf}
 use Rattle.model.specs.Lists.{NeverMissed}
-use Rattle.model.specs.Horizon.{lastS, hyperperiod, horizon}
+use Rattle.model.specs.Horizon.{lastS, hyperperiod}
 use Rattle.model.specs.Firm.{firm, ParallelismMonotonic}
 use Rattle.model.specs.Verdict.{FirstMiss, verdict}
 use Rattle.model.specs.Verdict as model
-use Rattle.model.specs.Sizes.{mostCores, mostTasks}
 use Rattle.table.specs.declared.Answer.{Answer}
 use Rattle.table.specs.declared.Answer.the-variants.{Passed}
 use Rattle.table.specs.declared.Answer.the-variants as table
@@ -20,7 +18,6 @@ use Rattle.table.specs.Task.{tasksOf}
 use Rattle.table.specs.Words.{rule, tableOf}
 use Rattle.table.specs.Numbers.{First, NoneApplies}
 use Rattle.table.specs.Answer.{answerOf}
-use Rattle.table.specs.Limits.{mostTime}
 use Rattle.judge.specs.declared.Verdict.{Verdict}
 use Rattle.judge.specs.declared.Verdict.the-variants.{Firm, Full}
 use Rattle.judge.specs.JudgeAnswer.{JudgeAnswer, judged, verdictMeaning, verdictCase}
@@ -54,23 +51,6 @@ pub record Judged (ws : List ℕ) (v : Verdict) : Type 0 where
   pub full : (s p : ℕ) → (verdictMeaning v ≡ judged (model.Full s p)) ↔ (NoneApplies ws × NeverMissed (tableOf ws) × (¬ FirmWords ws) × (s ≡ lastS (tableOf ws .tasks)) × (p ≡ hyperperiod (tableOf ws .tasks)))
 
 -- THE RUN, on a table that passed
-
--- the table that was loaded
-abbrev pub loadedTable : Loaded → Table
-loadedTable t = record { tasks = tasksOf (t .tasks) (t .count); cores = t .cores; fence = t .fence; rule = ruleOf (t .rule) }
-
--- what the run needs of it
-pub record Fit (t : Loaded) : Type 0 where
-  pub places : length (t .tasks) ≡ mostTasks
-  pub some : 0 < t .count
-  pub few : t .count ≤ mostTasks
-  pub narrow : t .cores ≤ mostCores
-  pub valid : AllValid (loadedTable t)
-  pub short : (p : ℕ) → p < t .count → task (loadedTable t) p .period ≤ mostTime
-  pub start : t .start ≡ lastS (loadedTable t .tasks)
-  pub period : t .period ≡ hyperperiod (loadedTable t .tasks)
-  pub horizon : t .horizon ≡ horizon (loadedTable t)
-  pub limit : t .horizon ≤ 1000000000
 
 -- the answer where no deadline is missed
 abbrev pub acceptedOf : Loaded → Verdict

@@ -1,19 +1,22 @@
-// The judge that goes tick by tick: the verdict on a table's words, from the full-length run.
+// The verdict on a table's words, from its full-length run: tick by tick, event by event, or by the fastest way.
 ghost use mathlib.Core.Path.{_≡_};
-ghost use Prim.Native.Nat.{suc, _≤_, max, min};
+ghost use Prim.Native.Nat.{_+_, suc, _≤_, max, min};
 ghost use Rattle.model.specs.Task.{ruleOf};
 ghost use Rattle.model.specs.Firm.{parallelismMonotonic, firm};
 ghost use Rattle.model.specs.Sizes.{mostTasks};
 ghost use Rattle.table.specs.Task.{tasksOf};
-ghost use Rattle.judge.specs.FirstMiss.{missedBefore, byMiss};
-ghost use Rattle.judge.specs.Judged.{Judged, loadedTable, Fit, acceptedOf};
-use misses::Missed;
+ghost use Rattle.table.specs.Fit.{loadedTable, Fit};
+ghost use Rattle.judge.specs.FirstMiss.{MissedOf, missedBefore, byMiss};
+ghost use Rattle.judge.specs.Judged.{Judged, acceptedOf};
 use model::MOST_TASKS;
 use table::Answer;
 use table::Loaded;
 use table::Task;
 
-pub mod misses; // misses.rt: the full-length run up to its first missed deadline
+pub mod by_events; // by_events.rt: the first miss, from event to event
+pub mod by_ticks; // by_ticks.rt: the first miss, tick by tick
+mod cost; // cost.rt: which of the two is the faster one for a table
+pub mod fastest; // fastest.rt: the first miss, by the interference test or by the faster of the two
 
 // The judge's answer: Firm with S and P, Full with S and P, Miss with tick and position, or Refused with number and position.
 pub enum Verdict {
@@ -23,15 +26,28 @@ pub enum Verdict {
     Refused(u32, u32),
 }
 
+// Tick and position of the first deadline missed, or none.
+pub enum Missed {
+    Never,
+    At(u32, u32),
+}
+
+// How the first miss of a table is found.
+pub enum Way {
+    Ticks,
+    Events,
+    Fastest,
+}
+
 // The larger of a task's two widths.
-fn wider(a: u32, b: u32) -> u32
+pub fn wider(a: u32, b: u32) -> u32
     ensures { λ r. ⌜ r ≡ max a b ⌝ }
 {
     if a < b { b } else { a }
 }
 
 // The smaller of a task's two widths.
-fn narrower(a: u32, b: u32) -> u32
+pub fn narrower(a: u32, b: u32) -> u32
     ensures { λ r. ⌜ r ≡ min a b ⌝ }
 {
     if a < b { a } else { b }
@@ -78,26 +94,47 @@ pub fn accepted(table: Loaded) -> Verdict
     Verdict::Full(table.start, table.period)
 }
 
-// The verdict of the full-length run: its first miss up to and including the horizon, or accepted.
-fn run(table: Loaded) -> Verdict
-    requires { ⌜ Fit table ⌝ }
-    ensures { λ r. ⌜ r ≡ byMiss (missedBefore (loadedTable table) (suc (table .horizon))) (acceptedOf table) ⌝ }
+// The verdict on a table by the first miss of its full-length run up to and including the horizon: that miss, or accepted.
+fn verdict_by(table: Loaded, missed: Missed) -> Verdict
+    requires { ⌜ table .count ≤ mostTasks ⌝ }
+    ensures { λ r. ⌜ r ≡ byMiss missed (acceptedOf table) ⌝ }
 {
-    let missed = misses::first_miss(table, table.horizon + 1);
     match missed {
         Missed::Never => accepted(table),
         Missed::At(tick, position) => Verdict::Miss(tick, position),
     }
 }
 
-// The verdict on a table's words.
-pub fn judge(words: &[u32]) -> Verdict
+// The first deadline that the full-length run misses before tick `end`, at equal ticks the first in priority: found in this way.
+fn first_miss_by(way: Way, table: Loaded, end: u32) -> Missed
+    requires { ⌜ Fit table × (end ≤ table .horizon + 1) ⌝ }
+    ensures { λ r. ⌜ MissedOf (loadedTable table) end r ⌝ }
+{
+    match way {
+        Way::Ticks => by_ticks::first_miss(table, end),
+        Way::Events => by_events::first_miss(table, end),
+        Way::Fastest => fastest::first_miss(table, end),
+    }
+}
+
+// The verdict on a table's words, with its first miss found in this way.
+pub fn judge_by(way: Way, words: &[u32]) -> Verdict
     ensures { λ r. ⌜ Judged (now (words .entry)) r ⌝ }
 {
     let table = table::load(words);
     let answer = table.answer;
     match answer {
-        Answer::Passed => run(table),
+        Answer::Passed => {
+            let missed = first_miss_by(way, table, table.horizon + 1);
+            verdict_by(table, missed)
+        }
         Answer::Refused(number, position) => Verdict::Refused(number, position),
     }
+}
+
+// The verdict on a table's words, by the fastest way.
+pub fn judge(words: &[u32]) -> Verdict
+    ensures { λ r. ⌜ Judged (now (words .entry)) r ⌝ }
+{
+    judge_by(Way::Fastest, words)
 }

@@ -6,7 +6,6 @@ use Prim.Native.Nat.{ℕ}
 use Prim.Native.String.{String}
 use Rattle.model.proofs.Computing.{computing}
 use Rattle.model.proofs.Examples.{B, Line, on, t, two, worked}
-use Rattle.model.proofs.LineByLine.{LineByLine, by-line}
 use Rattle.model.specs.Advance.{Entry, advance}
 use Rattle.model.specs.Refusals.{Answer, Asked, refused, rowRefused, shown, taken}
 use Rattle.model.specs.Task.{Rule, Table, greedy, idling, limited}
@@ -82,11 +81,7 @@ empty-lines =
     (two 2 2 ∷ two 3 0 ∷ rowRefused 15 3 ∷ rowRefused 15 3 ∷ [])
     ∷ []
 
--- every line is its value by the definitions, line by line
-computed : LineByLine worked empty-lines empty-lines
-unfolding computing
-computed = (refl, (refl, (refl, (refl, (refl, (refl, (refl, (refl, (refl, (refl, (refl, (refl, (refl, (refl, (refl, tt)))))))))))))))
-
--- .. and as one list
+-- every line is its value by the definitions: one table with one check
 pub empty-examples : map worked empty-lines ≡ empty-lines
-empty-examples = by-line worked empty-lines empty-lines computed
+unfolding computing
+empty-examples = refl

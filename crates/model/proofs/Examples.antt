@@ -7,7 +7,6 @@ use mathlib.Core.Path.{refl, _≡_}
 use Prim.Native.Nat.{ℕ}
 use Prim.Native.String.{String}
 use Rattle.model.proofs.Computing.{computing}
-use Rattle.model.proofs.LineByLine.{LineByLine, by-line}
 use Rattle.model.specs.Jobs.{emptyBook, fresh}
 use Rattle.model.specs.Claims.{claims}
 use Rattle.model.specs.Advance.{Entry, advance}
@@ -123,14 +122,10 @@ lines =
     (fencedOn 5 9 limited (A greedy .tasks)) (Miss 5 3) [] [] (shown (255 ∷ 1 ∷ 1 ∷ 255 ∷ 0 ∷ []) ∷ [])
     ∷ []
 
--- every line is its value by the definitions, line by line
-computed : LineByLine worked lines lines
-unfolding computing
-computed = (refl, (refl, (refl, (refl, (refl, (refl, (refl, (refl, (refl, (refl, (refl, (refl, (refl, (refl, (refl, (refl, (refl, tt)))))))))))))))))
-
--- .. and as one list
+-- every line is its value by the definitions: one table with one check
 pub examples : map worked lines ≡ lines
-examples = by-line worked lines lines computed
+unfolding computing
+examples = refl
 
 -- A on five cores with that fence is A with just its unfenced cores, and its rows are A's spread over them; with no fence a table is itself
 pub just-open : unfencedTable (fencedOn 5 9 greedy (A greedy .tasks)) ≡ A greedy

@@ -1,24 +1,26 @@
--- The model's full-length run is the scope's: the book of a list whose sets are all empty, up to the first miss.
+-- The model's full-length run is the scope's: the book of a list whose sets are all empty, up to the first miss. And a task with C above D misses.
 use mathlib.Core.Bool.{_&&_, Bool, cond, false, not, true, true≢false}
 use mathlib.Core.Logic.{_↔_, ⊎-elim}
 use mathlib.Core.Path.{ap, refl, subst, sym, _∙_, _≡_}
-use Prim.Native.Nat.{_+_, _<_, suc, zero, ℕ, _≤_}
-use native.Mathlib.Nat.{add-zero, eq-or-lt-of-le, le-dest, le-of-eq, le-of-suc-le-suc, not-suc-le-zero, zero-add}
+use Prim.Native.Nat.{_+_, _<_, suc, suc-le-suc, zero, ℕ, _≤_}
+use native.Mathlib.Nat.{add-suc, add-zero, eq-or-lt-of-le, le-dest, le-of-eq, le-of-suc-le-suc, le-trans, not-suc-le-zero, zero-add}
 use native.Mathlib.Omega.{arith}
 use lib.Dec.{leb, ltb}
 use lib.ListN.{length, replicate}
 use borrow.Author.Tests.{le-ltb, leb-true, not-true}
 use Rattle.model.proofs.Bools.{and-left, and-right, not-true-false}
-use Rattle.model.proofs.Runs.{full-stays, full-tick, full-withdrawn, missed-at, still-advance}
+use Rattle.model.proofs.Jobs.{mk, next}
+use Rattle.model.proofs.Runs.{full-fresh, full-next, full-stays, full-tick, full-whole, full-withdrawn, missed-at, still-advance}
 use Rattle.model.proofs.Search.{any-some, least-none, none-any}
-use Rattle.model.specs.Jobs.{Book, emptyIn}
-use Rattle.model.specs.Advance.{step, advanced, afterTaken}
+use Rattle.model.specs.Jobs.{Book, Job, emptyIn}
+use Rattle.model.specs.Claims.{served}
+use Rattle.model.specs.Advance.{step, work, advanced, afterTaken}
 use Rattle.model.specs.Refusals.{answer, firstLate}
 use Rattle.model.specs.Lists.{Missed, Misses, NeverMissed, book, bookFrom, enter, entered, full}
 use Rattle.model.specs.Refusals.{late, wrongEmpties, wrongReports, refused, taken}
 use Rattle.model.specs.Lists.{noPlaces, noReports}
 use Rattle.model.specs.Search.{any, bit}
-use Rattle.model.specs.Task.{Table, due, task}
+use Rattle.model.specs.Task.{Table, due, release, task}
 
 -- a late place has a job that is due and has not ended
 pub late-job : (s : Table) (b : Book) (p : ℕ) → late s b p ≡ true → (k : ℕ) × (due (task s p) k ≤ b .tick) × (b .job p k .ended ≡ false)
@@ -131,3 +133,34 @@ never-missed-exact s = (
         (λ (e : t ≡ n). λ m. noPlaces n p (subst (λ (b : Book). Misses s b p) (sym (full-length s n (below noPlaces n))) (subst (λ (u : ℕ). Missed s p u) e m)))
         (λ (l : t < n). below noPlaces n p t l)
         (eq-or-lt-of-le (le-of-suc-le-suc h))
+
+-- A TASK WITH C ABOVE D MISSES, with every job
+
+-- a job has at most one tick more after a tick
+next-one : (C : ℕ) (f u : Bool) (h c : ℕ) (e : Bool) → next C f u (mk h c e) .had ≤ suc h
+unfolding work
+next-one C f true h c true = omega arith
+next-one C f true h c false = omega arith
+next-one C f false h c e = omega arith
+
+-- so z ticks after its release it has had at most z
+had-most : (s : Table) (p k z : ℕ) → full s (release (task s p) k + z) .job p k .had ≤ z
+had-most s p k zero = rw add-zero (le-of-eq (ap (λ j. j .had) (full-fresh s (release (task s p) k) p k (omega arith))))
+had-most s p k (suc z) = rw add-suc (le-trans more (suc-le-suc (had-most s p k z)))
+  where
+    n : ℕ
+    n = release (task s p) k + z
+
+    more : full s (suc n) .job p k .had ≤ suc (full s n .job p k .had)
+    more =
+        subst (λ (j : Job). j .had ≤ suc (full s n .job p k .had)) (sym (full-next s n p k))
+        (next-one (task s p .length) false (served s (full s n) p k) (full s n .job p k .had) (full s n .job p k .claimed) (full s n .job p k .ended))
+
+pub long-misses :
+    (s : Table) (p : ℕ) → p < length (s .tasks) → task s p .deadline < task s p .length → (k : ℕ) → Missed s p (due (task s p) k)
+long-misses s p l h k =
+    missed-at s p (due (task s p) k) k l refl
+    (not-true-false (full s (due (task s p) k) .job p k .ended) (λ e.
+    let whole = full-whole s (due (task s p) k) p k e in
+    let most = had-most s p k (task s p .deadline) in
+    omega arith))

@@ -2,11 +2,9 @@
 -- and no reserved tick, and which jobs may be reported. The row before each entry is asked with its empty jobs.
 use mathlib.Core.List.{List, [], map, _∷_}
 use mathlib.Core.Path.{refl, _≡_}
-use lib.ListN.{drop}
 use Rattle.model.proofs.Computing.{computing}
 use Rattle.model.proofs.EmptyExamples.{line, noPlaces, one}
 use Rattle.model.proofs.Examples.{B, Line, fencedOn, on, t, t₂, three, two, worked}
-use Rattle.model.proofs.LineByLine.{LineByLine, by-line}
 use Rattle.model.specs.Advance.{advance, withdraw}
 use Rattle.model.specs.Refusals.{refused, shown, taken}
 use Rattle.model.specs.Task.{Table, lending}
@@ -128,15 +126,7 @@ lend-lines =
     [] [] (one 1 ∷ [])
     ∷ []
 
--- every line is its value by the definitions, line by line
-later : LineByLine worked (drop 11 lend-lines) (drop 11 lend-lines)
-unfolding computing
-later = (refl, (refl, (refl, (refl, (refl, (refl, (refl, (refl, (refl, (refl, (refl, tt)))))))))))
-
-computed : LineByLine worked lend-lines lend-lines
-unfolding computing
-computed = (refl, (refl, (refl, (refl, (refl, (refl, (refl, (refl, (refl, (refl, (refl, later)))))))))))
-
--- .. and as one list
+-- every line is its value by the definitions: one table with one check
 pub lend-examples : map worked lend-lines ≡ lend-lines
-lend-examples = by-line worked lend-lines lend-lines computed
+unfolding computing
+lend-examples = refl

@@ -8,6 +8,7 @@ pub mod WithdrawSetExamples
 pub mod WidthExamples
 pub mod LendExamples
 pub mod SetsExamples
+pub mod WorkingExamples
 pub mod Bools
 pub mod Search
 pub mod Lists

@@ -5,7 +5,6 @@ use mathlib.Core.Path.{refl, _≡_}
 use Rattle.model.proofs.Computing.{computing}
 use Rattle.model.proofs.EmptyExamples.{line, noPlaces}
 use Rattle.model.proofs.Examples.{Line, fencedOn, on, t, t₂, two, worked}
-use Rattle.model.proofs.LineByLine.{LineByLine, by-line}
 use Rattle.model.specs.Advance.{advance, withdraw}
 use Rattle.model.specs.Refusals.{refused, rowRefused, shown, taken}
 use Rattle.model.specs.Search.{upFrom}
@@ -56,14 +55,10 @@ width-lines =
     (shown (1 ∷ 255 ∷ 0 ∷ []) ∷ shown (1 ∷ 255 ∷ 1 ∷ []) ∷ shown (1 ∷ 255 ∷ 0 ∷ []) ∷ [])
     ∷ []
 
--- every line is its value by the definitions, line by line
-computed : LineByLine worked width-lines width-lines
-unfolding computing
-computed = (refl, (refl, (refl, (refl, (refl, (refl, (refl, (refl, (refl, (refl, (refl, (refl, (refl, tt)))))))))))))
-
--- .. and as one list
+-- every line is its value by the definitions: one table with one check
 pub width-examples : map worked width-lines ≡ width-lines
-width-examples = by-line worked width-lines width-lines computed
+unfolding computing
+width-examples = refl
 
 -- the widths of the first five jobs, the larger and the smaller, and T or 2T
 pub widths-of : map (widthOf (t₂ 0 4 2 1 1 5)) (upFrom 0 5) ≡ 4 ∷ 2 ∷ 4 ∷ 2 ∷ 4 ∷ []

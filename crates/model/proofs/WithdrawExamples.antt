@@ -5,7 +5,6 @@ use mathlib.Core.Path.{refl, _≡_}
 use Rattle.model.proofs.Computing.{computing}
 use Rattle.model.proofs.EmptyExamples.{least-task, line, noPlaces, one, pair, row-20}
 use Rattle.model.proofs.Examples.{B, Line, on, t, two, worked}
-use Rattle.model.proofs.LineByLine.{LineByLine, by-line}
 use Rattle.model.specs.Advance.{advance, withdraw}
 use Rattle.model.specs.Refusals.{refused, rowRefused, taken}
 use Rattle.model.specs.Lists.{book}
@@ -93,14 +92,10 @@ withdraw-lines =
     (one 1 ∷ rowRefused 15 1 ∷ rowRefused 15 1 ∷ rowRefused 15 1 ∷ rowRefused 15 1 ∷ rowRefused 15 1 ∷ [])
     ∷ []
 
--- every line is its value by the definitions, line by line
-computed : LineByLine worked withdraw-lines withdraw-lines
-unfolding computing
-computed = (refl, (refl, (refl, (refl, (refl, (refl, (refl, (refl, (refl, (refl, (refl, (refl, (refl, (refl, tt))))))))))))))
-
--- .. and as one list
+-- every line is its value by the definitions: one table with one check
 pub withdraw-examples : map worked withdraw-lines ≡ withdraw-lines
-withdraw-examples = by-line worked withdraw-lines withdraw-lines computed
+unfolding computing
+withdraw-examples = refl
 
 -- the list's tick is that of its taken advances, and the withdrawn set is kept in them: two advances and two positions, one of them twice
 pub tick-and-set :

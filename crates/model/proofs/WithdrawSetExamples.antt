@@ -8,7 +8,6 @@ use native.Mathlib.Omega.{arith}
 use Rattle.model.proofs.Computing.{computing}
 use Rattle.model.proofs.EmptyExamples.{line, noPlaces, one, pair}
 use Rattle.model.proofs.Examples.{B, Line, on, t, three, two, worked}
-use Rattle.model.proofs.LineByLine.{LineByLine, by-line}
 use Rattle.model.proofs.WithdrawSet.{members, members-bit}
 use Rattle.model.proofs.WithdrawExamples.{C2, E}
 use Rattle.model.specs.Advance.{advance, withdraw, withdrawAll}
@@ -73,14 +72,10 @@ together-lines =
     (one 1 ∷ rowRefused 15 1 ∷ rowRefused 15 1 ∷ rowRefused 15 1 ∷ rowRefused 15 1 ∷ rowRefused 15 1 ∷ rowRefused 15 1 ∷ [])
     ∷ []
 
--- every line is its value by the definitions, line by line
-computed : LineByLine worked together-lines together-lines
-unfolding computing
-computed = (refl, (refl, (refl, (refl, (refl, (refl, (refl, (refl, (refl, (refl, (refl, (refl, tt))))))))))))
-
--- .. and as one list
+-- every line is its value by the definitions: one table with one check
 pub together-examples : map worked together-lines ≡ together-lines
-together-examples = by-line worked together-lines together-lines computed
+unfolding computing
+together-examples = refl
 
 -- a set adds no tick and is joined; one that is refused, and the empty one, leave the withdrawn set as it is
 pub tick-and-set :

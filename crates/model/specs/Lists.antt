@@ -1,11 +1,11 @@
 -- The book of a list (scope, section 'The book of a run'): its answers, its taken entries, its rows; and the full-length run.
-use mathlib.Core.Bool.{Bool, false}
+use mathlib.Core.Bool.{Bool, false, _&&_, _||_}
 use mathlib.Core.List.{List, [], _∷_}
 use mathlib.Core.Path.{_≡_}
 use Prim.Native.Nat.{ℕ, zero, suc, _+_, _<_}
 use lib.ListN.{length, replicate}
 use Rattle.model.specs.Task.{Table, task, due}
-use Rattle.model.specs.Jobs.{Book, emptyBook}
+use Rattle.model.specs.Jobs.{Book, emptyBook, emptyIn, releasedNow}
 use Rattle.model.specs.Advance.{step, Entry, advance, withdraw, withdrawAll, emptiesOf, afterTaken}
 use Rattle.model.specs.Refusals.{Answer, taken, refused, answer, Asked, asked}
 
@@ -62,6 +62,23 @@ takenOf s xs = takenFrom s emptyBook xs
 -- every entry of the list is taken, from book b on (this holds of `takenOf`, and then nothing is dropped: `taken-all`, `taken-same`)
 abbrev pub AllTaken : Table → Book → List Entry → Type 0
 AllTaken s b xs = answersFrom s b xs ≡ replicate (length xs) taken
+
+-- an entry with this answer enters job k of place p as empty: it is an advance that is taken in the tick of the job's release, and the job's bit is set among
+-- its empty jobs, or its position is withdrawn
+abbrev pub emptiedBy : Table → Book → Entry → Answer → ℕ → ℕ → Bool
+emptiedBy s b (advance x e) taken p k = emptyIn b e p && releasedNow s b p k
+emptiedBy s b (advance x e) (refused n q) p k = false
+emptiedBy s b (withdraw q) w p k = false
+emptiedBy s b (withdrawAll x) w p k = false
+
+-- some entry of the list does so, from book b on
+unfoldable pub emptyFrom : Table → Book → List Entry → ℕ → ℕ → Bool
+emptyFrom s b [] p k = false
+emptyFrom s b (x ∷ xs) p k = emptiedBy s b x (answer s b x) p k || emptyFrom s (enter s x b) xs p k
+
+-- job k of place p is an empty job of the list (one that is not has a tick before it ends: `ended-worked`)
+abbrev pub emptyJob : Table → List Entry → ℕ → ℕ → Bool
+emptyJob s xs p k = emptyFrom s emptyBook xs p k
 
 -- the row asked before each entry of the list with its empty jobs, and after the last with none
 unfoldable pub rowsFrom : Table → Book → List Entry → List Asked

@@ -18,9 +18,9 @@ use Rattle.table.specs.Words.{tableOf}
 use Rattle.table.specs.Load.{LoadOf, loadMeaning}
 use Rattle.table.proofs.Exact.{refusal-exact, passed-exact}
 use Rattle.table.proofs.Passed.{passed-cores, passed-valid}
-use Rattle.judge.specs.Judged.{loadedTable}
+use Rattle.table.specs.Fit.{loadedTable}
 use Rattle.judge.proofs.FirstMiss.{found}
-use Rattle.judge.proofs.Contract.{same-table}
+use Rattle.table.proofs.Fit.{same-table}
 use Rattle.plan.specs.declared.Planned.{Planned}
 use Rattle.plan.specs.declared.Planned.the-variants.{Written, Refused}
 use Rattle.plan.specs.Numbers.{NoneApplies, words, eleven, twelve}

@@ -24,8 +24,8 @@ use Rattle.rule.specs.Widths.{widthsIn}
 use Rattle.simulation.specs.Machine.{Machine}
 use Rattle.simulation.specs.TickState.{loadedNumbers}
 use Rattle.simulation.proofs.SameClaimants.{row-same}
-use Rattle.judge.specs.Judged.{loadedTable, Fit}
-use Rattle.judge.proofs.Ticks.{After, front-agree}
+use Rattle.table.specs.Fit.{loadedTable, Fit}
+use Rattle.simulation.proofs.AtTick.{After, front-agree}
 use Rattle.plan.specs.Plan.{withRows}
 use Rattle.plan.proofs.Buffer.{over-none, over-more, with-length}
 

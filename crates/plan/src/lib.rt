@@ -2,10 +2,10 @@
 ghost use mathlib.Core.Path.{_≡_};
 ghost use Prim.Native.Nat.{_≤_};
 ghost use lib.ListN.{length};
-ghost use Rattle.judge.specs.Judged.{loadedTable, Fit};
+ghost use Rattle.table.specs.Fit.{loadedTable, Fit};
 ghost use Rattle.plan.specs.Plan.{byPlan, planMeaning, bufferOf, PlanOf};
 ghost use Rattle.model.specs.Sizes.{mostCores};
-use judge::misses::Missed;
+use judge::Missed;
 use table::Answer;
 use table::Loaded;
 
@@ -32,7 +32,7 @@ fn by_table(table: Loaded, a: u32, b: u32, out: &mut [u8]) -> Planned
     if (out.len() as u64) < bytes {
         return Planned::Refused(11, 0);
     }
-    let missed = fast_judge::first_miss(table, b);
+    let missed = judge::fastest::first_miss(table, b);
     match missed {
         Missed::Never => {
             rows::write(table, a, b, out);

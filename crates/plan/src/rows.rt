@@ -7,7 +7,7 @@ ghost use lib.Seq.{paste};
 ghost use Rattle.model.specs.Search.{any};
 ghost use Rattle.model.specs.Verdict.{missedIn};
 ghost use Rattle.model.specs.Sizes.{mostCores};
-ghost use Rattle.judge.specs.Judged.{loadedTable, Fit};
+ghost use Rattle.table.specs.Fit.{loadedTable, Fit};
 ghost use Rattle.plan.specs.Plan.{withRows};
 use model::ROW;
 use table::Loaded;
@@ -52,7 +52,7 @@ pub(crate) fn write(table: Loaded, a: u32, b: u32, out: &mut [u8])
     let mut at: usize = 0;
     while registers.tick < b {
         let tick = registers.tick;
-        registers = simulation::step(setting, &widths, &times, registers, &mut places);
+        registers = simulation::ticks::step(setting, &widths, &times, registers, &mut places);
         if a <= tick {
             if (registers.chosen != shown) | (registers.even != even) {
                 let fresh = rule::show(

@@ -30,5 +30,6 @@ pub mod TakeAnswers
 pub mod Cells
 pub mod Own
 pub mod Checked
+pub mod OffChain
 pub mod Examples
 pub mod StateExamples

@@ -9,7 +9,7 @@ use native.Mathlib.Omega.{arith}
 use lib.Dec.{eqb, leb, ltb}
 use lib.ListN.{getD, length}
 use borrow.Author.Tests.{eq-eqb, eqb-false, eqb-true, leb-false, leb-true, lt-ltb, ltb-false, ltb-true, ne-eqb, not-true}
-use Rattle.model.proofs.Bools.{and-left, and-right, not-true-false, or-right-false}
+use Rattle.model.proofs.Bools.{and-left, and-right, not-true-false, or-left-false, or-right-false}
 use Rattle.model.proofs.Jobs.{newest-is}
 use Rattle.model.proofs.Search.{any-some, none-any, none-at}
 use Rattle.model.specs.Search.{any, bit}
@@ -159,10 +159,6 @@ pub record Right (s : Table) (t : ℕ) (o : ℕ → ℕ) (row : List ℕ) : Type
       (p : ℕ) → p < length (s .tasks) → ltb 0 (cellCount (suc p) row) ≡ true
       → cellCount (suc p) row ≡ widthOf (task s p) (newest (task s p) t)
   pub owed : (p : ℕ) → p < length (s .tasks) → ltb 0 (cellCount (suc p) row) ≡ true → 0 < opened s t o p
-
-or-left-false : (a b : Bool) → a || b ≡ false → a ≡ false
-or-left-false true b e = e
-or-left-false false b e = refl
 
 -- an unknown position is one by its test, and the other way round
 pub unknown-decides : (s : Table) (row : List ℕ) (c : ℕ) → (unknownByteIn s row c ≡ true) ↔ UnknownByte s c (getD row c 0)

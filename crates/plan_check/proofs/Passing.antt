@@ -6,7 +6,7 @@ use Prim.Native.Nat.{_+_, _-_, _<_, ℕ}
 use lib.Dec.{eqb}
 use lib.ListN.{length}
 use borrow.Author.Tests.{eq-eqb, eqb-true, not-false}
-use Rattle.model.proofs.Bools.{or-right-false}
+use Rattle.model.proofs.Bools.{or-left-false, or-right-false}
 use Rattle.model.proofs.Search.{none-any, none-at}
 use Rattle.model.specs.Search.{any}
 use Rattle.model.specs.Task as model
@@ -16,7 +16,7 @@ use Rattle.phase.specs.Task.{pastEnd, taskOf}
 use Rattle.phase.specs.declared.Phase.{Phase}
 use Rattle.phase.specs.declared.Phase.the-variants.{Coming, Holding, Resting, Working}
 use Rattle.phase.specs.declared.Task.{Task}
-use Rattle.run.proofs.Limits.{Passes, in-array, or-left-false, passes-if, passes-runs, valid-if}
+use Rattle.run.proofs.Limits.{Passes, in-array, passes-if, passes-runs, valid-if}
 use Rattle.run.proofs.Places.{mapFirst-at, take-kept}
 use Rattle.run.proofs.StartPasses.{start-passes, started-at}
 use Rattle.run.specs.Numbers.{lateAt, runOut, widthLimitIn}

@@ -7,7 +7,6 @@ use Prim.Native.Nat.{_-_, ℕ}
 use Prim.Native.String.{String}
 use lib.ListN.{drop, length, replicate, take}
 use Rattle.model.proofs.Computing.{computing}
-use Rattle.model.proofs.LineByLine.{LineByLine, by-line}
 use Rattle.model.specs.Refusals as book
 use Rattle.model.specs.Sizes.{mostTasks}
 use Rattle.table.specs.Answer.{answerOf, byHorizon, byTasks, byWalk, endingOf, firstOut, headerNumber, lastStep}
@@ -191,21 +190,10 @@ lines =
     ∷ goes "from the last S on what is noted stays" taken (late (Working 0 0 0) 2 (Resting 1)) (1 ∷ []) 3 (Resting 1 ∷ []) (false ∷ []) (Resting 1 ∷ [])
     ∷ []
 
--- every line is its value by the definitions, line by line
-computed : LineByLine computes lines lines
-unfolding checkRowOf checkRowAnswer answerAt finalAnswer differs missed stateOut faulty anyUnknownByte workedRow cellCount mapFirst runOut pastCount computing
-computed =
-    let past-42 : LineByLine computes (drop 42 lines) (drop 42 lines) =
-    (refl, (refl, (refl, (refl, (refl, (refl, (refl, tt))))))) in
-    let past-28 : LineByLine computes (drop 28 lines) (drop 28 lines) =
-    (refl, (refl, (refl, (refl, (refl, (refl, (refl, (refl, (refl, (refl, (refl, (refl, (refl, (refl, past-42)))))))))))))) in
-    let past-14 : LineByLine computes (drop 14 lines) (drop 14 lines) =
-    (refl, (refl, (refl, (refl, (refl, (refl, (refl, (refl, (refl, (refl, (refl, (refl, (refl, (refl, past-28)))))))))))))) in
-    (refl, (refl, (refl, (refl, (refl, (refl, (refl, (refl, (refl, (refl, (refl, (refl, (refl, (refl, past-14))))))))))))))
-
--- .. and as one list
+-- every line is its value by the definitions: one table with one check
 pub state-examples : map computes lines ≡ lines
-state-examples = by-line computes lines lines computed
+unfolding checkRowOf checkRowAnswer answerAt finalAnswer differs missed stateOut faulty anyUnknownByte workedRow cellCount mapFirst runOut pastCount computing
+state-examples = refl
 
 -- EXTENTS OF PLANS: the number, the last S and the horizon
 
@@ -286,12 +274,9 @@ beginnings =
     ∷ no-plan "8: D above T" (alone 0 2 5 4) 8 1
     ∷ []
 
-begun-computed : LineByLine begins beginnings beginnings
-unfolding beginOf startedRun answerOf byWalk byTasks byHorizon firstOut endingOf lastStep headerNumber tableOf chain count visited computing
-begun-computed = (refl, (refl, (refl, (refl, (refl, (refl, tt))))))
-
 pub begin-examples : map begins beginnings ≡ beginnings
-begin-examples = by-line begins beginnings beginnings begun-computed
+unfolding beginOf startedRun answerOf byWalk byTasks byHorizon firstOut endingOf lastStep headerNumber tableOf chain count visited computing
+begin-examples = refl
 
 -- a refused beginning leaves what 14 turns down
 pub refused-then : rowAnswerMeaning (checkRowOf (beginOf [] .plan) (0 ∷ []) .answer) ≡ refused 14 0

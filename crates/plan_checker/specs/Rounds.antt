@@ -1,10 +1,10 @@
 -- The contract of a round of the program: what was read is fed to the check, after what was left of the bytes before, and its answer is passed to writes.
 use mathlib.Core.Bool.{false, not, true}
-use mathlib.Core.List.{List, _++_}
+use mathlib.Core.List.{List, [], _++_}
 use mathlib.Core.Path.{_≡_}
-use Prim.Native.Nat.{_-_, _<_, ℕ, _≤_}
+use Prim.Native.Nat.{_<_, ℕ}
 use lib.ListN.{drop, length, take}
-use Rattle.session.specs.Transcript.{nothing, tooMany}
+use Rattle.splitter.specs.Split.{nothing, tooMany}
 use Rattle.stream.specs.Sent.{SentOf}
 use Rattle.plan_text.specs.declared.Check.{Check}
 use Rattle.plan_text.specs.declared.Fed.{Fed}
@@ -12,16 +12,11 @@ use Rattle.plan_text.specs.Check.{FedOf, isOver, checkAnswer}
 use Rattle.plan_text.specs.Printed.{planAnswerLine}
 use Rattle.plan_checker.specs.declared.Received.{Received}
 
--- the bytes from a place up to another are at the front of the buffer
-pub record MovedToFront (from end : ℕ) (before after : List ℕ) (n : ℕ) : Type 0 where
-  pub count : n ≡ end - from
-  pub same : length after ≡ length before
-  pub front : take n after ≡ take (end - from) (drop from before)
-
--- the bytes that came were fed after those that were left
+-- the bytes that came were fed after those that were left; none came where the input has ended
 pub record ReceivedBytes (c : Check) (left came after : List ℕ) (r : Received) : Type 0 where
+  pub none : r .reading .ended ≡ true → came ≡ []
   pub fed : Fed
-  pub feeds : FedOf c (left ++ came) fed
+  pub feeds : FedOf c (r .reading .ended) (left ++ came) fed
   pub check : r .check ≡ fed .check
   -- it reads again unless the answer is known, and then that is passed to writes
   pub again : r .again ≡ not (isOver (fed .check .stage))
@@ -33,8 +28,8 @@ pub record ReceivedBytes (c : Check) (left came after : List ℕ) (r : Received)
 -- one read, and its result, where this number of bytes of the buffer was left; as `ReceivedOf` in replay/specs/Rounds, there of a session
 pub record ReceivedOf (c : Check) (held : ℕ) (before after : List ℕ) (r : Received) : Type 0 where
   pub same : length after ≡ length before
-  -- bytes came
-  pub bytes : r .reading .failed ≡ false → r .reading .ended ≡ false → (came : List ℕ) × ReceivedBytes c (take held before) came after r
+  -- bytes came, or the input has ended
+  pub bytes : r .reading .failed ≡ false → (came : List ℕ) × ReceivedBytes c (take held before) came after r
   -- the input has ended: the answer at its end is passed to writes
   pub end : r .reading .failed ≡ false → r .reading .ended ≡ true → SentOf 0 (planAnswerLine (checkAnswer c nothing (take held before))) (r .sent) × (r .again ≡ false)
   -- the read failed: nothing is written

@@ -1,10 +1,10 @@
 // Reads a table, a line `--` and a supplied plan from standard input as they come, and prints the answer: one line.
 ghost use mathlib.Core.Path.{_≡_};
-ghost use Prim.Native.Nat.{_<_, _≤_};
+ghost use Prim.Native.Nat.{_<_};
 ghost use lib.ListN.{length};
 ghost use Rattle.stream.specs.Sent.{SentOf};
 ghost use Rattle.plan_text.specs.Printed.{planAnswerLine};
-ghost use Rattle.plan_checker.specs.Rounds.{MovedToFront, ReceivedOf};
+ghost use Rattle.plan_checker.specs.Rounds.{ReceivedOf};
 use plan_text::Check;
 use plan_text::PlanAnswer;
 use plan_text::answer_text;
@@ -28,20 +28,6 @@ fn print(answer: PlanAnswer) -> Sent
     let mut line = [0u8; LINE];
     let length = answer_text::put(&mut line, answer);
     stream::send(0, &line[..length])
-}
-
-// Moves the bytes from a place up to another to the front of the buffer; returns how many they are.
-fn move_to_front(buffer: &mut [u8], from: usize, end: usize) -> usize
-    requires { ⌜ (from ≤ end) × (end ≤ length (now buffer)) ⌝ }
-    ensures { λ r. ⌜ MovedToFront from end (now (buffer .entry)) (now (buffer .exit)) r ⌝ }
-{
-    let count = end - from;
-    let mut k: usize = 0;
-    while k < count {
-        buffer[k] = buffer[from + k];
-        k += 1;
-    }
-    count
 }
 
 // Nothing was written.
@@ -70,19 +56,8 @@ fn receive(check: Check, buffer: &mut [u8], held: usize) -> Received
             again: false,
         };
     }
-    if reading.ended {
-        let answer = check.end(&buffer[..held]);
-        let sent = print(answer);
-        return Received {
-            reading: reading,
-            check: check,
-            held: held,
-            sent: sent,
-            again: false,
-        };
-    }
     let end = reading.held;
-    let fed = check.feed(&buffer[..end]);
+    let fed = check.feed(&buffer[..end], reading.ended);
     let next = fed.check;
     let taken = fed.taken;
     if next.is_over() {
@@ -96,7 +71,7 @@ fn receive(check: Check, buffer: &mut [u8], held: usize) -> Received
             again: false,
         };
     }
-    let left = move_to_front(buffer, taken, end);
+    let left = stream::move_to_front(buffer, taken, end);
     Received {
         reading: reading,
         check: next,

@@ -15,7 +15,7 @@ use Rattle.table.specs.declared.Answer.the-variants as table
 use Rattle.text.specs.Format.{numbersIn, wordsOf}
 use Rattle.text.specs.Output.{letters}
 use Rattle.sentence.specs.Reading.{startsWith}
-use Rattle.session.specs.Transcript.{nothing}
+use Rattle.splitter.specs.Split.{nothing}
 use Rattle.plan_check.specs.Begin.{beginOf}
 use Rattle.plan_check.specs.CheckRow.{checkRowOf}
 use Rattle.plan_check.specs.declared.Answer as planCheck

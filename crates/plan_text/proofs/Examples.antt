@@ -6,7 +6,6 @@ use Prim.Native.Nat.{ℕ}
 use Prim.Native.String.{String}
 use lib.ListN.{replicate}
 use Rattle.model.proofs.Computing.{computing}
-use Rattle.model.proofs.LineByLine.{LineByLine, by-line}
 use Rattle.table.specs.Answer.{answerOf, byHorizon, byTasks, byWalk, endingOf, firstOut, headerNumber, lastStep}
 use Rattle.table.specs.Words.{chain, count, visited, tableOf}
 use Rattle.phase.specs.declared.Phase.the-variants.{Resting, Working}
@@ -18,8 +17,8 @@ use Rattle.text.specs.Decimal.{all, decimal, digitCount, digitsWithin, lastDigi
 use Rattle.text.specs.Format.{isNumber, lines, wordsOf}
 use Rattle.text.specs.Output.{fields, letters, lineOf}
 use Rattle.sentence.specs.Reading.{startsWith}
-use Rattle.session.specs.Operation.{wordsIn}
-use Rattle.session.specs.Transcript.{isDashes, lastLine, linesFrom, nothing}
+use Rattle.splitter.specs.Words.{wordsIn}
+use Rattle.splitter.specs.Split.{isDashes, lastLine, linesFrom, nothing, splitFrom, unclosed}
 use Rattle.plan_check.specs.declared.SuppliedPlan.{SuppliedPlan}
 use Rattle.plan_check.specs.Begin.{beginOf}
 use Rattle.plan_check.specs.Numbers.{differs, missed, stateOut}
@@ -29,7 +28,7 @@ use Rattle.plan_check.specs.State.{note}
 use Rattle.plan_check.specs.CheckRow.{answerAt, finalAnswer, checkRowAnswer, checkRowOf}
 use Rattle.plan_text.specs.declared.PlanAnswer.{PlanAnswer}
 use Rattle.plan_text.specs.declared.PlanAnswer.the-variants.{Accepted, Fault, Refused, Unfinished, Unread}
-use Rattle.plan_text.specs.Checked.{checkedOf, endAnswer, nextLine, openedOf, opens, skipped, rowsAt, rowsAnswer, stepOf, tableAnswer, unclosedAnswer}
+use Rattle.plan_text.specs.Checked.{checkedOf, endAnswer, nextLine, openedOf, opens, skipped, rowsAt, rowsAnswer, splitAnswer, stepOf}
 use Rattle.plan_text.specs.Line.{Read, cellsOf, isByte, isVerdict, noRow, rowRead, rowIn, rowOfWords}
 use Rattle.plan_text.specs.Printed.{planAnswerLine}
 
@@ -65,15 +64,9 @@ some-lines =
     ∷ reads "0\t1" noRow
     ∷ []
 
-abbrev reading : Line → Line
-reading l = reads (l .text) (rowIn (letters (l .text)))
-
-each-line : LineByLine reading some-lines some-lines
-unfolding rowOfWords cellsOf isByte wordsIn isNumber all value
-each-line = (refl, (refl, (refl, (refl, (refl, (refl, (refl, (refl, (refl, (refl, (refl, (refl, (refl, (refl, (refl, (refl, tt))))))))))))))))
-
 pub lines-read : map (λ l. reads (l .text) (rowIn (letters (l .text)))) some-lines ≡ some-lines
-lines-read = by-line reading some-lines some-lines each-line
+unfolding rowOfWords cellsOf isByte wordsIn isNumber all value
+lines-read = refl
 
 -- THE ANSWER TO THE LINES OF A PLAN
 
@@ -130,18 +123,15 @@ checks =
 abbrev checking : Check → Check
 checking c = check (c .input) (rowsAnswer nothing (rowsAt plan 0 false) (linesFrom nothing [] (letters (c .input))))
 
-each-check : LineByLine checking checks checks
+pub checks-exact : map checking checks ≡ checks
 unfolding rowsAnswer endAnswer stepOf skipped nextLine isVerdict startsWith linesFrom lastLine rowOfWords cellsOf isByte wordsIn isNumber all value checkRowOf checkRowAnswer answerAt finalAnswer differs missed
     stateOut faulty anyUnknownByte workedRow cellCount mapFirst runOut pastCount computing
-each-check = (refl, (refl, (refl, (refl, (refl, (refl, (refl, (refl, (refl, (refl, (refl, (refl, (refl, (refl, (refl, tt)))))))))))))))
-
-pub checks-exact : map checking checks ≡ checks
-checks-exact = by-line checking checks checks each-check
+checks-exact = refl
 
 -- A TABLE THAT IS TURNED DOWN, AND THE LINE THAT IS PRINTED
 
 pub refusedLine : (checkedOf (letters "") ≡ Refused 1 0) × (checkedOf (letters "x\n--\n0 1\n") ≡ Refused 1 0) × (checkedOf (letters "1\n65\n1\n0\n0\n--\n") ≡ Refused 2 0)
-unfolding checkedOf tableAnswer unclosedAnswer opens openedOf isDashes wordsOf lines isNumber all value beginOf answerOf headerNumber rowsAnswer endAnswer linesFrom lastLine
+unfolding checkedOf splitAnswer splitFrom unclosed opens openedOf isDashes wordsOf lines isNumber all value beginOf answerOf headerNumber rowsAnswer endAnswer linesFrom lastLine
 refusedLine = (refl, refl, refl)
 
 pub answer-lines :

@@ -5,9 +5,7 @@ pub mod Printing
 pub mod Taking
 pub mod Lines
 pub mod Long
-pub mod Cutting
 pub mod Feeding
-pub mod Ending
 pub mod Whole
 pub mod Examples
 pub mod Plan

@@ -21,7 +21,7 @@ use Rattle.text.proofs.Numbers.{number-exact}
 use Rattle.plan_check.specs.declared.Answer as planCheck
 use Rattle.plan_check.specs.declared.Answer.the-variants as answer
 use Rattle.plan_check.specs.CheckRow.{checkRowOf}
-use Rattle.session.specs.Transcript.{lastLine, linesFrom, nothing}
+use Rattle.splitter.specs.Split.{lastLine, linesFrom, nothing}
 use Rattle.plan_text.specs.declared.PlanProgress.{PlanProgress}
 use Rattle.plan_text.specs.declared.PlanAnswer.{PlanAnswer}
 use Rattle.plan_text.specs.declared.PlanAnswer.the-variants.{Fault, Refused, Unread}

@@ -34,7 +34,7 @@ use Rattle.plan_check.specs.Plan.{Acceptable, ValidRow, rowAt}
 use Rattle.plan_check.specs.RowAnswer.{RowAnswer, accepted, taken}
 use Rattle.plan_check.specs.declared.SuppliedPlan.{SuppliedPlan}
 use Rattle.plan_check.proofs.Checked.{checked, own-plans, own-written}
-use Rattle.session.specs.Transcript.{linesFrom, nothing}
+use Rattle.splitter.specs.Split.{linesFrom, nothing}
 use Rattle.plan_text.specs.declared.PlanProgress.{PlanProgress}
 use Rattle.plan_text.specs.declared.PlanAnswer.the-variants.{Accepted}
 use Rattle.plan_text.specs.Checked.{checkedOf, nextLine, rowsAt, rowsAnswer}

@@ -23,8 +23,8 @@ use Rattle.text.proofs.Canonical.{number-of}
 use Rattle.text.proofs.Decimals.{decimal-digits, decimal-most, decimal-some, decimal-value}
 use Rattle.text.proofs.Numbers.{number-exact}
 use Rattle.sentence.specs.Reading.{startsWith}
-use Rattle.session.specs.Operation.{wordsIn}
-use Rattle.session.specs.Transcript.{InputEnd, lastLine, linesFrom, nothing}
+use Rattle.splitter.specs.Words.{wordsIn}
+use Rattle.splitter.specs.Split.{InputEnd, lastLine, linesFrom, nothing}
 use Rattle.plan_check.specs.Numbers.{afterRow}
 use Rattle.plan_check.specs.Answers.{PlanOutcome, accepts, refuses, unfinished}
 use Rattle.plan_check.specs.Checked.{rowAnswersFrom, outcomeFrom}
@@ -43,7 +43,7 @@ use Rattle.plan_text.specs.Plan.{WordsOf, ExpressibleRow, planText, plan
 use Rattle.plan_text.proofs.Lines.{rows-none}
 use Rattle.plan_text.proofs.Long.{refusal-ends}
 use Rattle.plan_text.proofs.Answers.{entered-plan, on-end, on-more}
-use Rattle.session.proofs.Asking.{words-one}
+use Rattle.splitter.proofs.Words.{words-one}
 use Rattle.text.specs.Input.{lengthTo}
 
 -- the answer to a row

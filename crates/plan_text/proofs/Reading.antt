@@ -18,8 +18,8 @@ use Rattle.text.specs.Output.{space}
 use Rattle.text.specs.declared.line.ParsedNumber.the-variants.{Nothing, Value}
 use Rattle.text.proofs.Lines.{mark-within}
 use Rattle.text.proofs.Numbers.{nothing-found, value-found}
-use Rattle.session.specs.Operation.{wordsIn}
-use Rattle.session.proofs.Asking.{words-more, words-one}
+use Rattle.splitter.specs.Words.{wordsIn}
+use Rattle.splitter.proofs.Words.{words-more, words-one}
 use Rattle.plan_text.specs.declared.line.Line.{Line}
 use Rattle.plan_text.specs.Line.{Read, wordsAfter, cellsOf, isByte, readLine, mostCells, noRow, padCells, rowRead, rowIn, rowOfWords}
 

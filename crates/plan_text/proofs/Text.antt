@@ -16,14 +16,14 @@ use Rattle.text.specs.Decimal.{Digits, decimal}
 use Rattle.text.specs.Format.{Words, largest, mostNumbers, newline, numbersIn, textOf, readWords, wordsOf}
 use Rattle.text.proofs.Canonical.{text-read}
 use Rattle.text.proofs.Decimals.{decimal-digits}
-use Rattle.session.specs.Transcript.{InputEnd, isDashes, linesFrom, nothing}
+use Rattle.splitter.specs.Split.{InputEnd, closed, isDashes, linesFrom, nothing, splitFrom}
+use Rattle.splitter.proofs.Splits.{split-line, split-more}
 use Rattle.plan_check.specs.Begin.{begunBy, beginOf, firstState}
 use Rattle.plan_check.specs.Checked.{outcomeOf}
 use Rattle.plan_text.specs.declared.PlanAnswer.{PlanAnswer}
 use Rattle.plan_text.specs.declared.PlanAnswer.the-variants.{Refused}
-use Rattle.plan_text.specs.Checked.{checkedOf, orElse, opens, openedBy, openedOf, rowsAt, rowsAnswer, tableAnswer}
+use Rattle.plan_text.specs.Checked.{checkedOf, orElse, opens, openedBy, openedOf, rowsAt, rowsAnswer, splitAnswer}
 use Rattle.plan_text.specs.Plan.{ExpressibleRow, afterDashes, planText, planAnswerOf}
-use Rattle.plan_text.proofs.Lines.{table-line, table-more}
 use Rattle.plan_text.proofs.Plan.{digits-mark, plan-answer}
 
 -- a line of digits is no line `--`
@@ -35,17 +35,17 @@ digits-dashes (a ∷ b ∷ []) h = rw (ne-eqb a 45 (λ e. omega (arith, e, h 0 (
 digits-dashes (a ∷ b ∷ c ∷ ds) h = refl
 
 -- the numbers of a table, one a line, and then the line `--`
-table-text : (e : InputEnd) (d ws bs : List ℕ) → tableAnswer e d [] (textOf ws ++ afterDashes bs) ≡ opens e (d ++ textOf ws) (linesFrom e [] bs)
-unfolding tableAnswer textOf isDashes
-table-text e d [] bs = ap (λ (x : List ℕ). opens e x (linesFrom e [] bs)) (sym (append-nil d))
-table-text e d (w ∷ ws) bs =
-    ap (tableAnswer e d []) (append-assoc (decimal w) (newline ∷ textOf ws) (afterDashes bs))
-    ∙ ap (λ (x : List ℕ). tableAnswer e d [] (x ++ (newline ∷ (textOf ws ++ afterDashes bs)))) (sym (take-length (decimal w)))
-    ∙ table-more e d [] (decimal w) (length (decimal w)) (newline ∷ (textOf ws ++ afterDashes bs)) (omega (arith, digits-mark newline (decimal w) (decimal-digits w) (omega arith)))
-    ∙ ap (λ (x : List ℕ). tableAnswer e d x (newline ∷ (textOf ws ++ afterDashes bs))) (take-length (decimal w))
-    ∙ table-line e d (decimal w) (textOf ws ++ afterDashes bs) (digits-dashes (decimal w) (decimal-digits w))
-    ∙ table-text e (d ++ (decimal w ++ (newline ∷ []))) ws bs
-    ∙ ap (λ (x : List ℕ). opens e x (linesFrom e [] bs)) (append-assoc d (decimal w ++ (newline ∷ [])) (textOf ws) ∙ ap (λ (x : List ℕ). d ++ x) (append-assoc (decimal w) (newline ∷ []) (textOf ws)))
+split-text : (e : InputEnd) (d ws bs : List ℕ) → splitFrom e d [] (textOf ws ++ afterDashes bs) ≡ closed (d ++ textOf ws) (linesFrom e [] bs)
+unfolding splitFrom textOf isDashes
+split-text e d [] bs = ap (λ (x : List ℕ). closed x (linesFrom e [] bs)) (sym (append-nil d))
+split-text e d (w ∷ ws) bs =
+    ap (splitFrom e d []) (append-assoc (decimal w) (newline ∷ textOf ws) (afterDashes bs))
+    ∙ ap (λ (x : List ℕ). splitFrom e d [] (x ++ (newline ∷ (textOf ws ++ afterDashes bs)))) (sym (take-length (decimal w)))
+    ∙ split-more e d [] (decimal w) (length (decimal w)) (newline ∷ (textOf ws ++ afterDashes bs)) (omega (arith, digits-mark newline (decimal w) (decimal-digits w) (omega arith)))
+    ∙ ap (λ (x : List ℕ). splitFrom e d x (newline ∷ (textOf ws ++ afterDashes bs))) (take-length (decimal w))
+    ∙ split-line e d (decimal w) (textOf ws ++ afterDashes bs) (digits-dashes (decimal w) (decimal-digits w))
+    ∙ split-text e (d ++ (decimal w ++ (newline ∷ []))) ws bs
+    ∙ ap (λ (x : List ℕ). closed x (linesFrom e [] bs)) (append-assoc d (decimal w ++ (newline ∷ [])) (textOf ws) ∙ ap (λ (x : List ℕ). d ++ x) (append-assoc (decimal w) (newline ∷ []) (textOf ws)))
 
 -- a plan begins at tick 0
 pub begin-tick : (ws : List ℕ) → beginOf ws .plan .tick ≡ 0
@@ -62,9 +62,9 @@ module _ (ws : List ℕ) (few : length ws ≤ mostNumbers) (fit : (i : ℕ) → 
   read = ap numbersIn (text-read ws few fit)
 
   said : (bs : List ℕ) → checkedOf (textOf ws ++ afterDashes bs) ≡ orElse (openedBy (beginOf ws .answer) (beginOf ws .plan) .answer) (rowsAnswer nothing (openedBy (beginOf ws .answer) (beginOf ws .plan) .rows) (linesFrom nothing [] bs))
-  unfolding checkedOf opens openedOf
+  unfolding checkedOf splitAnswer opens openedOf
   said bs =
-      table-text nothing [] ws bs
+      ap (splitAnswer nothing) (split-text nothing [] ws bs)
       ∙ ap (λ (vs : List ℕ). orElse (openedBy (beginOf vs .answer) (beginOf vs .plan) .answer) (rowsAnswer nothing (openedBy (beginOf vs .answer) (beginOf vs .plan) .rows) (linesFrom nothing [] bs))) read
 
   -- where the table is turned down the answer is its number, whatever the plan is

@@ -1,19 +1,19 @@
 -- The answer to a table and a supplied plan: the table's text, a line `--`, and the lines of the plan, whose rows are taken one after another.
 use mathlib.Core.Bool.{Bool, _&&_, _||_, cond, false, true}
-use mathlib.Core.List.{List, [], _++_, _∷_}
+use mathlib.Core.List.{List, [], _∷_}
 use Prim.Native.Nat.{suc, ℕ}
 use lib.Dec.{eqb, leb, ltb}
 use lib.ListN.{length}
 use Rattle.model.specs.Sizes.{mostWord}
 use Rattle.table.specs.declared.Answer.{Answer}
 use Rattle.table.specs.declared.Answer.the-variants as table
-use Rattle.text.specs.Format.{newline, numbersIn, wordsOf}
+use Rattle.text.specs.Format.{numbersIn, wordsOf}
 use Rattle.plan_check.specs.Begin.{beginOf}
 use Rattle.plan_check.specs.CheckRow.{checkRowOf}
 use Rattle.plan_check.specs.declared.Answer as planCheck
 use Rattle.plan_check.specs.declared.Answer.the-variants as answer
 use Rattle.plan_check.specs.declared.SuppliedPlan.{SuppliedPlan}
-use Rattle.session.specs.Transcript.{InputEnd, isDashes, linesFrom, nothing, unknown}
+use Rattle.splitter.specs.Split.{InputEnd, Split, closed, growing, nothing, split, unknown}
 use Rattle.plan_text.specs.declared.PlanProgress.{PlanProgress}
 use Rattle.plan_text.specs.declared.PlanAnswer.{PlanAnswer}
 use Rattle.plan_text.specs.declared.PlanAnswer.the-variants.{Accepted, Fault, More, Refused, Unfinished, Unread}
@@ -101,23 +101,15 @@ openedOf d = openedBy (beginOf (numbersIn (wordsOf d)) .answer) (beginOf (number
 unfoldable pub opens : InputEnd → List ℕ → List (List ℕ) → PlanAnswer
 opens e d ls = orElse (openedOf d .answer) (rowsAnswer e (openedOf d .rows) ls)
 
--- the answer to the bytes of a table that no line `--` has ended: where the input ends they are all of it, but for a last line `--`
-unfoldable pub unclosedAnswer : InputEnd → List ℕ → List ℕ → PlanAnswer
-unclosedAnswer nothing d l = opens nothing (cond (isDashes l) d (d ++ l)) []
-unclosedAnswer unknown d l = More
-
--- the answer where the whole lines d and the bytes l of one more are before the bytes bs: the first line `--` ends the table
-unfoldable pub tableAnswer : InputEnd → List ℕ → List ℕ → List ℕ → PlanAnswer
-tableAnswer e d l [] = unclosedAnswer e d l
-tableAnswer e d l (b ∷ bs) =
-    cond (eqb b newline)
-    (cond (isDashes l) (opens e d (linesFrom e [] bs)) (tableAnswer e (d ++ (l ++ (newline ∷ []))) [] bs))
-    (tableAnswer e d (l ++ (b ∷ [])) bs)
+-- the answer to an input; while its table grows none is known
+unfoldable pub splitAnswer : InputEnd → Split → PlanAnswer
+splitAnswer e (closed d ls) = opens e d ls
+splitAnswer e (growing n) = More
 
 -- the answer to the bytes of an input
 unfoldable pub checkedOf : List ℕ → PlanAnswer
-checkedOf bs = tableAnswer nothing [] [] bs
+checkedOf bs = splitAnswer nothing (split nothing bs)
 
 -- the answer that is due once these bytes have come: the first line with another answer than more is answered at once
 unfoldable pub answerSoFar : List ℕ → PlanAnswer
-answerSoFar bs = tableAnswer unknown [] [] bs
+answerSoFar bs = splitAnswer unknown (split unknown bs)

@@ -9,7 +9,7 @@ use Rattle.text.specs.Decimal.{all, value}
 use Rattle.text.specs.Format.{isNumber, mostDigits}
 use Rattle.text.specs.Output.{letters}
 use Rattle.sentence.specs.Reading.{startsWith}
-use Rattle.session.specs.Operation.{wordsIn}
+use Rattle.splitter.specs.Words.{wordsIn}
 use Rattle.plan_text.specs.declared.line.Line.{Line}
 
 -- the number of cells of a row that are read, one more than a row can have: a longer one gets 11, whatever follows them

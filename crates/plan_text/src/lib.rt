@@ -1,14 +1,12 @@
 // A supplied plan as text, checked as it comes: the table, a line `--`, and the plan's lines, whose rows are taken one after another.
 ghost use mathlib.Core.Path.{_≡_};
 ghost use Prim.Native.Nat.{_≤_};
-ghost use mathlib.Core.Bool.{cond};
-ghost use mathlib.Core.List.{[]};
-ghost use lib.ListN.{drop, length};
+ghost use lib.ListN.{length};
 ghost use Rattle.plan_check.specs.CheckRow.{checkRowOf};
-ghost use Rattle.session.specs.Transcript.{isDashes, nothing};
+ghost use Rattle.splitter.specs.Split.{nothing};
 ghost use Rattle.plan_text.specs.declared.Stage.the-variants.{Table};
-ghost use Rattle.plan_text.specs.Checked.{nextLine, skipped, refusalAnswer, rowEntered, stepOf, isMore, openedOf, endAnswer, tableAnswer};
-ghost use Rattle.plan_text.specs.Check.{ExtentKnown, planAnswer, answerIn, checkAnswer, isOver, overWith, planWith, PlanFed, FedBy, FedOf, NewOf, CutOf};
+ghost use Rattle.plan_text.specs.Checked.{nextLine, skipped, refusalAnswer, rowEntered, stepOf, isMore, openedOf, endAnswer};
+ghost use Rattle.plan_text.specs.Check.{ExtentKnown, planAnswer, answerIn, isOver, overWith, planWith, FedBy, FedOf, NewOf};
 
 pub mod line; // line.rt: the row in a line
 pub mod answer_text; // answer_text.rt: the line that is printed
@@ -16,8 +14,6 @@ pub mod answer_text; // answer_text.rt: the line that is printed
 use plan_check::Answer;
 use plan_check::Entered;
 use plan_check::SuppliedPlan;
-use session::TOO_MANY;
-use session::open;
 
 // The answer: more lines are needed; the plan is accepted; rows are missing from this tick on; a fault with its number and tick; refused with number
 // and position; or the line with this number is no row.
@@ -68,12 +64,6 @@ pub struct Check {
 pub struct Fed {
     pub check: Check,
     pub taken: usize,
-}
-
-// Whether a line `--` ends the table, and where it begins; else where the last line begins.
-pub struct Cut {
-    pub found: bool,
-    pub from: usize,
 }
 
 // A line more; the count stops at the largest number that it can be.
@@ -234,33 +224,41 @@ fn going(rows: PlanProgress, taken: usize) -> Fed
     }
 }
 
-// The plan's lines from a place on: each line that has ended, and one that is so long that it is decided.
-fn feed_plan(start: PlanProgress, bytes: &[u8], from: usize) -> Fed
+// The answer after the last line.
+fn end_rows(rows: PlanProgress) -> PlanAnswer
+    ensures { λ r. ⌜ r ≡ endAnswer nothing rows ⌝ }
+{
+    if rows.accepted {
+        return PlanAnswer::Accepted;
+    }
+    let plan = rows.plan;
+    PlanAnswer::Unfinished(plan.tick)
+}
+
+// The plan's lines from a place on: each line that has ended, one that is so long that it is decided, and at the end of the input the last one.
+fn feed_plan(start: PlanProgress, bytes: &[u8], from: usize, ended: bool) -> Fed
     requires { ⌜ from ≤ length (now bytes) ⌝ }
-    ensures { λ r. ⌜ PlanFed start from (now (bytes .entry)) r ⌝ }
+    ensures { λ r. ⌜ FedBy (planAnswer start) from ended (now (bytes .entry)) r ⌝ }
 {
     let extent = extent_of(start.plan);
     let mut rows = start;
     let mut at = from;
     while at < bytes.len() {
-        let end = text::line::end_from(bytes, at, b'\n');
-        if end == bytes.len() {
-            if end - at < line::LONG {
-                return going(rows, at);
-            }
-            let reply = step(rows, extent, &bytes[at..end]);
-            let last = reply.rows;
-            let answer = reply.answer;
-            return over(last, answer, end);
+        let part = splitter::line(&bytes[at..], line::LONG, ended);
+        if part.whole {} else {
+            return going(rows, at);
         }
-        let reply = step(rows, extent, &bytes[at..end]);
+        let reply = step(rows, extent, &bytes[at..at + part.end]);
         let next = reply.rows;
         let answer = reply.answer;
         if is_more(answer) {} else {
-            return over(next, answer, end + 1);
+            return over(next, answer, at + part.next);
         }
         rows = next;
-        at = end + 1;
+        at += part.next;
+    }
+    if ended {
+        return over(rows, end_rows(rows), at);
     }
     going(rows, at)
 }
@@ -295,127 +293,26 @@ fn begin(table: &[u8]) -> LineAnswer
     }
 }
 
-// Searches for the line `--`.
-fn find_dashes(bytes: &[u8]) -> Cut
-    ensures { λ r. ⌜ CutOf (now (bytes .entry)) r ⌝ }
-{
-    let mut at: usize = 0;
-    while at < bytes.len() {
-        let end = text::line::end_from(bytes, at, b'\n');
-        if end == bytes.len() {
-            return Cut {
-                found: false,
-                from: at,
-            };
-        }
-        if open::is_dashes(&bytes[at..end]) {
-            return Cut {
-                found: true,
-                from: at,
-            };
-        }
-        at = end + 1;
-    }
-    Cut {
-        found: false,
-        from: at,
-    }
-}
-
-// The table and the line `--`, once it has ended, and the bytes of the plan after it; or too many bytes for a table.
-fn feed_table(check: Check, bytes: &[u8]) -> Fed
+// The table and the line `--`, once it has ended, and the bytes of the plan after it.
+fn feed_table(check: Check, bytes: &[u8], ended: bool) -> Fed
     requires { ⌜ check .stage ≡ Table ⌝ }
-    ensures { λ r. ⌜ FedBy (answerIn Table check) 0 (now (bytes .entry)) r ⌝ }
+    ensures { λ r. ⌜ FedBy (answerIn Table check) 0 ended (now (bytes .entry)) r ⌝ }
 {
-    let cut = find_dashes(bytes);
-    let from = cut.from;
-    if cut.found {
-        let opened = begin(&bytes[..from]);
+    let part = splitter::table(bytes, ended);
+    if part.whole {
+        let end = part.end;
+        let opened = begin(&bytes[..end]);
         let rows = opened.rows;
         let answer = opened.answer;
         if is_more(answer) {
-            return feed_plan(rows, bytes, from + 3);
+            return feed_plan(rows, bytes, part.next, ended);
         }
         return over(rows, answer, bytes.len());
     }
-    if bytes.len() < TOO_MANY {
-        return Fed {
-            check: check,
-            taken: 0,
-        };
+    Fed {
+        check: check,
+        taken: 0,
     }
-    over(check.rows, PlanAnswer::Refused(1, 0), bytes.len())
-}
-
-// The answer after the last line.
-fn end_rows(rows: PlanProgress) -> PlanAnswer
-    ensures { λ r. ⌜ r ≡ endAnswer nothing rows ⌝ }
-{
-    if rows.accepted {
-        return PlanAnswer::Accepted;
-    }
-    let plan = rows.plan;
-    PlanAnswer::Unfinished(plan.tick)
-}
-
-// The end of the input in the plan: its lines, and a last one that lacks its newline.
-fn end_plan(start: PlanProgress, bytes: &[u8], from: usize) -> PlanAnswer
-    requires { ⌜ from ≤ length (now bytes) ⌝ }
-    ensures { λ r. ⌜ r ≡ planAnswer start nothing (drop from (now (bytes .entry))) ⌝ }
-{
-    let fed = feed_plan(start, bytes, from);
-    let check = fed.check;
-    let taken = fed.taken;
-    if check.is_over() {
-        return check.answer;
-    }
-    let rows = check.rows;
-    if taken == bytes.len() {
-        return end_rows(rows);
-    }
-    let reply = step(rows, extent_of(rows.plan), &bytes[taken..]);
-    let answer = reply.answer;
-    if is_more(answer) {
-        let last = reply.rows;
-        return end_rows(last);
-    }
-    answer
-}
-
-// Where the table ends, whose last line begins at `from`: before a line `--`, else after it.
-fn table_end(bytes: &[u8], from: usize) -> usize
-    requires { ⌜ from ≤ length (now bytes) ⌝ }
-    ensures { λ r. ⌜ r ≡ cond (isDashes (drop from (now (bytes .entry)))) from (length (now (bytes .entry))) ⌝ }
-{
-    if open::is_dashes(&bytes[from..]) {
-        return from;
-    }
-    bytes.len()
-}
-
-// The end of the input in the table.
-fn end_table(bytes: &[u8]) -> PlanAnswer
-    ensures { λ r. ⌜ r ≡ tableAnswer nothing [] [] (now (bytes .entry)) ⌝ }
-{
-    let cut = find_dashes(bytes);
-    let from = cut.from;
-    if cut.found {
-        let opened = begin(&bytes[..from]);
-        let rows = opened.rows;
-        let answer = opened.answer;
-        if is_more(answer) {
-            return end_plan(rows, bytes, from + 3);
-        }
-        return answer;
-    }
-    let end = table_end(bytes, from);
-    let opened = begin(&bytes[..end]);
-    let rows = opened.rows;
-    let answer = opened.answer;
-    if is_more(answer) {
-        return end_rows(rows);
-    }
-    answer
 }
 
 impl Check {
@@ -433,14 +330,15 @@ impl Check {
         }
     }
 
-    // Takes the lines that have ended of the bytes, and gives the answer that is due; what is left is to be fed again, with what comes after it.
-    pub fn feed(self, bytes: &[u8]) -> Fed
-        ensures { λ r. ⌜ FedOf self (now (bytes .entry)) r ⌝ }
+    // Takes the lines that have ended of the bytes, and all where the input has; gives the answer that is due. What is left is to be fed again, with what
+    // comes after it.
+    pub fn feed(self, bytes: &[u8], ended: bool) -> Fed
+        ensures { λ r. ⌜ FedOf self ended (now (bytes .entry)) r ⌝ }
     {
         let stage = self.stage;
         match stage {
-            Stage::Table => feed_table(self, bytes),
-            Stage::Plan => feed_plan(self.rows, bytes, 0),
+            Stage::Table => feed_table(self, bytes, ended),
+            Stage::Plan => feed_plan(self.rows, bytes, 0, ended),
             Stage::Over => Fed {
                 check: self,
                 taken: bytes.len(),
@@ -457,18 +355,6 @@ impl Check {
             Stage::Table => false,
             Stage::Plan => false,
             Stage::Over => true,
-        }
-    }
-
-    // The answer where no more bytes come after these.
-    pub fn end(self, bytes: &[u8]) -> PlanAnswer
-        ensures { λ r. ⌜ r ≡ checkAnswer self nothing (now (bytes .entry)) ⌝ }
-    {
-        let stage = self.stage;
-        match stage {
-            Stage::Table => end_table(bytes),
-            Stage::Plan => end_plan(self.rows, bytes, 0),
-            Stage::Over => self.answer,
         }
     }
 }

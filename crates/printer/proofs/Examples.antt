@@ -9,7 +9,6 @@ use Rattle.model.specs.Horizon.{S, horizon, hyperperiod, lcm}
 use Rattle.model.specs.Row.{owner, row}
 use Rattle.model.specs.Search.{any, filtered, least, member, upFrom}
 use Rattle.model.proofs.Computing.{computing}
-use Rattle.model.proofs.LineByLine.{LineByLine, by-line}
 use Rattle.rule.specs.Widths.{widthsIn}
 use Rattle.table.specs.Answer.{headerNumber, lastStep, endingOf, firstOut, byHorizon, byTasks, byWalk, answerOf}
 use Rattle.table.specs.Load.{loadOf}
@@ -62,35 +61,20 @@ prints =
     ∷ []
 
 -- what is printed for a text, and what is to be
-abbrev printing : Print → List ℕ
-printing p = output (letters (p .text))
-
-abbrev whole : Print → List ℕ
-whole p = letters (p .first) ++ letters (p .lines)
-
-each-text : LineByLine printing prints (map whole prints)
+pub texts : map (λ p. output (letters (p .text))) prints ≡ map (λ p. letters (p .first) ++ letters (p .lines)) prints
 unfolding output wordsOf lines isNumber all value printed firstLine rowLine rowLines lineOf fields decimal lastDigits digitCount digitsWithin answerOf byWalk
     byTasks byHorizon firstOut endingOf lastStep headerNumber tableOf chain count visited computing
-each-text = (refl, (refl, (refl, tt)))
-
-pub texts : map (λ p. output (letters (p .text))) prints ≡ map (λ p. letters (p .first) ++ letters (p .lines)) prints
-texts = by-line printing prints (map whole prints) each-text
+texts = refl
 
 -- the lines that the run of a table gives from tick 0 on, beginning with the text of no claimants
 abbrev pub stepped : Loaded → ℕ → List ℕ
 stepped t k = linesIn (loadedNumbers t) k (initialTickState t) (rowTextOf (loadedNumbers t) 0 (initialTickState t .even))
 
-abbrev stepping : Print → List ℕ
-stepping p = stepped (loadOf (p .words)) (p .rows)
-
 abbrev rows : Print → List ℕ
 rows p = letters (p .lines)
 
-each-run : LineByLine stepping prints (map rows prints)
+pub runs : map (λ p. stepped (loadOf (p .words)) (p .rows)) prints ≡ map (λ p. letters (p .lines)) prints
 unfolding linesIn lineIn textIn cells nextTickState afterEvents nextEventAfter evenAtTick grantedAt pairedIn withRelease releasedDue earliest workedTick mapPlaces setWhere widthsIn fields decimal
     lastDigits digitCount digitsWithin loadOf answerOf byWalk byTasks byHorizon firstOut endingOf lastStep headerNumber tableOf chain count visited horizon S
     hyperperiod lcm least any filtered member upFrom owner row given left grants claimants
-each-run = (refl, (refl, (refl, tt)))
-
-pub runs : map (λ p. stepped (loadOf (p .words)) (p .rows)) prints ≡ map (λ p. letters (p .lines)) prints
-runs = by-line stepping prints (map rows prints) each-run
+runs = refl

@@ -42,9 +42,11 @@ use Rattle.simulation.specs.TickState.{loadedNumbers, TickState, tickStateOf, i
 use Rattle.judge.specs.declared.Verdict.{Verdict}
 use Rattle.judge.specs.declared.Verdict.the-variants as judge
 use Rattle.judge.specs.JudgeAnswer.{JudgeAnswer, judged, refused, verdictMeaning, verdictCase}
-use Rattle.judge.specs.Judged.{Judged, loadedTable, Fit}
-use Rattle.judge.proofs.Refines.{refines-start}
-use Rattle.judge.proofs.Contract.{meaning-case, fit, same-table, passed-is, refused-is}
+use Rattle.table.specs.Fit.{loadedTable, Fit}
+use Rattle.judge.specs.Judged.{Judged}
+use Rattle.simulation.proofs.RefinesTick.{refines-start}
+use Rattle.table.proofs.Fit.{fit, same-table}
+use Rattle.judge.proofs.Contract.{meaning-case, passed-is, refused-is}
 use Rattle.text.specs.Format.{mostNumbers, Words, readWords, noText, wordsOf}
 use Rattle.text.specs.Input.{inputOf, ReadOf}
 use Rattle.text.specs.Output.{firstLine, rowLines, rowsPrinted, printed, printedBy, outputOf, output, longestCells, longestLine}

@@ -15,9 +15,9 @@ use Rattle.rule.specs.Widths.{widthsIn}
 use Rattle.simulation.specs.TickState.{Numbers, loadedNumbers, TickState, afterEvents, nextEventAfter, evenAtTick, choiceKept, nextTickState}
 use Rattle.simulation.proofs.SameClaimants.{row-same}
 use Rattle.simulation.proofs.Steps.{unchanged-claims, unchanged-even, tick-on, chosen-on, even-on}
-use Rattle.judge.specs.Judged.{loadedTable, Fit}
-use Rattle.judge.proofs.Ticks.{After, front-agree}
-use Rattle.judge.proofs.Refines.{RefinesTick, looked, refines-on}
+use Rattle.table.specs.Fit.{loadedTable, Fit}
+use Rattle.simulation.proofs.AtTick.{After, front-agree}
+use Rattle.simulation.proofs.RefinesTick.{RefinesTick, handled-after, refines-on}
 use Rattle.text.specs.Decimal.{decimal}
 use Rattle.text.specs.Format.{newline}
 use Rattle.text.specs.Output.{fields, lineOf, rowLine, rowLines}
@@ -60,7 +60,7 @@ module _ (t : Loaded) (fit : Fit t) where
     line : lineIn n s kept ≡ rowLine (s .tick) (bookRow book (full book (s .tick)))
     unfolding lineIn
     line =
-        ap (λ (x : List ℕ). decimal (s .tick) ++ x) (text ∙ cells-row (afterEvents n s) (evenAtTick n s) (nextEventAfter n s) (s .tick) (looked t fit s h met))
+        ap (λ (x : List ℕ). decimal (s .tick) ++ x) (text ∙ cells-row (afterEvents n s) (evenAtTick n s) (nextEventAfter n s) (s .tick) (handled-after t fit s h met))
         ∙ row-line (s .tick) (bookRow book (full book (s .tick)))
 
   -- THEOREM (rows-follow)

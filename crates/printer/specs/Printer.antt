@@ -11,7 +11,7 @@ use Rattle.table.specs.Answer.{answerOf}
 use Rattle.table.specs.Limits.{mostHorizon}
 use Rattle.simulation.specs.TickState.{Numbers, loadedNumbers, TickState, tickStateOf, nextTickState}
 use Rattle.judge.specs.declared.Verdict.{Verdict}
-use Rattle.judge.specs.Judged.{loadedTable, Fit}
+use Rattle.table.specs.Fit.{loadedTable, Fit}
 use Rattle.text.specs.Output.{firstLine, rowLines, printedBy, output, longestCells, longestLine}
 use Rattle.judge.specs.JudgeAnswer.{verdictMeaning}
 use Rattle.text.specs.Written.{Put}

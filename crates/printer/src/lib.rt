@@ -62,7 +62,7 @@ fn next_line(
         (take (stage .text) (now (text .entry))) (now (line .entry)) r (now (places .exit)) (now (text .exit)) (now (line .exit)) ⌝ }
 {
     let registers = stage.registers;
-    let next = simulation::step(setting, widths, times, registers, places);
+    let next = simulation::ticks::step(setting, widths, times, registers, places);
     let mut size = stage.text;
     if (next.chosen != registers.chosen) | (next.even != registers.even) {
         size = cells::put_allocation(
@@ -128,7 +128,7 @@ fn of_words(words: &[u32]) -> Printer
     ensures { λ r. ⌜ WordsPrinter (now (words .entry)) r ⌝ }
 {
     let table = table::load(words);
-    let verdict = fast_judge::judge(words);
+    let verdict = judge::judge(words);
     let end = first::rows_end(verdict, table.horizon);
     start(table, end, verdict)
 }

@@ -9,21 +9,16 @@ use native.Mathlib.Omega.{arith}
 use lib.ListN.{length, take, drop, getD, set}
 use lib.Dec.{eqb}
 use lib.Seq.{drop-cons, take-suc-set, take-nil}
-use Rattle.judge.specs.declared.Verdict.{Verdict}
-use Rattle.judge.specs.JudgeAnswer.{verdictMeaning}
-use Rattle.judge.specs.Judged.{verdictOf}
 use Rattle.text.specs.Decimal.{digitCount, digitsWithin}
 use Rattle.text.specs.Format.{newline, enoughBytes, Words, wordsOf, numbersIn}
-use Rattle.text.specs.Output.{firstLine}
-use Rattle.text.specs.Written.{Put}
+use Rattle.text.specs.Output.{letters, lineOf, firstLine}
 use Rattle.text.proofs.Exact.{first-enough}
-use Rattle.text.proofs.Writing.{put-front}
 use Rattle.sentence.specs.declared.SentenceAnswer.{SentenceAnswer}
 use Rattle.sentence.specs.declared.SentenceAnswer.the-variants.{Length, Refused}
 use Rattle.sentence.specs.Reading.{startsWith}
 use Rattle.sentence.specs.SentenceAnswer.{sentenceMeaning, sentenceAnswerOf, SentenceOf}
 use Rattle.query.specs.declared.Question.{Question}
-use Rattle.query.specs.declared.Question.the-variants.{Why, ResponseTimes, Conflict, Slack, Bounds}
+use Rattle.query.specs.declared.Question.the-variants.{Why, ResponseTimes, Conflict, Slack, Bounds, Verdict}
 use Rattle.query.specs.Query.{answerRoom, whyBy, whyOf, answerTo, wordOf, answerAfterWord, noQuestion, queryOutputOf, questions, queryOutput, enoughInput}
 
 -- THE ANSWER TO `why`
@@ -51,11 +46,10 @@ module _ (ws old new : List ℕ) (v : SentenceAnswer) (h : SentenceOf ws old new
             ∙ (ap (λ (w : SentenceAnswer). whyBy (sentenceMeaning w) ws) (sym e) ∙ by-answer))),
       )
 
-  -- the verdict's line
-  pub why-verdict :
-      (n p : ℕ) → v ≡ Refused n p → (w : Verdict) → w ≡ verdictOf ws → {m : List ℕ} {r : ℕ} → Put new 0 (firstLine (verdictMeaning w)) m r → take r m ≡ whyOf ws
-  why-verdict n p e w q put =
-      put-front put ∙ (ap (λ (x : Verdict). firstLine (verdictMeaning x)) q ∙ (ap (λ (x : SentenceAnswer). whyBy (sentenceMeaning x) ws) (sym e) ∙ by-answer))
+  -- the refusal
+  pub why-refused : (n p : ℕ) → v ≡ Refused n p → lineOf (letters "refused") (n ∷ p ∷ []) ≡ whyOf ws
+  unfolding firstLine
+  why-refused n p e = ap (λ (x : SentenceAnswer). whyBy (sentenceMeaning x) ws) (sym e) ∙ by-answer
 
 -- THE QUESTION
 
@@ -77,6 +71,7 @@ word-some ResponseTimes = omega arith
 word-some Conflict = omega arith
 word-some Slack = omega arith
 word-some Bounds = omega arith
+word-some Verdict = omega arith
 
 -- WHICH ONE is decided by where the table after its word begins, 0 where its word is not in front
 module _ (q : Question) (bs : List ℕ) (r : ℕ) (e : r ≡ cond (startsWith (wordOf q) bs) (length (wordOf q)) 0) where
@@ -147,6 +142,7 @@ word-most ResponseTimes = (enoughBytes, refl, omega arith)
 word-most Conflict = (2 + enoughBytes, refl, omega arith)
 word-most Slack = (2 + enoughBytes, refl, omega arith)
 word-most Bounds = (1 + enoughBytes, refl, omega arith)
+word-most Verdict = (enoughBytes, refl, omega arith)
 
 of-enough : (qs : List Question) (bs : List ℕ) → queryOutputOf qs (take enoughInput bs) ≡ queryOutputOf qs bs
 unfolding queryOutputOf

@@ -4,7 +4,7 @@ use mathlib.Core.List.{List, [], _∷_, _++_}
 use Prim.Native.Nat.{ℕ, _+_}
 use lib.ListN.{length, take, drop}
 use Rattle.table.specs.Words.{tableOf}
-use Rattle.judge.specs.JudgeAnswer.{verdictMeaning}
+use Rattle.judge.specs.JudgeAnswer.{refused, verdictMeaning}
 use Rattle.judge.specs.Judged.{verdictOf}
 use Rattle.text.specs.Format.{newline, enoughBytes, wordsOf, numbersIn}
 use Rattle.text.specs.Output.{letters, firstLine}
@@ -17,7 +17,7 @@ use Rattle.conflict.specs.Answer.{conflictOf}
 use Rattle.slack.specs.Answer.{slackOf}
 use Rattle.interference.specs.Bounds.{boundsOf}
 use Rattle.query.specs.declared.Question.{Question}
-use Rattle.query.specs.declared.Question.the-variants.{Why, ResponseTimes, Conflict, Slack, Bounds}
+use Rattle.query.specs.declared.Question.the-variants.{Why, ResponseTimes, Conflict, Slack, Bounds, Verdict}
 use Rattle.query.specs.Figures.{boundLinesBy, figureLinesBy}
 use Rattle.query.specs.Positions.{positionsBy}
 
@@ -25,10 +25,14 @@ use Rattle.query.specs.Positions.{positionsBy}
 abbrev pub answerRoom : ℕ
 answerRoom = 700 + 1
 
--- the answer by that of `sentence`: the sentence and a newline; else the verdict's line, which also contains the number that a table is refused with
+-- the verdict's line
+abbrev pub verdictText : List ℕ → List ℕ
+verdictText ws = firstLine (verdictMeaning (verdictOf ws))
+
+-- the answer by that of `sentence`: the sentence and a newline, or the refusal, with 17 where the table has no miss
 abbrev pub whyBy : SentenceOutcome → List ℕ → List ℕ
 whyBy (ofLength n) ws = sentenceText (factsOf ws) ++ (newline ∷ [])
-whyBy (refusedBy n p) ws = firstLine (verdictMeaning (verdictOf ws))
+whyBy (refusedBy n p) ws = firstLine (refused n p)
 
 -- why a table misses
 unfoldable pub whyOf : List ℕ → List ℕ
@@ -58,6 +62,7 @@ answerTo ResponseTimes ws = responseTimesText ws
 answerTo Conflict ws = conflictText ws
 answerTo Slack ws = slackText ws
 answerTo Bounds ws = boundsText ws
+answerTo Verdict ws = verdictText ws
 
 -- the word of a question and a newline
 abbrev pub wordOf : Question → List ℕ
@@ -66,6 +71,7 @@ wordOf ResponseTimes = letters "longest" ++ (newline ∷ [])
 wordOf Conflict = letters "clash" ++ (newline ∷ [])
 wordOf Slack = letters "spare" ++ (newline ∷ [])
 wordOf Bounds = letters "bounds" ++ (newline ∷ [])
+wordOf Verdict = letters "verdict" ++ (newline ∷ [])
 
 -- .. on the table after the word
 abbrev pub answerAfterWord : Question → List ℕ → List ℕ
@@ -82,7 +88,7 @@ queryOutputOf (q ∷ qs) bs = cond (startsWith (wordOf q) bs) (answerAfterWord q
 
 -- all questions; no word is the beginning of another's
 abbrev pub questions : List Question
-questions = Why ∷ ResponseTimes ∷ Conflict ∷ Slack ∷ Bounds ∷ []
+questions = Why ∷ ResponseTimes ∷ Conflict ∷ Slack ∷ Bounds ∷ Verdict ∷ []
 
 -- everything that is printed for the bytes of an input
 unfoldable pub queryOutput : List ℕ → List ℕ

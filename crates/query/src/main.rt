@@ -1,5 +1,6 @@
 // Answers a question on a table: the first line of standard input is the question's word, and the table follows, one decimal number a line.
-// The question `why` is answered by the miss in a sentence, and by the verdict's line where the table has no miss or is refused;
+// The question `verdict` is answered by the verdict's line;
+// `why` by the miss in a sentence, or by the refusal;
 // `longest` by a line for each task, its position and the worst-case response time of its jobs, or by the refusal;
 // `clash` by one line, the positions of the tasks in conflict, or by the refusal;
 // `spare` by a line for each task, its position and its slack, or by the refusal;
@@ -19,7 +20,7 @@ ghost use Rattle.stream.specs.Answered.{Answered};
 ghost use Rattle.sentence.specs.Reading.{startsWith};
 ghost use Rattle.query.specs.Figures.{figureLines, figureLinesBy, noBoundsLine};
 ghost use Rattle.query.specs.Positions.{spacedAt, positionLine};
-ghost use Rattle.query.specs.Query.{answerRoom, whyOf, responseTimesText, conflictText, slackText, boundsText, answerTo, wordOf, queryOutput};
+ghost use Rattle.query.specs.Query.{answerRoom, verdictText, whyOf, responseTimesText, conflictText, slackText, boundsText, answerTo, wordOf, queryOutput};
 use model::MOST_TASKS;
 use sentence::LONGEST;
 use sentence::SentenceAnswer;
@@ -36,6 +37,7 @@ enum Question {
     Conflict,
     Slack,
     Bounds,
+    Verdict,
 }
 
 // The most bytes of a question's word and its newline.
@@ -54,7 +56,16 @@ struct Outcome {
     sent: Sent,
 }
 
-// Writes why a table misses at the front of the line, or its verdict; returns where the line ends.
+// Writes the verdict's line at the front of the line; returns where it ends.
+fn verdict(words: &[u32], line: &mut [u8]) -> usize
+    requires { ⌜ length (now line) ≡ answerRoom ⌝ }
+    ensures { λ r. ⌜ (r ≤ answerRoom) × (take r (now (line .exit)) ≡ verdictText (now (words .entry))) ⌝ }
+{
+    let verdict = judge::judge(words);
+    text::first::put_first(line, verdict)
+}
+
+// Writes why a table misses at the front of the line, or the refusal; returns where the line ends.
 fn why(words: &[u32], line: &mut [u8]) -> usize
     requires { ⌜ length (now line) ≡ answerRoom ⌝ }
     ensures { λ r. ⌜ (r ≤ answerRoom) × (take r (now (line .exit)) ≡ whyOf (now (words .entry))) ⌝ }
@@ -65,9 +76,8 @@ fn why(words: &[u32], line: &mut [u8]) -> usize
             line[length] = b'\n';
             length + 1
         }
-        SentenceAnswer::Refused(_, _) => {
-            let verdict = fast_judge::judge(words);
-            text::first::put_first(line, verdict)
+        SentenceAnswer::Refused(number, position) => {
+            text::first::put_pair(line, b"refused", number, position)
         }
     }
 }
@@ -209,6 +219,7 @@ fn put(question: Question, words: &[u32], lines: &mut [u8]) -> usize
         Question::Conflict => conflict(words, lines),
         Question::Slack => slack(words, lines),
         Question::Bounds => bounds(words, lines),
+        Question::Verdict => verdict(words, lines),
     }
 }
 
@@ -245,6 +256,7 @@ fn table_after_word(question: Question, bytes: &[u8]) -> usize
         Question::Conflict => after_word(bytes, b"clash\n"),
         Question::Slack => after_word(bytes, b"spare\n"),
         Question::Bounds => after_word(bytes, b"bounds\n"),
+        Question::Verdict => after_word(bytes, b"verdict\n"),
     }
 }
 
@@ -258,6 +270,7 @@ fn print(bytes: &[u8]) -> Sent
         Question::Conflict,
         Question::Slack,
         Question::Bounds,
+        Question::Verdict,
     ];
     let mut i: usize = 0;
     while i < questions.len() {

@@ -22,11 +22,9 @@ use Rattle.table.specs.Words.{tableOf}
 use Rattle.table.proofs.Decide.{fails}
 use Rattle.run.specs.declared.Run.{Run}
 use Rattle.run.specs.declared.Sets.{Sets}
-use Rattle.run.specs.declared.Answer as declared
-use Rattle.run.specs.declared.Answer.the-variants.{Taken, Refused}
 use Rattle.run.specs.Answer.{byAnswer, answerMeaning}
-use Rattle.run.specs.Numbers.{RowApplies, RunOut, fifteen, fourteen, lateAt, wrongEmptiesIn, runOut, twenty}
-use Rattle.run.specs.Row.{noBytes, rowAnswer, rowOf}
+use Rattle.run.specs.Numbers.{RowApplies, RunOut, fifteen, fourteen, lateAt, runOut, twenty}
+use Rattle.run.specs.Row.{noBytes, rowOf}
 use Rattle.run.specs.Sets.{SetsOf, askedIn32, bytesOf, in32, noSets, setsIn, setsOf, setsMeaning}
 use Rattle.run.specs.Start.{startOf}
 use Rattle.run.proofs.Exact.{late-decides}
@@ -37,35 +35,23 @@ use Rattle.refinement.specs.Refines.{firstRun}
 use Rattle.refinement.specs.Sets.{SetsBook, SetsHold, SetsKept}
 use Rattle.refinement.proofs.Refines.{sound, represented}
 use Rattle.refinement.proofs.EmptiedRelated.{EmptiedRelated, SameTable, below-count, claims-below, open-works, same-cores-at, same-lent, same-lent-at, same-offer, same-shown, same-widths}
-use Rattle.refinement.proofs.Related.{in-time, emptied-related, same-any, same-first, same-wrong-empties}
-use Rattle.refinement.proofs.Represents.{Represents}
+use Rattle.refinement.proofs.Related.{emptied-related}
+use Rattle.refinement.proofs.Represents.{Represents, same-shown-by}
 
 -- a run that represents a book gives its sets
 same-sets : (s : Table) → AllValid s → (b : Book) (r : Run) → Represents s b r → (e : ℕ) → setsMeaning (setsOf r e) ≡ askedIn32 (setsAsked s b e)
-unfolding setsOf rowAnswer setsAsked setsIn
+unfolding setsOf setsAsked setsIn
 same-sets s ok b r h e =
-    rw (passes-runs r (h .passes), same-any s ok b r (h .related), same-first s ok b r (h .related))
-    (go (ltb (firstLate s b) (length (s .tasks))) refl)
+    same-shown-by s ok (λ c. in32 (model.bookSets s c)) b r h e (setsIn r e) noSets
+    (λ seen. ap (λ (gs : List (List ℕ)). in32 (map setOf gs)) (same-shown s ok (emptied s (emptyIn b e) b) r e seen))
+    ∙ padded (ltb (firstLate s b) (length (s .tasks))) (wrongEmpties s b e)
   where
-    -- what sets give by their answer
-    gives : declared.Answer → Sets
-    gives a = record { answer = a; sets = byAnswer a (setsIn r e) noSets }
-
-    twenty :
-        (u : Bool) (sets : List ℕ) → setsIn r e ≡ in32 sets
-        → setsMeaning (gives (cond u (Refused 20 0) Taken)) ≡ askedIn32 (cond u (rowRefused 20 0) (shown sets))
-    twenty true sets q = refl
-    twenty false sets q = ap shown q
-
-    go : (t : Bool) → ltb (firstLate s b) (length (s .tasks)) ≡ t
-        → setsMeaning (gives (cond t (Refused 15 (suc (firstLate s b))) (cond (wrongEmptiesIn r e) (Refused 20 0) Taken)))
-        ≡ askedIn32 (cond t (rowRefused 15 (suc (firstLate s b))) (cond (wrongEmpties s b e) (rowRefused 20 0) (shown (model.bookSets s (emptied s (emptyIn b e) b)))))
-    go true q = refl
-    go false q =
-        let it = in-time s ok b r (h .related) q in
-        rw (same-wrong-empties s ok b r (h .related) it e)
-        (twenty (wrongEmpties s b e) (model.bookSets s (emptied s (emptyIn b e) b))
-        (ap (λ (gs : List (List ℕ)). in32 (map setOf gs)) (same-shown s ok (emptied s (emptyIn b e) b) r e (emptied-related s ok b r (h .related) it e))))
+    padded : (t u : Bool)
+        → cond t (rowRefused 15 (suc (firstLate s b))) (cond u (rowRefused 20 0) (shown (in32 (model.bookSets s (emptied s (emptyIn b e) b)))))
+        ≡ askedIn32 (cond t (rowRefused 15 (suc (firstLate s b))) (cond u (rowRefused 20 0) (shown (model.bookSets s (emptied s (emptyIn b e) b)))))
+    padded true u = refl
+    padded false true = refl
+    padded false false = refl
 
 -- THEOREM (sets-book): for every table that start takes, Firm and Full alike, and every list of entries
 pub sets-book : (ws : List ℕ) → answerMeaning (startOf ws .answer) ≡ taken → (xs : List Entry) → SetsBook ws xs

@@ -219,7 +219,7 @@ module _ (s : Table) (ok : AllValid s) (c : Book) (r : Run) (e : ℕ) (h : Empti
   no-lent p q = not-true-false (borrows s c p) (λ w. true≢false (sym (borrower s c p w .claiming) ∙ q))
 
   -- which jobs may be reported is the same of both
-  same-reportable : (p : ℕ) → reportableAt r e p ≡ reportable s c p
+  pub same-reportable : (p : ℕ) → reportableAt r e p ≡ reportable s c p
   unfolding reportable
   same-reportable p =
       ap₂ (λ (x y : Bool). ltb p (r .count) && (working (emptiedAt r e p) && (x || y))) (same-cores-at p) (same-lent-at p)

@@ -5,7 +5,6 @@ use mathlib.Core.Path.{_≡_, refl}
 use Prim.Native.Nat.{ℕ}
 use Prim.Native.String.{String}
 use Rattle.model.specs.Advance.{Entry, advance}
-use Rattle.model.proofs.LineByLine.{LineByLine, by-line}
 use Rattle.phase.specs.declared.Phase.{Phase}
 use Rattle.phase.specs.declared.Phase.the-variants.{Coming, Working, Holding, Resting}
 use Rattle.run.specs.declared.Run.{Run}
@@ -119,11 +118,7 @@ empty-lines =
     (on2 2 2 ∷ on2 3 0 ∷ no 15 3 ∷ no 15 3 ∷ []) (runB 1 (Resting 2) (Resting 2) (Working 2 1 1))
     ∷ []
 
--- every line is its value by the definitions, line by line
-computed : LineByLine worked-named empty-lines empty-lines
-unfolding running rows
-computed = (refl, (refl, (refl, (refl, (refl, (refl, (refl, (refl, (refl, (refl, (refl, (refl, (refl, (refl, (refl, (refl, (refl, (refl, (refl, (refl, (refl, (refl, (refl, tt)))))))))))))))))))))))
-
--- .. and as one list
+-- every line is its value by the definitions: one table with one check
 pub empty-runs : map worked-named empty-lines ≡ empty-lines
-empty-runs = by-line worked-named empty-lines empty-lines computed
+unfolding running rows
+empty-runs = refl

@@ -15,7 +15,6 @@ use Rattle.model.specs.Lists.{answersFrom, bookFrom, book, enter, noReports, ro
 use Rattle.model.specs.Task.{Table, Task, Rule, greedy, limited, idling, lending}
 use Rattle.model.specs.Verdict.{Verdict, Firm, Full, Miss}
 use Rattle.model.proofs.Computing.{computing}
-use Rattle.model.proofs.LineByLine.{LineByLine, by-line}
 use Rattle.model.proofs.Examples.{Line, worked, lines, examples}
 use Rattle.model.proofs.EmptyExamples.{empty-lines, empty-examples}
 use Rattle.model.proofs.WithdrawExamples.{withdraw-lines, withdraw-examples}
@@ -28,8 +27,7 @@ use Rattle.judge.specs.Judged.{verdictOf}
 use Rattle.run.specs.Answer.{answerMeaning, askedIn64}
 use Rattle.run.specs.Start.{startAnswer, startOf}
 use Rattle.run.proofs.StartExact.{start-exact, start-taken}
-use Rattle.refinement.specs.declared.Replayed.the-variants as replayed
-use Rattle.refinement.specs.Replay.{code, SlicesFit, ReplayOutcome, rowOutcome, MatchesBook, ReplayOf}
+use Rattle.refinement.specs.Replay.{code, SlicesFit, ReplayOutcome, lastRow, startRefused, outcomeMeaning, MatchesBook, ReplayOf}
 use Rattle.refinement.proofs.Listed.{listing, entries-listing}
 
 -- THE WORDS OF A LINE
@@ -62,13 +60,13 @@ Shows l =
     (k : ℕ) → k ≤ length (l .entries) → (numbers bytes : List ℕ) (o : ReplayOutcome)
     → ReplayOf (wordsOf l) (listing (take k (l .entries))) numbers bytes o → SlicesFit (listing (take k (l .entries))) numbers bytes
     → (o .numbers ≡ map code (take k (l .answers)) ++ drop k numbers)
-    × (emptiesOf (getD (l .entries) k noReports) ≡ 0 → rowOutcome (o .answer) (take 64 (o .bytes)) ≡ askedIn64 (getD (l .rows) k (shown [])))
+    × (emptiesOf (getD (l .entries) k noReports) ≡ 0 → outcomeMeaning o ≡ lastRow (askedIn64 (getD (l .rows) k (shown []))))
 
 -- a replay of any words is refused by 13, and everything is as found
 abbrev pub Misses : Line → Type 0
 Misses l =
     (es numbers bytes : List ℕ) (o : ReplayOutcome) → ReplayOf (wordsOf l) es numbers bytes o
-    → (o .answer ≡ replayed.Refused 13 0) × ((o .numbers ≡ numbers) × (o .bytes ≡ bytes))
+    → (outcomeMeaning o ≡ startRefused 13 0) × ((o .numbers ≡ numbers) × (o .bytes ≡ bytes))
 
 -- the one where the line's verdict is Firm or Full, the other where it is Miss
 abbrev pub ByVerdict : Verdict → Line → Type 0
@@ -105,7 +103,7 @@ module _ (l : Line) (works : worked l ≡ l) (table : tableOf (wordsOf l) ≡ l 
   shows start k h numbers bytes o r fit = (
     b .each-answer ∙ (ap (λ (al : List Answer). map code al ++ drop (length xs) numbers) said
         ∙ ap (λ (n : ℕ). map code (take k (l .answers)) ++ drop n numbers) (length-take-le k (l .entries) h)),
-    λ q. b .row-after ∙ ap askedIn64 (row q),
+    λ q. b .row-after ∙ ap (λ (a : Asked). lastRow (askedIn64 a)) (row q),
   )
     where
       xs : List Entry
@@ -170,40 +168,37 @@ unfolding computing expected records startOf startAnswer verdictOf answerOf byWa
     chain count visited
 starting = tt
 
--- line by line
-line-by-line : LineByLine begins lines (map expected lines)
+-- each table of lines: one check over it
+begun-lines : map begins lines ≡ map expected lines
 unfolding starting
-line-by-line = (refl, (refl, (refl, (refl, (refl, (refl, (refl, (refl, (refl, (refl, (refl, (refl, (refl, (refl, (refl, (refl, (refl, tt)))))))))))))))))
+begun-lines = refl
 
-begun-empty : LineByLine begins empty-lines (map expected empty-lines)
+begun-empty : map begins empty-lines ≡ map expected empty-lines
 unfolding starting
-begun-empty = (refl, (refl, (refl, (refl, (refl, (refl, (refl, (refl, (refl, (refl, (refl, (refl, (refl, (refl, (refl, tt)))))))))))))))
+begun-empty = refl
 
-begun-withdraw : LineByLine begins withdraw-lines (map expected withdraw-lines)
+begun-withdraw : map begins withdraw-lines ≡ map expected withdraw-lines
 unfolding starting
-begun-withdraw = (refl, (refl, (refl, (refl, (refl, (refl, (refl, (refl, (refl, (refl, (refl, (refl, (refl, (refl, tt))))))))))))))
+begun-withdraw = refl
 
-begun-together : LineByLine begins together-lines (map expected together-lines)
+begun-together : map begins together-lines ≡ map expected together-lines
 unfolding starting
-begun-together = (refl, (refl, (refl, (refl, (refl, (refl, (refl, (refl, (refl, (refl, (refl, (refl, tt))))))))))))
+begun-together = refl
 
-begun-width : LineByLine begins width-lines (map expected width-lines)
+begun-width : map begins width-lines ≡ map expected width-lines
 unfolding starting
-begun-width = (refl, (refl, (refl, (refl, (refl, (refl, (refl, (refl, (refl, (refl, (refl, (refl, (refl, tt)))))))))))))
+begun-width = refl
 
-begun-lend : LineByLine begins lend-lines (map expected lend-lines)
+begun-lend : map begins lend-lines ≡ map expected lend-lines
 unfolding starting
-begun-lend =
-    let later : LineByLine begins (drop 11 lend-lines) (map expected (drop 11 lend-lines)) =
-    (refl, (refl, (refl, (refl, (refl, (refl, (refl, (refl, (refl, (refl, (refl, tt))))))))))) in
-    (refl, (refl, (refl, (refl, (refl, (refl, (refl, (refl, (refl, (refl, (refl, later)))))))))))
+begun-lend = refl
 
 -- the contract gives for lines through `replay` their values by the definitions
-through : (ls : List Line) → map worked ls ≡ ls → LineByLine begins ls (map expected ls) → Each (λ l. ByVerdict (l .result) l) ls
+through : (ls : List Line) → map worked ls ≡ ls → map begins ls ≡ map expected ls → Each (λ l. ByVerdict (l .result) l) ls
 through ls works starts =
     both (λ l. worked l ≡ l) (λ l. begins l ≡ expected l) (λ l. ByVerdict (l .result) l)
     (λ l w e. unfold expected in by-verdict l w (ap (λ (x : Begins). x .table) e) (l .result) (ap (λ (x : Begins). x .start) e))
-    ls (each worked (λ l. l) ls (works ∙ sym (map-id ls))) (each begins expected ls (by-line begins ls (map expected ls) starts))
+    ls (each worked (λ l. l) ls (works ∙ sym (map-id ls))) (each begins expected ls starts)
   where
     map-id : (ls : List Line) → map (λ l. l) ls ≡ ls
     map-id [] = refl
@@ -211,7 +206,7 @@ through ls works starts =
 
 -- THEOREM: every marked line of the table of examples, through the contract of `replay`
 pub through-replay : Each (λ l. ByVerdict (l .result) l) lines
-through-replay = through lines examples line-by-line
+through-replay = through lines examples begun-lines
 
 -- and every line with empty jobs
 pub empty-through-replay : Each (λ l. ByVerdict (l .result) l) empty-lines

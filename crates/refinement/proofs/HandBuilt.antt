@@ -4,9 +4,8 @@ use mathlib.Core.Bool.{true, false}
 use mathlib.Core.List.{List, [], _∷_, _++_, map}
 use mathlib.Core.Path.{_≡_, refl}
 use Prim.Native.Nat.{ℕ, _-_, _^_}
-use lib.ListN.{drop, replicate}
+use lib.ListN.{replicate}
 use Rattle.model.specs.Advance.{Entry, advance, emptiesOf}
-use Rattle.model.proofs.LineByLine.{LineByLine, by-line}
 use Rattle.phase.specs.declared.Phase.{Phase}
 use Rattle.phase.specs.declared.Phase.the-variants.{Coming, Working, Holding, Resting}
 use Rattle.phase.specs.declared.Task.{Task}
@@ -228,20 +227,7 @@ lines =
     ∷ limit 1 (Resting 0) (no 14 0) ∷ limit 1 (Resting 1) (on1 0) ∷ limit 1 (Resting 5) (on1 0) ∷ limit 1 (Resting 6) (no 14 0)
     ∷ []
 
--- every line is its value by the definitions, line by line; a line is named by what it is made of
-computed : LineByLine worked lines lines
-unfolding running rows
-computed =
-    let past-80 : LineByLine worked (drop 80 lines) (drop 80 lines) =
-    (refl, (refl, (refl, (refl, (refl, (refl, tt)))))) in
-    let past-60 : LineByLine worked (drop 60 lines) (drop 60 lines) =
-    (refl, (refl, (refl, (refl, (refl, (refl, (refl, (refl, (refl, (refl, (refl, (refl, (refl, (refl, (refl, (refl, (refl, (refl, (refl, (refl, past-80)))))))))))))))))))) in
-    let past-40 : LineByLine worked (drop 40 lines) (drop 40 lines) =
-    (refl, (refl, (refl, (refl, (refl, (refl, (refl, (refl, (refl, (refl, (refl, (refl, (refl, (refl, (refl, (refl, (refl, (refl, (refl, (refl, past-60)))))))))))))))))))) in
-    let past-20 : LineByLine worked (drop 20 lines) (drop 20 lines) =
-    (refl, (refl, (refl, (refl, (refl, (refl, (refl, (refl, (refl, (refl, (refl, (refl, (refl, (refl, (refl, (refl, (refl, (refl, (refl, (refl, past-40)))))))))))))))))))) in
-    (refl, (refl, (refl, (refl, (refl, (refl, (refl, (refl, (refl, (refl, (refl, (refl, (refl, (refl, (refl, (refl, (refl, (refl, (refl, (refl, past-20))))))))))))))))))))
-
--- .. and as one list
+-- every line is its value by the definitions: one table with one check
 pub built-runs : map worked lines ≡ lines
-built-runs = by-line worked lines lines computed
+unfolding running rows
+built-runs = refl

@@ -4,9 +4,8 @@
 use mathlib.Core.List.{List, [], _∷_, map}
 use mathlib.Core.Path.{_≡_, refl}
 use Prim.Native.Nat.{ℕ}
-use lib.ListN.{drop, replicate}
+use lib.ListN.{replicate}
 use Rattle.model.specs.Advance.{withdraw}
-use Rattle.model.proofs.LineByLine.{LineByLine, by-line}
 use Rattle.phase.specs.declared.Phase.{Phase}
 use Rattle.phase.specs.declared.Phase.the-variants.{Working, Holding, Resting}
 use Rattle.phase.specs.declared.Task.{Task}
@@ -186,26 +185,11 @@ count-lines =
     ∷ limit 0 (Working 2 1 1) (no 14 0) ∷ limit 5 (Working 2 1 1) (no 14 0) ∷ limit 5 (Working 2 1 0) (no 14 0) ∷ limit 5 (Holding 1 1) (no 14 0)
     ∷ []
 
--- every line is its value by the definitions, line by line
-computed : LineByLine worked-named lend-lines lend-lines
-unfolding running rows
-computed =
-    let past-14 : LineByLine worked-named (drop 14 lend-lines) (drop 14 lend-lines) =
-    (refl, (refl, (refl, (refl, (refl, (refl, (refl, (refl, (refl, (refl, (refl, (refl, (refl, tt))))))))))))) in
-    (refl, (refl, (refl, (refl, (refl, (refl, (refl, (refl, (refl, (refl, (refl, (refl, (refl, (refl, past-14))))))))))))))
-
-computed-counts : LineByLine worked count-lines count-lines
-unfolding running rows
-computed-counts =
-    let past-24 : LineByLine worked (drop 24 count-lines) (drop 24 count-lines) =
-    (refl, (refl, (refl, (refl, (refl, (refl, (refl, (refl, (refl, (refl, tt)))))))))) in
-    let past-12 : LineByLine worked (drop 12 count-lines) (drop 12 count-lines) =
-    (refl, (refl, (refl, (refl, (refl, (refl, (refl, (refl, (refl, (refl, (refl, (refl, past-24)))))))))))) in
-    (refl, (refl, (refl, (refl, (refl, (refl, (refl, (refl, (refl, (refl, (refl, (refl, past-12))))))))))))
-
--- .. and as one list
+-- every line is its value by the definitions: one table with one check
 pub lending-runs : map worked-named lend-lines ≡ lend-lines
-lending-runs = by-line worked-named lend-lines lend-lines computed
+unfolding running rows
+lending-runs = refl
 
 pub lending-counts : map worked count-lines ≡ count-lines
-lending-counts = by-line worked count-lines count-lines computed-counts
+unfolding running rows
+lending-counts = refl

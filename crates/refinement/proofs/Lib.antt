@@ -1,4 +1,4 @@
--- The theorems on a list of entries: from the relation of one task to `refines`, `sets-book`, `sets-kept`, `demand-3` and `fenced`, and examples through
+-- The theorems on a list of entries: from the relation of one task to `refines`, `sets-book`, `sets-kept`, `working-book`, `demand-3` and `fenced`, and examples through
 -- `replay`.
 pub mod PhaseRelated
 pub mod Emptied
@@ -9,12 +9,15 @@ pub mod Related
 pub mod Represents
 pub mod Words
 pub mod Refines
+pub mod LateRun
 pub mod BookSets
+pub mod BookWorking
 pub mod RunRefinesBook
 pub mod Fenced
 pub mod Listed
 pub mod Codes
 pub mod Outcomes
+pub mod OffChain
 pub mod Examples
 pub mod Running
 pub mod HandBuilt
@@ -24,3 +27,4 @@ pub mod WithdrawSetBuilt
 pub mod WidthBuilt
 pub mod LendBuilt
 pub mod SetsBuilt
+pub mod WorkingBuilt

@@ -6,7 +6,7 @@ use mathlib.Core.Logic.{_↔_}
 use mathlib.Core.List.{List, map, _++_}
 use Prim.Native.Nat.{ℕ, _≤_}
 use native.Mathlib.Omega.{arith}
-use lib.ListN.{length, drop}
+use lib.ListN.{length, drop, take}
 use lib.Seq.{take-at, drop-at}
 use Rattle.model.proofs.Lists.{map-map}
 use Rattle.model.specs.Jobs as jobs
@@ -21,6 +21,7 @@ use Rattle.run.specs.declared.Run.{Run}
 use Rattle.run.specs.declared.Answer.{Answer}
 use Rattle.run.specs.declared.Answer.the-variants.{Taken, Refused}
 use Rattle.run.specs.declared.Row.{Row}
+use Rattle.refinement.specs.declared.Replayed.{Replayed}
 use Rattle.refinement.specs.declared.Replayed.the-variants as replayed
 use Rattle.run.specs.Answer.{answerMeaning, shownBy, rowMeaning}
 use Rattle.run.specs.Row.{rowOf}
@@ -28,7 +29,8 @@ use Rattle.run.specs.Start.{StartApplies, startOf, StartOf}
 use Rattle.refinement.specs.Entries.{answers, runAfterList}
 use Rattle.refinement.specs.Refines.{firstRun, Refines}
 use Rattle.refinement.specs.Listing.{Listed, entryCount, entriesIn}
-use Rattle.refinement.specs.Replay.{code, codes, SlicesFit, slicesFit, ReplayOutcome, rowCase, rowOutcome, replayedRun, replayOf, MatchesBook, ReplayOf}
+use Rattle.refinement.specs.Replay.{code, codes, SlicesFit, slicesFit, ReplayOutcome, rowCase, lastRow, startRefused, slicesUnfit, replayMeaning}
+use Rattle.refinement.specs.Replay.{outcomeMeaning, replayedRun, replayOf, MatchesBook, ReplayOf}
 use Rattle.run.proofs.StartExact.{start-of}
 use Rattle.refinement.proofs.Refines.{refines}
 use Rattle.run.proofs.Shown.{shown-length}
@@ -88,12 +90,25 @@ case-unfit Taken e = let z : _≡_ {A = ℕ} 0 1 = cc in omega arith
 case-unfit (Refused m q) e = let z : _≡_ {A = ℕ} 0 1 = cc in omega arith
 
 -- and has the row's meaning
-case-outcome : (w : Row) → rowOutcome (rowCase (w .answer)) (w .bytes) ≡ rowMeaning w
+case-outcome : (w : Row) → replayMeaning (rowCase (w .answer)) (w .bytes) ≡ lastRow (rowMeaning w)
 case-outcome w = go (w .answer)
   where
-    go : (a : Answer) → rowOutcome (rowCase a) (w .bytes) ≡ shownBy a (w .bytes)
+    go : (a : Answer) → replayMeaning (rowCase a) (w .bytes) ≡ lastRow (shownBy a (w .bytes))
     go Taken = refl
     go (Refused n p) = refl
+
+-- the cases with these meanings
+means-refused : (v : Replayed) (bytes : List ℕ) (n p : ℕ) → replayMeaning v bytes ≡ startRefused n p → v ≡ replayed.Refused n p
+means-refused replayed.Shown bytes n p e = absurd (let z : _≡_ {A = ℕ} 0 1 = cc in omega arith)
+means-refused (replayed.RowRefused m q) bytes n p e = absurd (let z : _≡_ {A = ℕ} 0 1 = cc in omega arith)
+means-refused (replayed.Refused m q) bytes n p e = let u : m ≡ n = cc in let v : q ≡ p = cc in λ i. replayed.Refused (u i) (v i)
+means-refused replayed.Unfit bytes n p e = absurd (let z : _≡_ {A = ℕ} 0 1 = cc in omega arith)
+
+means-unfit : (v : Replayed) (bytes : List ℕ) → replayMeaning v bytes ≡ slicesUnfit → v ≡ replayed.Unfit
+means-unfit replayed.Shown bytes e = absurd (let z : _≡_ {A = ℕ} 0 1 = cc in omega arith)
+means-unfit (replayed.RowRefused m q) bytes e = absurd (let z : _≡_ {A = ℕ} 0 1 = cc in omega arith)
+means-unfit (replayed.Refused m q) bytes e = absurd (let z : _≡_ {A = ℕ} 0 1 = cc in omega arith)
+means-unfit replayed.Unfit bytes e = refl
 
 module _ (r : Run) (es numbers bytes : List ℕ) where
   run-replay-refused : (n p : ℕ) → replayedRun r es numbers bytes .answer ≡ replayed.Refused n p → ⊥
@@ -196,8 +211,8 @@ module _ (ws es numbers bytes : List ℕ) where
         ap (λ (l : List ℕ). l ++ drop (entryCount es) numbers) (sym (map-map code answerMeaning (answers (firstRun ws) xs)) ∙ ap (map code) (f .each-answer))
         ∙ ap (λ (n : ℕ). map code (lists.answersFrom (tableOf ws) jobs.emptyBook xs) ++ drop n numbers) (sym (length-entries es (entryCount es)));
     row-after =
-        ap (rowOutcome (rowCase (last .answer))) (take-at (last .bytes) (drop mostCores bytes) mostCores (shown-length (runAfterList (firstRun ws) xs) 0))
-        ∙ (case-outcome last ∙ f .row-after 0);
+        ap (replayMeaning (rowCase (last .answer))) (take-at (last .bytes) (drop mostCores bytes) mostCores (shown-length (runAfterList (firstRun ws) xs) 0))
+        ∙ (case-outcome last ∙ ap lastRow (f .row-after 0));
     behind = drop-at (last .bytes) (drop mostCores bytes) mostCores (shown-length (runAfterList (firstRun ws) xs) 0);
   }
     where
@@ -210,13 +225,23 @@ module _ (ws es numbers bytes : List ℕ) where
       last : Row
       last = rowOf (runAfterList (firstRun ws) xs) 0
 
+  -- the answer by its meaning
+  refused-of : (n p : ℕ) → outcomeMeaning given ≡ startRefused n p → given .answer ≡ replayed.Refused n p
+  refused-of = means-refused (given .answer) (take mostCores (given .bytes))
+
+  unfit-of : outcomeMeaning given ≡ slicesUnfit → given .answer ≡ replayed.Unfit
+  unfit-of = means-unfit (given .answer) (take mostCores (given .bytes))
+
+  meaning : (v : Replayed) → given .answer ≡ v → outcomeMeaning given ≡ replayMeaning v (take mostCores (given .bytes))
+  meaning v e = ap (λ (u : Replayed). replayMeaning u (take mostCores (given .bytes))) e
+
   pub replay-of : (o : ReplayOutcome) → o ≡ replayOf ws es numbers bytes → ReplayOf ws es numbers bytes o
   replay-of o e = rw e record {
     value = refl;
-    refused = refused-exact;
-    unfit = unfit-exact;
-    refused-found = refused-found;
-    unfit-found = λ s. let x = unfit-gives s in (ap (λ (o : ReplayOutcome). o .numbers) (x .1 .1), ap (λ (o : ReplayOutcome). o .bytes) (x .1 .1));
+    refused = λ n p. (λ e. refused-exact n p .0 (refused-of n p e), λ f. meaning (replayed.Refused n p) (refused-exact n p .1 f));
+    unfit = (λ e. unfit-exact .0 (unfit-of e), λ f. meaning replayed.Unfit (unfit-exact .1 f));
+    refused-found = λ n p e. refused-found n p (refused-of n p e);
+    unfit-found = λ s. let x = unfit-gives (unfit-of s) in (ap (λ (o : ReplayOutcome). o .numbers) (x .1 .1), ap (λ (o : ReplayOutcome). o .bytes) (x .1 .1));
     book = λ h fit.
         subst (MatchesBook ws (entriesIn es) numbers bytes)
         (sym (replay-taken ws es numbers bytes (taken-none h) ∙ replayed-fit (firstRun ws) es numbers bytes (fits-decides es numbers bytes .1 fit)))

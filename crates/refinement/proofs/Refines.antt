@@ -2,7 +2,7 @@
 use mathlib.Core.Path.{_≡_, refl, sym, ap, _∙_, subst}
 use mathlib.Core.List.{List, map}
 use Prim.Native.Nat.{ℕ}
-use Rattle.model.specs.Task.{AllValid}
+use Rattle.model.specs.Task.{AllValid, task}
 use Rattle.model.specs.Jobs.{emptyBook}
 use Rattle.model.specs.Advance.{Entry}
 use Rattle.model.specs.Refusals.{taken}
@@ -15,11 +15,13 @@ use Rattle.table.proofs.Passed.{passed-valid}
 use Rattle.run.specs.declared.Run.{Run}
 use Rattle.run.specs.Answer.{answerMeaning}
 use Rattle.run.specs.Numbers.{RunOut, runOut}
+use Rattle.run.specs.Run.{evenAt, phaseAt}
 use Rattle.run.specs.Start.{startOf}
 use Rattle.refinement.specs.Entries.{answers, runAfterList}
 use Rattle.refinement.specs.Refines.{firstRun, Refines}
 use Rattle.run.proofs.Limits.{run-decides, passes-runs}
 use Rattle.run.proofs.StartExact.{taken-passes, start-of}
+use Rattle.refinement.proofs.RelatedTask.{state-of-job}
 use Rattle.refinement.proofs.Represents.{Represents, same-answers, same-asked, represents-after}
 use Rattle.refinement.proofs.Words.{represents-start}
 
@@ -44,6 +46,10 @@ module _ (ws : List ℕ) (e : answerMeaning (startOf ws .answer) ≡ taken) wher
     each-answer = same;
     list-tick = ap (takenIn xs) same ∙ sym (tick-taken (tableOf ws) xs);
     row-after = same-asked (tableOf ws) sound (book (tableOf ws) xs) (runAfterList (firstRun ws) xs) (represented xs);
+    withdrawn = represented xs .related .same-withdrawn;
+    counts = λ p l.
+        state-of-job (tableOf ws .rule) (task (tableOf ws) p) (sound p l) (book (tableOf ws) xs .tick) (book (tableOf ws) xs .job p)
+        (evenAt last p) (phaseAt last p) (represented xs .related .related p l);
     passes = fails (runOut last) (RunOut last) (run-decides last) (passes-runs last (represented xs .passes));
   }
     where

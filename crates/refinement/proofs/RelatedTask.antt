@@ -1,4 +1,5 @@
--- A task and its line of jobs that are related: the same is late, the same claims, with the same parity, the same may be reported and may be empty.
+-- A task and its line of jobs that are related: the same is late, the same claims, with the same parity, the same may be reported and may be empty, and
+-- the parity and the counts are those of one job.
 use mathlib.Core.Path.{_≡_, refl, sym, ap, subst, _∙_}
 use mathlib.Core.Bool.{Bool, true, false, not, _&&_, and-false, false≢true, true≢false}
 use mathlib.Core.Logic.{⊎-elim}
@@ -14,6 +15,7 @@ use Rattle.model.proofs.Jobs.{newest-is, claims-if}
 use Rattle.phase.specs.declared.Phase.{Phase}
 use Rattle.phase.specs.declared.Phase.the-variants.{Coming, Working, Holding, Resting}
 use Rattle.phase.specs.Phase.{claiming, working, lateIn, released}
+use Rattle.refinement.specs.Refines.{StateOfJob}
 use Rattle.refinement.proofs.PhaseRelated.{Present, PhaseRelated, newest-in, newest-first, early, hold-if, ended-also, rests-off}
 
 -- of the jobs that are due, only the present one can be open
@@ -110,3 +112,37 @@ module _ (r : Rule) (τ : Task) (ok : ValidTask τ) (t : ℕ) (js : ℕ → Job)
         parity = h .present .parity;
         fresh-job = not-open (h .number) (h .over);
       })
+
+  -- its parity and its counts are those of the newest job, or where it is late, of the job that is due now
+  pub state-of-job : (ph : Phase) → PhaseRelated r τ t js even ph → StateOfJob τ t js even ph
+  state-of-job (Coming left) h = record {
+    number = 0;
+    newest-job = λ e. newest-first τ t (le-trans (ok .deadline-pos) (ok .constrained)) (omega (arith, h .when, h .some));
+    late-job = λ e. absurd (false≢true e);
+    parity = sym (ap not (h .odd));
+    phase = (omega (arith, h .when), h .unmet 0);
+  }
+  state-of-job (Working z had u) h = record {
+    number = h .number;
+    newest-job = λ e.
+        let n = eqb-false z (τ .deadline) e in
+        newest-is τ (h .number) t (ok .constrained) (omega (arith, h .present .when)) (omega (arith, h .present .when, h .by-due));
+    late-job = λ e. omega (arith, h .present .when, eqb-true z (τ .deadline) e);
+    parity = h .present .parity;
+    phase = (h .present .when, h .line);
+  }
+  state-of-job (Holding z u) h = record {
+    number = h .number;
+    newest-job = λ e. newest-is τ (h .number) t (ok .constrained) (omega (arith, h .present .when)) (omega (arith, h .present .when, h .in-time));
+    late-job = λ e. absurd (false≢true e);
+    parity = h .present .parity;
+    phase = (h .present .when, h .held, h .over);
+  }
+  state-of-job (Resting z) h = record {
+    number = h .number;
+    newest-job = λ e.
+        newest-in τ (h .number) t (le-trans (ok .deadline-pos) (ok .constrained)) (omega (arith, h .present .when)) (omega (arith, h .present .when, h .short));
+    late-job = λ e. absurd (false≢true e);
+    parity = h .present .parity;
+    phase = (h .present .when, h .over);
+  }

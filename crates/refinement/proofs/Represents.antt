@@ -13,14 +13,13 @@ use Rattle.model.specs.Jobs.{Book, emptied, emptyIn}
 use Rattle.model.specs.Claims.{bookRow}
 use Rattle.model.specs.Advance.{advanced, Entry, advance, withdraw, withdrawAll, withWithdrawn, singleton, afterTaken}
 use Rattle.model.specs.Refusals.{Answer, taken, refused}
-use Rattle.model.specs.Refusals.{firstLate, wrongEmpties, wrongReports, unknownPositions, withdrawing, answer, shown, rowRefused, asked}
+use Rattle.model.specs.Refusals.{Asked, firstLate, wrongEmpties, wrongReports, unknownPositions, withdrawing, answer, shown, rowRefused, asked, askedBy}
 use Rattle.model.specs.Lists.{entered, enter, bookFrom, answersFrom}
 use Rattle.run.specs.declared.Run.{Run}
 use Rattle.run.specs.declared.Answer as declared
 use Rattle.run.specs.declared.Answer.the-variants.{Taken, Refused}
-use Rattle.run.specs.declared.Row.{Row}
 use Rattle.run.specs.Run.{moved, withdrawnIn}
-use Rattle.run.specs.Answer.{answerMeaning, byAnswer, rowMeaning, askedIn64, in64}
+use Rattle.run.specs.Answer.{answerMeaning, byAnswer, rowMeaning, shownBy, askedIn64, in64}
 use Rattle.run.specs.Numbers.{wrongEmptiesIn, wrongReportsIn, pastCount, unknownIn}
 use Rattle.run.specs.Advance.{advanceAnswer, advanceOf}
 use Rattle.run.specs.Withdraw.{withdrawAnswer, withdrawOf, withdrawAllOf}
@@ -30,7 +29,7 @@ use Rattle.refinement.specs.Entries.{entryOf, answers, runAfterList}
 use Rattle.run.proofs.Limits.{Passes, passes-runs, moved-passes, withdrawn-passes}
 use Rattle.run.proofs.SetTests.{past-search}
 use Rattle.run.proofs.WithdrawExact.{taken-parts, taken-within}
-use Rattle.refinement.proofs.EmptiedRelated.{same-row, same-wrong-reports}
+use Rattle.refinement.proofs.EmptiedRelated.{EmptiedRelated, same-row, same-wrong-reports}
 use Rattle.refinement.proofs.Related.{Related, same-first, same-any, in-time, same-wrong-empties, emptied-related, related-on, related-out}
 
 -- the run passes 14 and is related to the book
@@ -97,30 +96,46 @@ module _ (s : Table) (ok : AllValid s) where
   same-answer b r h (withdraw p) = unfold withdrawOf in same-single b r h p
   same-answer b r h (withdrawAll x) = unfold withdrawAllOf in same-several b r h x
 
-  -- .. and one row, whatever jobs are empty
-  pub same-asked : (b : Book) (r : Run) → Represents s b r → (e : ℕ) → rowMeaning (run.rowOf r e) ≡ askedIn64 (asked s b e)
-  unfolding run.rowOf rowAnswer asked bytesIn
-  same-asked b r h e =
+  -- .. and to what is asked of a tick, whatever jobs are empty: the book shows it by `show`, and the run has `now`, or `none` where it is refused ..
+  pub same-shown-by :
+      (show : Book → List ℕ) (b : Book) (r : Run) → Represents s b r → (e : ℕ) (now none : List ℕ)
+      → (EmptiedRelated s (emptied s (emptyIn b e) b) r e → now ≡ show (emptied s (emptyIn b e) b))
+      → shownBy (rowAnswer r e) (byAnswer (rowAnswer r e) now none) ≡ askedBy show s b e
+  unfolding rowAnswer
+  same-shown-by show b r h e now none same =
       rw (passes-runs r (h .passes), same-any s ok b r (h .related), same-first s ok b r (h .related))
       (go (ltb (firstLate s b) (length (s .tasks))) refl)
     where
-      -- what a row asked gives by its answer
-      gives : declared.Answer → Row
-      gives a = record { answer = a; bytes = byAnswer a (bytesIn r e) noBytes }
+      -- what is given by the answer
+      gives : declared.Answer → Asked
+      gives a = shownBy a (byAnswer a now none)
 
-      twenty : (u : Bool) (cs : List ℕ) → bytesIn r e ≡ in64 cs → rowMeaning (gives (cond u (Refused 20 0) Taken)) ≡ askedIn64 (cond u (rowRefused 20 0) (shown cs))
-      twenty true cs q = refl
-      twenty false cs q = ap shown q
+      twenty : (u : Bool) (l : List ℕ) → now ≡ l → gives (cond u (Refused 20 0) Taken) ≡ cond u (rowRefused 20 0) (shown l)
+      twenty true l q = refl
+      twenty false l q = ap shown q
 
       go : (t : Bool) → ltb (firstLate s b) (length (s .tasks)) ≡ t
-          → rowMeaning (gives (cond t (Refused 15 (suc (firstLate s b))) (cond (wrongEmptiesIn r e) (Refused 20 0) Taken)))
-          ≡ askedIn64 (cond t (rowRefused 15 (suc (firstLate s b))) (cond (wrongEmpties s b e) (rowRefused 20 0) (shown (bookRow s (emptied s (emptyIn b e) b)))))
+          → gives (cond t (Refused 15 (suc (firstLate s b))) (cond (wrongEmptiesIn r e) (Refused 20 0) Taken))
+          ≡ cond t (rowRefused 15 (suc (firstLate s b))) (cond (wrongEmpties s b e) (rowRefused 20 0) (shown (show (emptied s (emptyIn b e) b))))
       go true q = refl
       go false q =
           let it = in-time s ok b r (h .related) q in
           rw (same-wrong-empties s ok b r (h .related) it e)
-          (twenty (wrongEmpties s b e) (bookRow s (emptied s (emptyIn b e) b))
-          (ap in64 (same-row s ok (emptied s (emptyIn b e) b) r e (emptied-related s ok b r (h .related) it e))))
+          (twenty (wrongEmpties s b e) (show (emptied s (emptyIn b e) b)) (same (emptied-related s ok b r (h .related) it e)))
+
+  -- .. so one row
+  pub same-asked : (b : Book) (r : Run) → Represents s b r → (e : ℕ) → rowMeaning (run.rowOf r e) ≡ askedIn64 (asked s b e)
+  unfolding run.rowOf asked bytesIn
+  same-asked b r h e =
+      same-shown-by (λ c. in64 (bookRow s c)) b r h e (bytesIn r e) noBytes (λ seen. ap in64 (same-row s ok (emptied s (emptyIn b e) b) r e seen))
+      ∙ padded (ltb (firstLate s b) (length (s .tasks))) (wrongEmpties s b e)
+    where
+      padded : (t u : Bool)
+          → cond t (rowRefused 15 (suc (firstLate s b))) (cond u (rowRefused 20 0) (shown (in64 (bookRow s (emptied s (emptyIn b e) b)))))
+          ≡ askedIn64 (cond t (rowRefused 15 (suc (firstLate s b))) (cond u (rowRefused 20 0) (shown (bookRow s (emptied s (emptyIn b e) b)))))
+      padded true u = refl
+      padded false true = refl
+      padded false false = refl
 
   -- an answer's number
   number : Answer → ℕ

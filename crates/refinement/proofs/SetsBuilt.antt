@@ -7,7 +7,6 @@ use Prim.Native.Nat.{ℕ, _-_, _^_}
 use Prim.Native.String.{String}
 use lib.ListN.{length, replicate}
 use Rattle.model.specs.Refusals.{rowRefused, shown}
-use Rattle.model.proofs.LineByLine.{LineByLine, by-line}
 use Rattle.model.specs.Sets.{setOf}
 use Rattle.phase.specs.declared.Phase.{Phase}
 use Rattle.phase.specs.declared.Phase.the-variants.{Coming, Working, Holding, Resting}
@@ -65,11 +64,11 @@ abbrev first : ℕ → List ℕ → List ℕ
 first k bytes = bytes ++ replicate (64 - k) 0
 
 -- a task as wide as the two cores, and one below it, under a rule
-abbrev pair : ℕ → Phase → Phase → Run
+abbrev pub pair : ℕ → Phase → Phase → Run
 pair r a b = two r 2 (t 0 2 3 6 6 a) (t 0 1 2 6 6 b)
 
 -- two holders of two cores each, and below them tasks of widths 3, 1 and 2 that work, under rule 4 on four cores
-abbrev lenders : Run
+abbrev pub lenders : Run
 lenders = record {
   rule = 4;
   cores = 4;
@@ -128,19 +127,13 @@ refused-lines =
     ∷ refuses "a fence, and no bytes of it" (fencedRun 1 2 3 (t 0 1 1 1 1 (Working 0 0 0))) 0 14 0
     ∷ []
 
-computed : LineByLine asked sets-lines sets-lines
-unfolding running setsOf setsIn setOf
-computed = (refl, (refl, (refl, (refl, (refl, (refl, (refl, (refl, (refl, (refl, (refl, (refl, (refl, tt)))))))))))))
-
-refused : LineByLine asked refused-lines refused-lines
-unfolding running setsOf setsIn setOf
-refused = (refl, (refl, (refl, (refl, (refl, (refl, (refl, tt)))))))
-
 pub sets-examples : map asked sets-lines ≡ sets-lines
-sets-examples = by-line asked sets-lines sets-lines computed
+unfolding running setsOf setsIn setOf
+sets-examples = refl
 
 pub refused-examples : map asked refused-lines ≡ refused-lines
-refused-examples = by-line asked refused-lines refused-lines refused
+unfolding running setsOf setsIn setOf
+refused-examples = refl
 
 -- the meaning: the 32 sets, or the refusal; and of the book's sets, as 32
 pub meaning-as : (setsMeaning (setsOf (pair 4 (Holding 1 1) (Working 1 0 0)) 0) ≡ shown (2 ∷ 1 ∷ replicate 30 0))

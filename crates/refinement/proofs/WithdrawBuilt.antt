@@ -6,7 +6,6 @@ use mathlib.Core.Path.{_≡_, refl}
 use Prim.Native.Nat.{ℕ}
 use lib.ListN.{replicate}
 use Rattle.model.specs.Advance.{withdraw}
-use Rattle.model.proofs.LineByLine.{LineByLine, by-line}
 use Rattle.phase.specs.declared.Phase.{Phase}
 use Rattle.phase.specs.declared.Phase.the-variants.{Coming, Working, Holding, Resting}
 use Rattle.run.specs.declared.Run.{Run}
@@ -167,18 +166,11 @@ set-lines =
     (out 2147483648 (many 31 (Resting 1)))
     ∷ []
 
--- every line is its value by the definitions, line by line
-computed : LineByLine worked-named withdraw-lines withdraw-lines
-unfolding running rows
-computed = (refl, (refl, (refl, (refl, (refl, (refl, (refl, (refl, (refl, (refl, (refl, (refl, (refl, (refl, (refl, (refl, (refl, (refl, (refl, tt)))))))))))))))))))
-
-computed-sets : LineByLine worked-named set-lines set-lines
-unfolding running rows
-computed-sets = (refl, (refl, (refl, (refl, (refl, (refl, (refl, (refl, tt))))))))
-
--- .. and as one list
+-- every line is its value by the definitions: one table with one check
 pub withdrawn-runs : map worked-named withdraw-lines ≡ withdraw-lines
-withdrawn-runs = by-line worked-named withdraw-lines withdraw-lines computed
+unfolding running rows
+withdrawn-runs = refl
 
 pub withdrawn-sets : map worked-named set-lines ≡ set-lines
-withdrawn-sets = by-line worked-named set-lines set-lines computed-sets
+unfolding running rows
+withdrawn-sets = refl

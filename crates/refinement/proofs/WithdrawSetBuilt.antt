@@ -7,7 +7,6 @@ use mathlib.Core.Path.{_≡_, refl}
 use Prim.Native.Nat.{ℕ}
 use Rattle.model.specs.Advance.{withdraw, withdrawAll}
 use Rattle.model.specs.Search.{any, upFrom}
-use Rattle.model.proofs.LineByLine.{LineByLine, by-line}
 use Rattle.phase.specs.declared.Phase.{Phase}
 use Rattle.phase.specs.declared.Phase.the-variants.{Coming, Working, Holding, Resting}
 use Rattle.run.specs.declared.Run.{Run}
@@ -104,14 +103,10 @@ together-lines =
     (out 2147483647 (many 31 (Resting 1)))
     ∷ []
 
--- every line is its value by the definitions, line by line
-computed : LineByLine worked-named together-lines together-lines
-unfolding running rows
-computed = (refl, (refl, (refl, (refl, (refl, (refl, (refl, (refl, (refl, (refl, (refl, (refl, (refl, (refl, (refl, tt)))))))))))))))
-
--- .. and as one list
+-- every line is its value by the definitions: one table with one check
 pub together-runs : map worked-named together-lines ≡ together-lines
-together-runs = by-line worked-named together-lines together-lines computed
+unfolding running rows
+together-runs = refl
 
 -- in words a set is of kind 2 with a last word of 0; of a kind above it there is no entry
 pub kinds :

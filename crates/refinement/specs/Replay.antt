@@ -60,12 +60,23 @@ abbrev pub rowCase : Answer → Replayed
 rowCase Taken = replayed.Shown
 rowCase (Refused n p) = replayed.RowRefused n p
 
--- the answer to the last row, by the case and the bytes written
-abbrev pub rowOutcome : Replayed → List ℕ → answers.Asked
-rowOutcome replayed.Shown bytes = answers.shown bytes
-rowOutcome (replayed.RowRefused n p) bytes = answers.rowRefused n p
-rowOutcome (replayed.Refused n p) bytes = answers.rowRefused n p
-rowOutcome replayed.Unfit bytes = answers.rowRefused 0 0
+-- the answer of a replay in the scope's words: the answer to the row asked after the list, or the start refused with number and position, or slices
+-- that do not fit, which have no number of the scope
+pub data ReplayAnswer : Type 0 where
+  lastRow : answers.Asked → ReplayAnswer
+  startRefused : ℕ → ℕ → ReplayAnswer
+  slicesUnfit : ReplayAnswer
+
+-- the meaning of each case, with the bytes written
+abbrev pub replayMeaning : Replayed → List ℕ → ReplayAnswer
+replayMeaning replayed.Shown bytes = lastRow (answers.shown bytes)
+replayMeaning (replayed.RowRefused n p) bytes = lastRow (answers.rowRefused n p)
+replayMeaning (replayed.Refused n p) bytes = startRefused n p
+replayMeaning replayed.Unfit bytes = slicesUnfit
+
+-- the meaning of a result
+abbrev pub outcomeMeaning : ReplayOutcome → ReplayAnswer
+outcomeMeaning o = replayMeaning (o .answer) (take mostCores (o .bytes))
 
 -- a run that has started: the answers and the row after the list are written, and the rest of the slices is as found; where the slices do not fit,
 -- everything is as found
@@ -93,7 +104,7 @@ pub record MatchesBook (ws : List ℕ) (xs : List entries.Entry) (numbers bytes 
   -- each answer, and the rest as found
   pub each-answer : o .numbers ≡ map code (lists.answersFrom (tableOf ws) jobs.emptyBook xs) ++ drop (length xs) numbers
   -- the row asked after the list, or its refusal
-  pub row-after : rowOutcome (o .answer) (take mostCores (o .bytes)) ≡ askedIn64 (answers.asked (tableOf ws) (lists.book (tableOf ws) xs) 0)
+  pub row-after : outcomeMeaning o ≡ lastRow (askedIn64 (answers.asked (tableOf ws) (lists.book (tableOf ws) xs) 0))
   -- the bytes after the row, as found
   pub behind : drop mostCores (o .bytes) ≡ drop mostCores bytes
 
@@ -102,11 +113,11 @@ pub record ReplayOf (ws es numbers bytes : List ℕ) (o : ReplayOutcome) : Type 
   -- its value
   pub value : o ≡ replayOf ws es numbers bytes
   -- refused exactly as the start is
-  pub refused : (n p : ℕ) → (o .answer ≡ replayed.Refused n p) ↔ FirstOf (StartApplies ws) n p
+  pub refused : (n p : ℕ) → (outcomeMeaning o ≡ startRefused n p) ↔ FirstOf (StartApplies ws) n p
   -- unfit exactly if the start is taken and the lent slices do not fit: a case outside the scope's numbers
-  pub unfit : (o .answer ≡ replayed.Unfit) ↔ (NoneOf (StartApplies ws) × (¬ SlicesFit es numbers bytes))
+  pub unfit : (outcomeMeaning o ≡ slicesUnfit) ↔ (NoneOf (StartApplies ws) × (¬ SlicesFit es numbers bytes))
   -- both leave everything as found
-  pub refused-found : (n p : ℕ) → o .answer ≡ replayed.Refused n p → (o .numbers ≡ numbers) × (o .bytes ≡ bytes)
-  pub unfit-found : o .answer ≡ replayed.Unfit → (o .numbers ≡ numbers) × (o .bytes ≡ bytes)
+  pub refused-found : (n p : ℕ) → outcomeMeaning o ≡ startRefused n p → (o .numbers ≡ numbers) × (o .bytes ≡ bytes)
+  pub unfit-found : outcomeMeaning o ≡ slicesUnfit → (o .numbers ≡ numbers) × (o .bytes ≡ bytes)
   -- else every answer and the last row are the book's
   pub book : NoneOf (StartApplies ws) → SlicesFit es numbers bytes → MatchesBook ws (entriesIn es) numbers bytes o

@@ -1,7 +1,7 @@
 // A whole list of entries: the run of a table through all of them, and its refinement of the book.
 ghost use Rattle.refinement.specs.Replay.{ReplayOf};
 
-mod replays; // replays.rt: a run through a whole list of entries
+pub mod replays; // replays.rt: a run through a whole list of entries
 
 use run::Answer;
 

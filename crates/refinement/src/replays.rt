@@ -61,7 +61,7 @@ fn fits(entries: &[u32], numbers: usize, bytes: usize) -> bool
 }
 
 // An entry on a run, by its three words: its answer, and the next run.
-fn enter(run: Run, kind: u32, first: u32, second: u32) -> Advanced
+pub fn enter(run: Run, kind: u32, first: u32, second: u32) -> Advanced
     ensures { λ r. ⌜ r ≡ entryOf run (entryBy kind first second) ⌝ }
 {
     if kind == 0 {
@@ -94,7 +94,7 @@ fn enter_all(run: Run, entries: &[u32], numbers: &mut [u32]) -> Run
 }
 
 // Writes the row; the bytes after it are unchanged.
-fn put(row: [u8; ROW], bytes: &mut [u8])
+pub fn put(row: [u8; ROW], bytes: &mut [u8])
     requires { ⌜ mostCores ≤ length (now bytes) ⌝ }
     ensures { λ r. ⌜ now (bytes .exit) ≡ row ++ drop mostCores (now (bytes .entry)) ⌝ }
 {

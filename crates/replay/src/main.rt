@@ -1,30 +1,30 @@
 // Reads a table, a line `--` and operations from standard input as they come, and prints the answers of the run.
-ghost use mathlib.Core.List.{[]};
-ghost use Rattle.session.specs.Transcript.{nothing};
-ghost use Rattle.session.specs.Session.{transcriptOf};
-ghost use Rattle.stream.specs.Sent.{SentOf};
+ghost use Prim.Native.Nat.{_<_};
+ghost use lib.ListN.{length};
 ghost use Rattle.replay.specs.Rounds.{RoundOf, ReceivedOf};
 use session::REPLY;
 use session::Session;
 use stream::Reading;
 use stream::Sent;
 
-// The result of a part of the input: the session after it, what was written, and whether it reads again.
+// The result of a part of the input: the session after it, how many bytes it took, what was written, and whether it reads again.
 struct Round {
     session: Session,
+    taken: usize,
     sent: Sent,
     again: bool,
 }
 
-// The result of a read.
+// The result of a read, and how many bytes of the buffer are left to the session.
 struct Received {
     reading: Reading,
     round: Round,
+    held: usize,
 }
 
-// Feeds a chunk to a session, and writes its replies.
-fn feed_chunk(start: Session, chunk: &[u8]) -> Round
-    ensures { λ r. ⌜ RoundOf start (now (chunk .entry)) r ⌝ }
+// Feeds bytes to a session until no reply is due, and writes its replies.
+fn feed_all(start: Session, bytes: &[u8], ended: bool) -> Round
+    ensures { λ r. ⌜ RoundOf start ended (now (bytes .entry)) r ⌝ }
 {
     let mut session = start;
     let mut sent = Sent {
@@ -33,8 +33,8 @@ fn feed_chunk(start: Session, chunk: &[u8]) -> Round
     };
     let mut out = [0u8; REPLY];
     let mut at: usize = 0;
-    while at < chunk.len() {
-        let fed = session.feed(&chunk[at..], &mut out);
+    loop {
+        let fed = session.feed(&bytes[at..], ended, &mut out);
         let next = fed.session;
         session = next;
         at += fed.taken;
@@ -43,32 +43,28 @@ fn feed_chunk(start: Session, chunk: &[u8]) -> Round
         if sent.whole {} else {
             return Round {
                 session: session,
+                taken: at,
                 sent: sent,
                 again: false,
             };
         }
-    }
-    Round {
-        session: session,
-        sent: sent,
-        again: !session.is_over(),
+        if fed.taken == 0 {
+            return Round {
+                session: session,
+                taken: at,
+                sent: sent,
+                again: !(ended | session.is_over()),
+            };
+        }
     }
 }
 
-// Writes the reply at the end of the input.
-fn finish(session: Session) -> Sent
-    ensures { λ r. ⌜ SentOf 0 (transcriptOf session nothing []) r ⌝ }
+// Reads once after the bytes that are left, and writes the replies that are due.
+fn receive(session: Session, buffer: &mut [u8], held: usize) -> Received
+    requires { ⌜ held < length (now buffer) ⌝ }
+    ensures { λ r. ⌜ ReceivedOf session held (now (buffer .entry)) (now (buffer .exit)) r ⌝ }
 {
-    let mut out = [0u8; REPLY];
-    let length = session.end(&mut out);
-    stream::send(0, &out[..length])
-}
-
-// Reads once, and writes the replies to the bytes read.
-fn receive(session: Session, chunk: &mut [u8]) -> Received
-    ensures { λ r. ⌜ ReceivedOf session (now (chunk .exit)) r ⌝ }
-{
-    let reading = stream::read(chunk, 0);
+    let reading = stream::read(buffer, held);
     if reading.failed {
         stream::report_unread(b"replay");
         let sent = Sent {
@@ -77,47 +73,41 @@ fn receive(session: Session, chunk: &mut [u8]) -> Received
         };
         let round = Round {
             session: session,
+            taken: 0,
             sent: sent,
             again: false,
         };
         return Received {
             reading: reading,
             round: round,
+            held: held,
         };
     }
-    if reading.ended {
-        let sent = finish(session);
-        let round = Round {
-            session: session,
-            sent: sent,
-            again: false,
-        };
-        return Received {
-            reading: reading,
-            round: round,
-        };
-    }
-    let held = reading.held;
-    let round = feed_chunk(session, &chunk[..held]);
+    let end = reading.held;
+    let round = feed_all(session, &buffer[..end], reading.ended);
+    let left = stream::move_to_front(buffer, round.taken, end);
     Received {
         reading: reading,
         round: round,
+        held: left,
     }
 }
 
 // A proved loop has to end, and no contract ensures that standard input does: the rounds are counted down from a number that no run uses up.
 fn main() {
     let mut session = Session::new();
-    let mut chunk = io::buffer();
+    let mut buffer = io::buffer();
+    let mut held: usize = 0;
     let mut rounds = u64::MAX;
     while rounds > 0 {
-        let received = receive(session, &mut chunk);
+        let received = receive(session, &mut buffer, held);
         let round = received.round;
-        if !round.again {
+        if round.again {} else {
             return;
         }
         let next = round.session;
         session = next;
+        held = received.held;
         rounds -= 1;
     }
 }

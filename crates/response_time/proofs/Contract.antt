@@ -23,8 +23,10 @@ use Rattle.judge.specs.declared.Verdict.{Verdict}
 use Rattle.judge.specs.declared.Verdict.the-variants.{Firm, Full, Miss, Refused}
 use Rattle.judge.specs.FirstMiss.{missedBefore, byMiss}
 use Rattle.judge.specs.JudgeAnswer.{judged, verdictMeaning}
-use Rattle.judge.specs.Judged.{Judged, acceptedOf, loadedTable, verdictOf}
-use Rattle.judge.proofs.Contract.{firm-words, judged-exact, refused-value, run-value, same-table}
+use Rattle.table.specs.Fit.{loadedTable}
+use Rattle.judge.specs.Judged.{Judged, acceptedOf, verdictOf}
+use Rattle.table.proofs.Fit.{same-table}
+use Rattle.judge.proofs.Contract.{firm-words, judged-exact, refused-value, run-value}
 use Rattle.response_time.specs.declared.ResponseTimes.{ResponseTimes}
 use Rattle.response_time.specs.EndedWithin.{AlwaysEndedWithin}
 use Rattle.response_time.specs.ResponseTimes.{ResponseTimesOf, responseTimesBy, responseTimesIn, givenTimes, responseTimesOf, noTimes}

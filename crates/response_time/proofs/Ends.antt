@@ -14,8 +14,8 @@ use Rattle.model.specs.Lists.{full}
 use Rattle.model.specs.Task.{Task, ValidTask, Table, release}
 use Rattle.simulation.specs.PlaceRelation.{PlaceWorks, PlaceRests}
 use Rattle.simulation.proofs.Place.{release-order}
-use Rattle.event_simulation.specs.Event.{NoEventBetween}
-use Rattle.event_simulation.proofs.Between.{ends-at}
+use Rattle.simulation.specs.Event.{NoEventBetween}
+use Rattle.simulation.proofs.Between.{ends-at}
 
 -- the jobs that have ended are those below number E
 pub record Ended (js : ℕ → Job) (E : ℕ) : Type 0 where

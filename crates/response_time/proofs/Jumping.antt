@@ -19,12 +19,12 @@ use Rattle.table.specs.declared.Loaded.{Loaded}
 use Rattle.simulation.specs.Machine.{Machine}
 use Rattle.simulation.specs.TickState.{Numbers, loadedNumbers}
 use Rattle.simulation.specs.PlaceRelation.{PlaceWorks, PlaceRests}
-use Rattle.judge.specs.Judged.{loadedTable, Fit}
-use Rattle.judge.proofs.Ticks.{size, few, columns}
-use Rattle.event_simulation.specs.EventState.{EventState, PlaceRepresents, MachineRepresents, StateRepresents}
-use Rattle.event_simulation.specs.Jump.{afterHandling, grantedInJump, ticksInJump, elapsed, jumped, JumpStarts, JumpLands}
-use Rattle.event_simulation.proofs.JumpLands.{represents-handled, lands}
-use Rattle.event_simulation.proofs.Passing.{passed-claims}
+use Rattle.table.specs.Fit.{loadedTable, Fit}
+use Rattle.simulation.proofs.AtTick.{size, few, columns}
+use Rattle.simulation.specs.EventState.{EventState, PlaceRepresents, MachineRepresents, StateRepresents}
+use Rattle.simulation.specs.Jump.{afterHandling, grantedInJump, ticksInJump, elapsed, jumped, JumpStarts, JumpLands}
+use Rattle.simulation.proofs.JumpLands.{represents-handled, lands}
+use Rattle.simulation.proofs.Passing.{passed-claims}
 use Rattle.response_time.specs.Recording.{responseAt, recorded}
 use Rattle.response_time.specs.Response.{worstResponseBy}
 use Rattle.response_time.proofs.Counted.{worst-response-same, worst-response-more}

@@ -11,3 +11,4 @@ pub mod Listed
 pub mod Walked
 pub mod EndedWithin
 pub mod Contract
+pub mod OffChain

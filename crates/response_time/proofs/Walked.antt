@@ -23,16 +23,17 @@ use Rattle.model.proofs.Runs.{missed-at}
 use Rattle.model.proofs.Search.{any-some, none-at}
 use Rattle.table.specs.declared.Loaded.{Loaded}
 use Rattle.judge.specs.declared.Verdict.the-variants.{Firm, Full}
-use Rattle.judge.specs.declared.misses.Missed as missed
-use Rattle.judge.specs.declared.misses.Missed.the-variants.{Never, At}
+use Rattle.judge.specs.declared.Missed as missed
+use Rattle.judge.specs.declared.Missed.the-variants.{Never, At}
 use Rattle.judge.specs.FirstMiss.{missedBefore, byMiss}
-use Rattle.judge.specs.Judged.{loadedTable, Fit, acceptedOf}
+use Rattle.table.specs.Fit.{loadedTable, Fit}
+use Rattle.judge.specs.Judged.{acceptedOf}
 use Rattle.judge.proofs.FirstMiss.{by-none, found, never-found}
-use Rattle.judge.proofs.Ticks.{few}
-use Rattle.event_simulation.specs.EventState.{EventState, StateRepresents, MetBefore}
-use Rattle.event_simulation.proofs.JumpLands.{due-exact, due-inside, missed-due}
-use Rattle.event_simulation.proofs.Handled.{late-has}
-use Rattle.event_simulation.proofs.Represents.{none-left}
+use Rattle.simulation.proofs.AtTick.{few}
+use Rattle.simulation.specs.EventState.{EventState, StateRepresents, MetBefore}
+use Rattle.simulation.proofs.JumpLands.{due-exact, due-inside, missed-due}
+use Rattle.simulation.proofs.Handled.{late-has}
+use Rattle.simulation.proofs.Represents.{none-left}
 use Rattle.response_time.specs.ResponseTimes.{responseTimesIn, responseTimesBy, givenTimes, noTimes}
 use Rattle.response_time.specs.Recording.{anyLeft}
 use Rattle.response_time.proofs.Counted.{worst-response-start, worst-response-after}

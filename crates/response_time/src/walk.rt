@@ -2,7 +2,8 @@
 ghost use mathlib.Core.Path.{_≡_};
 ghost use Prim.Native.Nat.{suc};
 ghost use Rattle.judge.specs.FirstMiss.{missedBefore, byMiss};
-ghost use Rattle.judge.specs.Judged.{loadedTable, Fit, acceptedOf};
+ghost use Rattle.table.specs.Fit.{loadedTable, Fit};
+ghost use Rattle.judge.specs.Judged.{acceptedOf};
 ghost use Rattle.response_time.specs.ResponseTimes.{responseTimesIn, responseTimesBy};
 use crate::ResponseTimes;
 use model::MOST_TASKS;
@@ -18,7 +19,7 @@ pub(crate) fn times_of(table: Loaded) -> ResponseTimes
     let setting = columns.setting;
     let widths = columns.widths;
     let times = columns.times;
-    let machine = event_simulation::state::start(table);
+    let machine = simulation::events::start(table);
     let mut registers = machine.registers;
     let mut places = machine.places;
     let mut responses = [0u32; MOST_TASKS];
@@ -26,7 +27,15 @@ pub(crate) fn times_of(table: Loaded) -> ResponseTimes
         if crate::recording::any_left(registers.claiming & registers.due, &places) {
             return crate::refused(13, 0);
         }
-        registers = event_simulation::state::jump(setting, &widths, &times, registers, &mut places);
+        let on = judge::by_events::run_on(
+            setting,
+            &widths,
+            &times,
+            registers,
+            &mut places,
+            registers.tick + 1,
+        );
+        registers = on.registers;
         let ended = registers.chosen & (registers.chosen ^ registers.claiming);
         crate::recording::record_ends(ended, registers.tick, &times, &places, &mut responses);
     }

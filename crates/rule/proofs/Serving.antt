@@ -28,11 +28,10 @@ use Rattle.rule.proofs.Choosing.{first-of, first-given}
 abbrev pub share : Rule → List ℕ → ℕ → List ℕ → ℕ → List ℕ
 share r ws x free p = getD (grants r (claimants ws (bit x)) free) p []
 
--- what holds before each iteration; ws are the widths that are read, set and left the free cores and how many they are
-pub record Held (r : Rule) (ws : List ℕ) (claims free count : ℕ) (sets : List ℕ) (rest set left : ℕ) : Type 0 where
+-- what holds before each iteration; ws are the widths that are read, set the free cores
+pub record Held (r : Rule) (ws : List ℕ) (claims free count : ℕ) (sets : List ℕ) (rest set : ℕ) : Type 0 where
   pub fit : rest < 2 ^ 32
   pub whole : set < 2 ^ 64
-  pub counted : left ≡ length (cores set)
   pub size : length sets ≡ 32
   -- no set yet for the rest, and none past the count
   pub due : (p : ℕ) → bit rest p ≡ true → getD sets p 0 ≡ 0
@@ -40,11 +39,10 @@ pub record Held (r : Rule) (ws : List ℕ) (claims free count : ℕ) (sets : Lis
   -- the sets, and what the rest gives
   pub gives : (p : ℕ) → cores (getD sets p 0) ++ share r ws rest (cores set) p ≡ share r ws claims (cores free) p
 
-pub begun : (r : Rule) (ws : List ℕ) (claims free count : ℕ) → claims < 2 ^ 32 → free < 2 ^ 64 → Held r ws claims free count (replicate 32 0) claims free (ones free)
+pub begun : (r : Rule) (ws : List ℕ) (claims free count : ℕ) → claims < 2 ^ 32 → free < 2 ^ 64 → Held r ws claims free count (replicate 32 0) claims free
 begun r ws claims free count h k = record {
   fit = h;
   whole = k;
-  counted = sym (cores-length free k);
   size = refl;
   due = λ p z. getD-zeros 32 p;
   past = λ p z. getD-zeros 32 p;
@@ -53,7 +51,7 @@ begun r ws claims free count h k = record {
 
 -- ---- one iteration, at the lowest digit q of the rest; y is the rest after it
 
-module _ (r : Rule) (ws : List ℕ) (claims free count : ℕ) (sets : List ℕ) (rest set left q y : ℕ) (h : Held r ws claims free count sets rest set left) (l : Lowest rest q) (e : y ≡ rest - 2 ^ q) where
+module _ (r : Rule) (ws : List ℕ) (claims free count : ℕ) (sets : List ℕ) (rest set q y : ℕ) (h : Held r ws claims free count sets rest set) (l : Lowest rest q) (e : y ≡ rest - 2 ^ q) where
   abbrev pub width : ℕ
   width = getD ws q 0
 
@@ -67,15 +65,15 @@ module _ (r : Rule) (ws : List ℕ) (claims free count : ℕ) (sets : List ℕ) 
   less = omega (arith, h .fit)
 
   -- the rule's answer to it, of the free cores
-  answer : (s : Selection) → selection r left width ≡ s → Case r (claimant true width) (cores set) (givenBy s width (cores set)) (leftBy s width (cores set))
-  answer s a = answer-means r width (cores set) s (ap (λ (n : ℕ). selection r n width) (sym (h .counted)) ∙ a)
+  answer : (s : Selection) → selection r (ones set) width ≡ s → Case r (claimant true width) (cores set) (givenBy s width (cores set)) (leftBy s width (cores set))
+  answer s a = answer-means r width (cores set) s (ap (λ (n : ℕ). selection r n width) (cores-length set (h .whole)) ∙ a)
 
-  one-step : (s : Selection) → selection r left width ≡ s → (p : ℕ)
+  one-step : (s : Selection) → selection r (ones set) width ≡ s → (p : ℕ)
       → share r ws rest (cores set) p ≡ cond (eqb p q) (givenBy s width (cores set)) [] ++ share r ws y (leftBy s width (cores set)) p
   one-step s a p = rw (e, ← answer s a .0, ← answer s a .1) (first-given r q ws (bit rest) (bit (rest - 2 ^ q)) (cores set) p (first-of l))
 
   -- it takes its cores
-  module _ (c : q < count) (s : ℕ) (k : s < 2 ^ 64) (g : cores s ≡ take width (cores set)) (a : selection r left width ≡ Takes) where
+  module _ (c : q < count) (s : ℕ) (k : s < 2 ^ 64) (g : cores s ≡ take width (cores set)) (a : selection r (ones set) width ≡ Takes) where
     stored : (p : ℕ) (t : Bool) → q < 32 → eqb p q ≡ t → cores (getD (put sets q s) p 0) ≡ cores (getD sets p 0) ++ cond t (cores s) []
     stored p true k z =
         let i : p ≡ q = eqb-true p q z in
@@ -90,11 +88,10 @@ module _ (r : Rule) (ws : List ℕ) (claims free count : ℕ) (sets : List ℕ) 
     served-one : (p : ℕ) → share r ws rest (cores set) p ≡ cond (eqb p q) (cores s) [] ++ share r ws y (cores (set - s)) p
     served-one p = rw (g, behind) (one-step Takes a p)
 
-    pub taken : q < 32 → Held r ws claims free count (put sets q s) y (set - s) (left - width)
+    pub taken : q < 32 → Held r ws claims free count (put sets q s) y (set - s)
     taken k = record {
       fit = less;
       whole = omega (arith, h .whole);
-      counted = ap (λ (n : ℕ). n - width) (h .counted) ∙ sym (ap length behind ∙ length-drop width (cores set));
       size = length-set sets q s ∙ h .size;
       due = λ p z. getD-set-other sets q p s 0 (gone p z .0) ∙ h .due p (gone p z .1);
       past = λ p z. getD-set-other sets q p s 0 (λ (i : p ≡ q). omega arith) ∙ h .past p z;
@@ -105,17 +102,16 @@ module _ (r : Rule) (ws : List ℕ) (claims free count : ℕ) (sets : List ℕ) 
     }
 
   -- it is given nothing: what the rest gives is what those below it are given
-  nothing : (s : Selection) → selection r left width ≡ s → givenBy s width (cores set) ≡ [] → (p : ℕ) → share r ws rest (cores set) p ≡ share r ws y (leftBy s width (cores set)) p
+  nothing : (s : Selection) → selection r (ones set) width ≡ s → givenBy s width (cores set) ≡ [] → (p : ℕ) → share r ws rest (cores set) p ≡ share r ws y (leftBy s width (cores set)) p
   nothing s a z p =
       one-step s a p ∙ ap (λ (x : List ℕ). cond (eqb p q) x [] ++ share r ws y (leftBy s width (cores set)) p) z
       ∙ ap (λ (x : List ℕ). x ++ share r ws y (leftBy s width (cores set)) p) (same-either (eqb p q) [])
 
   -- it is skipped
-  pub passed-over : selection r left width ≡ Passed → Held r ws claims free count sets y set left
+  pub passed-over : selection r (ones set) width ≡ Passed → Held r ws claims free count sets y set
   passed-over a = record {
     fit = less;
     whole = h .whole;
-    counted = h .counted;
     size = h .size;
     due = λ p z. h .due p (gone p z .1);
     past = h .past;
@@ -123,11 +119,10 @@ module _ (r : Rule) (ws : List ℕ) (claims free count : ℕ) (sets : List ℕ) 
   }
 
   -- it ends the choosing
-  pub over : selection r left width ≡ Ends → Held r ws claims free count sets 0 set left
+  pub over : selection r (ones set) width ≡ Ends → Held r ws claims free count sets 0 set
   over a = record {
     fit = omega arith;
     whole = h .whole;
-    counted = h .counted;
     size = h .size;
     due = λ p z. absurd (true≢false (sym z ∙ bit-none p));
     past = h .past;
@@ -138,13 +133,12 @@ module _ (r : Rule) (ws : List ℕ) (claims free count : ℕ) (sets : List ℕ) 
   }
 
   -- it is past the count
-  pub skipped : length ws ≤ q → Held r ws claims free count sets y set left
+  pub skipped : length ws ≤ q → Held r ws claims free count sets y set
   skipped k =
       let same : claimants ws (bit y) ≡ claimants ws (bit rest) = claimants-same ws (bit y) (bit rest) (λ i j. rw e (l .others i (λ z. omega arith))) in
       record {
         fit = less;
         whole = h .whole;
-        counted = h .counted;
         size = h .size;
         due = λ p z. h .due p (gone p z .1);
         past = h .past;
@@ -153,7 +147,7 @@ module _ (r : Rule) (ws : List ℕ) (claims free count : ℕ) (sets : List ℕ) 
 
 -- ---- when no one is left, the sets are the grants
 
-module _ (r : Rule) (widths : List ℕ) (claims free count : ℕ) (sets : List ℕ) (set left : ℕ) (size : length widths ≡ 32) (h : Held r (take count widths) claims free count sets 0 set left) where
+module _ (r : Rule) (widths : List ℕ) (claims free count : ℕ) (sets : List ℕ) (set : ℕ) (size : length widths ≡ 32) (h : Held r (take count widths) claims free count sets 0 set) where
   abbrev pub ws : List ℕ
   ws = take count widths
 

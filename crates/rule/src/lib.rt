@@ -98,7 +98,6 @@ pub fn grants(
 {
     let mut sets = [0u64; MOST_TASKS];
     let mut set = free;
-    let mut left = u64::count_ones(free);
     let mut rest = claims;
     while 0 < rest {
         let p = u32::trailing_zeros(rest);
@@ -106,12 +105,11 @@ pub fn grants(
         rest &= rest - 1;
         if at < count {
             let width = width_at(even, widths, p);
-            match select(rule, left, width) {
+            match select(rule, u64::count_ones(set), width) {
                 Selection::Takes => {
                     let taken = cores::lowest(set, width);
                     sets[at] = taken;
                     set -= taken;
-                    left -= width;
                 }
                 Selection::Passed => {}
                 Selection::Ends => {

@@ -1,4 +1,4 @@
--- The results of sets, a row, an advance and a withdrawal, case by case, in the order in which code tests.
+-- The results of sets, a row, who works, an advance and a withdrawal, case by case, in the order in which code tests.
 use mathlib.Core.Path.{_≡_, refl, sym, _∙_}
 use mathlib.Core.Bool.{Bool, true, false, cond}
 use Prim.Native.Nat.{ℕ, suc, _≤_, _<_}
@@ -16,6 +16,7 @@ use Rattle.run.specs.Row.{rowAnswer, bytesIn, noBytes, rowOf}
 use Rattle.run.specs.Sets.{noSets, setsIn, setsOf}
 use Rattle.run.specs.Advance.{advanceAnswer, advanceOf}
 use Rattle.run.specs.Withdraw.{withdrawAnswer, withdrawOf, withdrawAllOf}
+use Rattle.run.specs.Working.{workingIn, workingOf}
 use Rattle.run.proofs.First.{not-taken}
 
 module _ (r : Run) (e : ℕ) where
@@ -52,6 +53,19 @@ module _ (r : Run) (e : ℕ) where
   pub sets-by : rowAnswer r e ≡ Taken → setsOf r e .sets ≡ setsIn r e
   unfolding setsOf
   sets-by q = rw q refl
+
+  -- who works, by row's answer, which sets have too
+  pub working-answer : setsOf r e .answer ≡ workingOf r e .answer
+  unfolding setsOf workingOf
+  working-answer = refl
+
+  pub working-by : rowAnswer r e ≡ Taken → workingOf r e .set ≡ workingIn r e
+  unfolding workingOf
+  working-by q = rw q refl
+
+  pub working-none : (n p : ℕ) → rowAnswer r e ≡ Refused n p → workingOf r e .set ≡ 0
+  unfolding workingOf
+  working-none n p q = rw q refl
 
   -- a run whose row is shown passes 14
   pub row-passes : rowAnswer r e ≡ Taken → runOut r ≡ false

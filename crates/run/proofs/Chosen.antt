@@ -26,7 +26,6 @@ use Rattle.run.specs.declared.allocation.Allocation.{Allocation}
 use Rattle.phase.specs.declared.Phase.{Phase}
 use Rattle.phase.specs.declared.Phase.the-variants.{Coming, Working, Holding, Resting}
 use Rattle.phase.specs.Phase.{claiming, holder, working}
-use Rattle.phase.specs.Phase as phase
 use Rattle.phase.specs.Task.{widthNow}
 use Rattle.run.specs.Run.{ruleIn, emptiedAt, widthsNow, grantsIn, hasCores, offerIn, seeksIn, lentIn, hasLent}
 use Rattle.run.specs.Numbers.{emptiableAt, wrongEmptiesIn, reportableAt, wrongReportsIn}
@@ -171,23 +170,26 @@ pub may-begin :
 unfolding wrongEmptiesIn
 may-begin r e c h k l = outside e (c .released) (emptiableAt r) (h .begun) k l
 
--- and 16: the reports are within the places that work and are given or borrow cores
-module _ (r : Run) (e given lent working : ℕ) (gives : (p : ℕ) → bit given p ≡ hasCores r e p) (lends : (p : ℕ) → bit lent p ≡ hasLent r e p)
-    (works : (p : ℕ) → bit working p ≡ ltb p (r .count) && phase.working (emptiedAt r e p)) where
-  may-end : (p : ℕ) → bit (bitAnd (bitOr given lent) working) p ≡ reportableAt r e p
-  may-end p =
-      and-bit (bitOr given lent) working p
-      ∙ (ap₂ (λ (a b : Bool). a && b) (or-bit given lent p ∙ ap₂ (λ (a b : Bool). a || b) (gives p) (lends p)) (works p)
-      ∙ turned (hasCores r e p || hasLent r e p) (ltb p (r .count)) (phase.working (emptiedAt r e p)))
-    where
-      turned : (a b d : Bool) → a && (b && d) ≡ b && (d && a)
-      turned true true true = refl
-      turned true true false = refl
-      turned true false d = refl
-      turned false true true = refl
-      turned false true false = refl
-      turned false false d = refl
+-- the places that work are those that are given or borrow cores and are Working
+pub may-end :
+    (r : Run) (e : ℕ) (c : Claims) (h : ClaimsOf r e c) (s : Allocation) → AllocationOf (ruleIn r) (ws r e c h) (c .claiming) (c .working) (F r e c h) (r .count) s
+    → (p : ℕ) → bit (bitAnd (bitOr (s .given) (s .lent)) (c .working)) p ≡ reportableAt r e p
+may-end r e c h s q p =
+    and-bit (bitOr (s .given) (s .lent)) (c .working) p
+    ∙ (ap₂ (λ (a b : Bool). a && b)
+    (or-bit (s .given) (s .lent) p ∙ ap₂ (λ (a b : Bool). a || b) (has-cores r e c h s q p) (has-lent r e c h s q p)) (h .worked p)
+    ∙ turned (hasCores r e p || hasLent r e p) (ltb p (r .count)) (working (emptiedAt r e p)))
+  where
+    turned : (a b d : Bool) → a && (b && d) ≡ b && (d && a)
+    turned true true true = refl
+    turned true true false = refl
+    turned true false d = refl
+    turned false true true = refl
+    turned false true false = refl
+    turned false false d = refl
 
-  pub may-report : (x k : ℕ) → x < 2 ^ k → wrongReportsIn r e x ≡ not (eqb (bitAnd x (bitAnd (bitOr given lent) working)) x)
-  unfolding wrongReportsIn
-  may-report x k l = outside x (bitAnd (bitOr given lent) working) (reportableAt r e) may-end k l
+-- and 16: the reports are within the places that work
+pub may-report :
+    (r : Run) (e m : ℕ) → ((p : ℕ) → bit m p ≡ reportableAt r e p) → (x k : ℕ) → x < 2 ^ k → wrongReportsIn r e x ≡ not (eqb (bitAnd x m) x)
+unfolding wrongReportsIn
+may-report r e m h x k l = outside x m (reportableAt r e) h k l

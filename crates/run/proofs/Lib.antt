@@ -21,6 +21,7 @@ pub mod RunSets
 pub mod SetsExamples
 pub mod PlaceSets
 pub mod RunOut
+pub mod Working
 pub mod Shown
 pub mod Written
 pub mod OffChain

@@ -8,7 +8,7 @@ use borrow.Author.Tests.{leb-true, leb-false, not-false}
 use Rattle.model.proofs.Search.{none-any, none-at}
 use Rattle.model.specs.Search.{any}
 use Rattle.model.specs.Task as model
-use Rattle.model.proofs.Bools.{or-right-false}
+use Rattle.model.proofs.Bools.{or-left-false, or-right-false}
 use Rattle.model.specs.Sizes.{mostTasks}
 use Rattle.table.specs.Limits.{inRange, coresOut, ruleOut, fenceOut, taskOut}
 use Rattle.table.proofs.Decide.{Decides, decides-not, decides-or, decides-any}
@@ -43,10 +43,6 @@ run-decides r =
     (decides-any (r .count) (placeOut r) (PlaceOut r) (place-decides r))))))
 
 -- WHAT PASSES IT
-
-pub or-left-false : (a b : Bool) → a || b ≡ false → a ≡ false
-or-left-false true b e = absurd (true≢false e)
-or-left-false false b e = refl
 
 -- the parts of 14 that a run passes
 pub record Passes (r : Run) : Type 0 where

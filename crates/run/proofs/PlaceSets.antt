@@ -1,11 +1,11 @@
 -- Both widths of the places, and tasks of the table, stored place after place beside the sets that are gathered.
-use mathlib.Core.Path.{_≡_, refl, sym, ap, subst, _∙_}
+use mathlib.Core.Path.{_≡_, refl, sym, ap, ap₂, subst, _∙_}
 use mathlib.Core.Bool.{Bool, true, false, _&&_, cond}
-use mathlib.Core.List.{List}
-use Prim.Native.Nat.{ℕ, _+_, _≤_, _<_}
+use mathlib.Core.List.{List, [], _∷_, _++_, map}
+use Prim.Native.Nat.{ℕ, zero, suc, _+_, _-_, _≤_, _<_}
 use native.Mathlib.Omega.{arith}
-use lib.ListN.{length, getD, take, set, length-map, length-set, length-take, List·getD-map}
-use lib.Seq.{ext-getD, getD-take, getD-set-same, getD-set-other}
+use lib.ListN.{length, getD, take, drop, set, replicate, length-drop, length-map, length-replicate, length-set, length-take, take-append-drop, List·getD-map}
+use lib.Seq.{ext-getD, getD-drop, getD-take, getD-set-same, getD-set-other}
 use lib.Dec.{eqb}
 use borrow.Author.Tests.{lt-ltb, eqb-true, eqb-false}
 use Rattle.model.proofs.Lists.{map-at}
@@ -19,7 +19,7 @@ use Rattle.table.specs.declared.Task.{Task}
 use Rattle.table.specs.Task as table
 use Rattle.phase.specs.declared.Task as phase
 use Rattle.phase.specs.Task.{taskOf, pastEnd, widthNow}
-use Rattle.run.specs.Run.{placeAt, runTaskAt, evenAt, tasksIn, widthsNow}
+use Rattle.run.specs.Run.{placeAt, parametersIn, parametersOf, runTaskAt, evenAt, tasksIn, widthsNow}
 
 -- ---- both widths, stored place after place: the first at the place, the second at as many places further on as there are
 
@@ -105,3 +105,31 @@ tasks-known r ts few a b g =
     let m : p < r .count = omega arith in
     List·getD-map table.taskOf (take (r .count) ts) p table.noTask ∙ (ap table.taskOf (getD-take (r .count) ts p table.noTask m) ∙ (g p m
     ∙ sym (List·getD-map taskOf (take (r .count) (r .tasks)) p pastEnd ∙ ap taskOf (getD-take (r .count) (r .tasks) p pastEnd m)))))
+
+-- no task anywhere, where the first task is none
+pub none-there : (n p : ℕ) (t : Task) → t ≡ table.noTask → getD (replicate n t) p table.noTask ≡ table.noTask
+none-there zero p t e = refl
+none-there (suc n) zero t e = e
+none-there (suc n) (suc p) t e = none-there n p t e
+
+-- and with none past it they are the whole array
+stored-back : (ts : List Task) → map parametersOf (map table.taskOf ts) ≡ ts
+stored-back [] = refl
+stored-back (t ∷ ts) = ap (λ (l : List Task). t ∷ l) (stored-back ts)
+
+pub tasks-stored :
+    (r : Run) (ts : List Task) → r .count ≤ 32 → length ts ≡ 32 → table.tasksOf ts (r .count) ≡ tasksIn r
+    → ((p : ℕ) → r .count ≤ p → getD ts p table.noTask ≡ table.noTask) → ts ≡ parametersIn r
+tasks-stored r ts few a known past =
+    sym (take-append-drop (r .count) ts)
+    ∙ ap₂ (λ (x y : List Task). x ++ y) (sym (stored-back (take (r .count) ts)) ∙ ap (map parametersOf) known) none
+  where
+    size : length (drop (r .count) ts) ≡ 32 - r .count
+    size = length-drop (r .count) ts ∙ ap (λ (n : ℕ). n - r .count) a
+
+    none : drop (r .count) ts ≡ replicate (32 - r .count) table.noTask
+    none =
+        ext-getD table.noTask (drop (r .count) ts) (replicate (32 - r .count) table.noTask) (size ∙ sym (length-replicate (32 - r .count) table.noTask))
+        (λ i l.
+        getD-drop (r .count) ts i table.noTask
+        ∙ (past (r .count + i) (omega arith) ∙ sym (none-there (32 - r .count) i table.noTask refl)))

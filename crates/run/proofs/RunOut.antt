@@ -7,7 +7,7 @@ use native.Mathlib.Omega.{arith}
 use borrow.Author.Tests.{not-false}
 use Rattle.model.specs.Fence.{unfencedCount}
 use Rattle.model.specs.Search.{any}
-use Rattle.model.proofs.Bools.{or-right-false}
+use Rattle.model.proofs.Bools.{or-left-false, or-right-false}
 use Rattle.model.specs.Task as model
 use Rattle.model.specs.Sizes.{mostCores, mostTasks}
 use Rattle.table.specs.Limits.{inRange, coresOut, ruleOut, fenceOut, mostTime}
@@ -20,7 +20,7 @@ use Rattle.phase.specs.Phase.{PhaseIn}
 use Rattle.phase.specs.NoOverflow.{NoOverflow}
 use Rattle.run.specs.Run.{ruleIn, runTaskAt, evenAt, phaseAt}
 use Rattle.run.specs.Numbers.{widthLimitIn, pastCount, placeOut, runOut}
-use Rattle.run.proofs.Limits.{or-left-false, passes-if}
+use Rattle.run.proofs.Limits.{passes-if}
 
 -- ---- the head, then the places
 

@@ -12,6 +12,7 @@ use Rattle.model.proofs.Search.{any-same, least-same}
 use Rattle.model.specs.Search.{bit}
 use Rattle.model.specs.Advance.{singleton}
 use Rattle.model.specs.Fence.{unfencedCount, unfenced}
+use Rattle.model.specs.Working.{setWhere}
 use Rattle.model.specs.Task.{ruleOf}
 use Rattle.model.specs.Grants.{Claimant, claimants, grants}
 use Rattle.model.specs.Lending.{lends, lent}
@@ -32,6 +33,7 @@ use Rattle.run.specs.Withdraw.{withdrawAnswer, withdrawOf, withdrawAllOf
 use Rattle.run.specs.Advance.{advanceAnswer, advanceOf}
 use Rattle.run.specs.Row.{rowAnswer, bytesIn, rowOf}
 use Rattle.run.specs.Sets.{setsIn, setsOf}
+use Rattle.run.specs.Working.{workingOf}
 use Rattle.run.specs.UnusedPlaces.{SameBelow, TailUnread}
 use Rattle.run.proofs.Lent.{past-offer}
 use Rattle.run.proofs.Places.{drop-mapFirst, take-mapFirst}
@@ -138,6 +140,13 @@ module _ (rule cores fence withdrawn count : ℕ) (ts us : List Task) (same : ta
     unfolding setsOf rowAnswer setsIn
     same-sets = rw (same-out, same-late, same-wrong-empties e, same-grants, same-lent)
 
+    same-working : workingOf one e ≡ workingOf other e
+    unfolding workingOf rowAnswer
+    same-working = rw (same-out, same-late, same-wrong-empties e, same-set)
+      where
+        same-set : setWhere count (reportableAt one e) ≡ setWhere count (reportableAt other e)
+        same-set = λ i. setWhere count (λ p. same-reportable p i)
+
     same-moved : (f : ℕ → Bool) → SameBelow (moved f e one) (moved f e other)
     unfolding moved
     same-moved f = record {
@@ -153,6 +162,7 @@ module _ (rule cores fence withdrawn count : ℕ) (ts us : List Task) (same : ta
     unread x = record {
       row = same-row;
       sets = same-sets;
+      working = same-working;
       answer = unfold advanceOf in same-advance x;
       run = unfold advanceOf in rw (same-advance x) (go (advanceAnswer other x e));
       withdraw-answer = λ p. unfold withdrawOf in same-withdraw (unknownIn one p);

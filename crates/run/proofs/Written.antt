@@ -5,7 +5,7 @@ use Prim.Native.Nat.{ℕ, zero, suc, _+_, _-_, _<_}
 use native.Mathlib.Numerals.{add-one}
 use native.Mathlib.Omega.{arith}
 use lib.ListN.{length, getD, set, take, drop, replicate}
-use lib.Seq.{drop-cons, take-suc}
+use lib.Seq.{drop-cons, length-take-le, take-all, take-suc}
 
 module _ {A : Type 0} where
   -- a store right after the first part
@@ -24,6 +24,19 @@ module _ {A : Type 0} where
   -- one more of a list
   pub take-more : (l : List A) (i : ℕ) (d : A) → i < length l → take (i + 1) l ≡ take i l ++ (getD l i d ∷ [])
   take-more l i d h = ap (λ (k : ℕ). take k l) (add-one i) ∙ take-suc l i d h
+
+  -- a loop that writes a list in front of another: one more of it ..
+  pub front-more :
+      (xs old : List A) (i : ℕ) (d : A) → i < length xs → i < length old
+      → set (take i xs ++ drop i old) i (getD xs i d) ≡ take (i + 1) xs ++ drop (i + 1) old
+  front-more xs old i d h l =
+      written-more (take i xs) old i (getD xs i d) d (length-take-le i xs (omega arith)) l
+      ∙ ap (λ (k : List A). k ++ drop (i + 1) old) (sym (take-more xs i d h))
+
+  -- .. and all of it
+  pub front-all : (xs old : List A) (i n : ℕ) → i ≡ n → length xs ≡ n → take i xs ++ drop i old ≡ xs ++ drop n old
+  front-all xs old i n e l =
+      ap (λ (k : ℕ). take k xs ++ drop k old) e ∙ ap (λ (k : List A). k ++ drop n old) (take-all n xs (omega arith))
 
   -- the rest of a list of equal elements
   pub drop-equal : (n i : ℕ) (x : A) → drop i (replicate n x) ≡ replicate (n - i) x

@@ -1,8 +1,8 @@
 -- A run by its places: 32 of them, of which the first count are used (scope, 'The run in the cab'). Place p is position p + 1.
 use mathlib.Core.Bool.{Bool, _||_, _&&_, not, cond}
-use mathlib.Core.List.{List, [], _∷_, map}
-use Prim.Native.Nat.{ℕ, zero, suc}
-use lib.ListN.{getD, take}
+use mathlib.Core.List.{List, [], _∷_, map, _++_}
+use Prim.Native.Nat.{ℕ, zero, suc, _-_}
+use lib.ListN.{getD, replicate, take}
 use lib.Bits.{bitOr}
 use lib.Dec.{ltb}
 use Rattle.model.specs.Task as model
@@ -11,6 +11,9 @@ use Rattle.model.specs.Firm.{firm}
 use Rattle.model.specs.Grants.{claimants, grants, some}
 use Rattle.model.specs.Lending.{lends, lent, shownCores}
 use Rattle.model.specs.Search.{bit}
+use Rattle.model.specs.Sizes.{mostTasks}
+use Rattle.table.specs.declared.Task as table
+use Rattle.table.specs.Task.{noTask}
 use Rattle.phase.specs.declared.Phase.{Phase}
 use Rattle.phase.specs.declared.Task.{Task}
 use Rattle.run.specs.declared.Run.{Run}
@@ -38,9 +41,23 @@ phaseAt r p = placeAt r p .phase
 abbrev pub widthsNow : Run → List ℕ
 widthsNow r = map widthNow (take (r .count) (r .tasks))
 
--- the tasks below the count as a table has them, and the table of the run
+-- the tasks below the count as a table has them, and the table of the run; ..
 abbrev pub tasksIn : Run → List model.Task
 tasksIn r = map taskOf (take (r .count) (r .tasks))
+
+-- .. as code stores the tasks of a table: 32 places, no task past the count
+abbrev pub parametersOf : model.Task → table.Task
+parametersOf τ = record {
+  offset = τ .offset;
+  width = τ .oddWidth;
+  length = τ .length;
+  deadline = τ .deadline;
+  period = τ .period;
+  second = τ .evenWidth;
+}
+
+abbrev pub parametersIn : Run → List table.Task
+parametersIn r = map parametersOf (tasksIn r) ++ replicate (mostTasks - r .count) noTask
 
 abbrev pub runTable : Run → model.Table
 runTable r = record { tasks = tasksIn r; cores = r .cores; fence = r .fence; rule = ruleIn r }

@@ -7,6 +7,7 @@ use Rattle.run.specs.Advance.{advanceOf}
 use Rattle.run.specs.Row.{rowOf}
 use Rattle.run.specs.Sets.{setsOf}
 use Rattle.run.specs.Withdraw.{withdrawOf, withdrawAllOf}
+use Rattle.run.specs.Working.{workingOf}
 
 -- two runs that are equal up to the count
 pub record SameBelow (r s : Run) : Type 0 where
@@ -17,11 +18,12 @@ pub record SameBelow (r s : Run) : Type 0 where
   pub count : r .count ≡ s .count
   pub tasks : take (r .count) (r .tasks) ≡ take (s .count) (s .tasks)
 
--- they get equal rows, sets and answers, and advance to runs that are equal up to the count, for all reports and empties; the same holds of a
+-- they get equal rows, sets, positions that work and answers, and advance to runs that are equal up to the count, for all reports and empties; the same holds of a
 -- withdrawal, of one position or of several together
 pub record TailUnread (r s : Run) (x e : ℕ) : Type 0 where
   pub row : rowOf r e ≡ rowOf s e
   pub sets : setsOf r e ≡ setsOf s e
+  pub working : workingOf r e ≡ workingOf s e
   pub answer : advanceOf r x e .answer ≡ advanceOf s x e .answer
   pub run : SameBelow (advanceOf r x e .run) (advanceOf s x e .run)
   pub withdraw-answer : (p : ℕ) → withdrawOf r p .answer ≡ withdrawOf s p .answer

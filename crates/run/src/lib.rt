@@ -1,5 +1,5 @@
-// The run in the cab: rule, core count, fence, the withdrawn set and the tasks with their phases; start, row, sets, advance, and withdrawals of one
-// position or of several together.
+// The run in the cab: rule, core count, fence, the withdrawn set and the tasks with their phases; start, row, sets, working, advance, and withdrawals
+// of one position or of several together.
 ghost use mathlib.Core.Path.{_≡_};
 ghost use Rattle.run.specs.declared.Answer.the-variants.{Refused};
 ghost use Rattle.run.specs.Row.{RowOf, noBytes};
@@ -7,6 +7,7 @@ ghost use Rattle.run.specs.Sets.{SetsOf};
 ghost use Rattle.run.specs.Advance.{AdvanceOf};
 ghost use Rattle.run.specs.Start.{StartOf};
 ghost use Rattle.run.specs.Withdraw.{WithdrawOf, WithdrawAllOf};
+ghost use Rattle.run.specs.Working.{WorkingOf};
 
 mod bits; // bits.rt: sets of places
 mod bounds; // bounds.rt: number 14
@@ -15,7 +16,7 @@ mod moves; // moves.rt: one tick
 mod parameters; // parameters.rt: the tasks as a table has them
 mod allocation; // allocation.rt: the positions that are given cores in a tick, those that borrow some, and the cores that are shown
 pub mod starts; // starts.rt: the run of a table as it starts
-mod tick; // tick.rt: the present tick, which row, sets and advance use
+mod tick; // tick.rt: the present tick, which row, sets, working and advance use
 mod withdrawals; // withdrawals.rt: whether a run is firm, and positions withdrawn
 
 use judge::Verdict;
@@ -58,6 +59,12 @@ pub struct Sets {
     pub sets: [u64; MOST_TASKS],
 }
 
+// The result of asking who works: the answer, and the set of the positions that do, bit 0 for position 1.
+pub struct WorkingPositions {
+    pub answer: Answer,
+    pub set: u32,
+}
+
 // The result of a row asked: the answer, and one byte a core, the position or 0 for idle, 255 on a fenced core; bytes past the core count are 0.
 pub struct Row {
     pub answer: Answer,
@@ -68,7 +75,7 @@ pub struct Row {
 pub fn start(words: &[u32]) -> Started
     ensures { λ r. ⌜ StartOf (now (words .entry)) r ⌝ }
 {
-    let verdict = fast_judge::judge(words);
+    let verdict = judge::judge(words);
     match verdict {
         Verdict::Firm(_, _) => starts::begun(words),
         Verdict::Full(_, _) => starts::begun(words),
@@ -101,6 +108,19 @@ impl Run {
         Sets {
             answer: answer,
             sets: sets,
+        }
+    }
+
+    // The set of the positions whose job has cores in the present tick, its own or lent ones, and works: those for which a report bit is admitted. Bit p
+    // of `empties` is set if the job of position p + 1, released in this tick, is empty. Refused: 14, 15 with the lowest late position, or 20; then 0.
+    pub fn working(self, empties: u32) -> WorkingPositions
+        ensures { λ r. ⌜ WorkingOf self empties r ⌝ }
+    {
+        let tick = self.tick(empties);
+        let answer = tick.answer;
+        WorkingPositions {
+            answer: answer,
+            set: tick.working,
         }
     }
 
@@ -142,7 +162,7 @@ impl Run {
         if let Answer::Refused(number, position) = answer {
             return self.refused(number, position);
         }
-        let ending = reports & ((tick.given | tick.lent) & tick.working);
+        let ending = reports & tick.working;
         if ending == reports {
             return self.moved(tick.given, tick.lent, reports, empties);
         }

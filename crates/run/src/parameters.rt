@@ -3,15 +3,15 @@ ghost use mathlib.Core.Path.{_≡_};
 ghost use Prim.Native.Nat.{_≤_};
 ghost use Rattle.model.specs.Sizes.{mostTasks};
 ghost use Rattle.table.specs.Task.{tasksOf};
-ghost use Rattle.run.specs.Run.{tasksIn};
+ghost use Rattle.run.specs.Run.{parametersIn, tasksIn};
 use crate::Run;
 use model::MOST_TASKS;
 
 impl Run {
-    // The tasks below the count, without their phases.
+    // The tasks below the count, without their phases; no task past it.
     pub fn parameters(self) -> [table::Task; MOST_TASKS]
         requires { ⌜ self .count ≤ mostTasks ⌝ }
-        ensures { λ r. ⌜ tasksOf r (self .count) ≡ tasksIn self ⌝ }
+        ensures { λ r. ⌜ (r ≡ parametersIn self) × (tasksOf r (self .count) ≡ tasksIn self) ⌝ }
     {
         let count = self.count;
         let unused = phase::starts::unused();

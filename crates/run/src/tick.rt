@@ -1,4 +1,4 @@
-// The present tick of a run: the numbers of a row, and the cores of each position. Row, sets and advance all use it.
+// The present tick of a run: the numbers of a row, and the cores of each position. Row, sets, working and advance all use it.
 ghost use mathlib.Core.Path.{_≡_};
 ghost use Rattle.run.specs.declared.Answer.the-variants.{Refused};
 ghost use Rattle.run.specs.Sets.{noSets};
@@ -9,8 +9,8 @@ use crate::allocation;
 use crate::bounds;
 use model::MOST_TASKS;
 
-// The answer to a row asked; where it is taken, the sets of the positions that are given cores, that borrow some, and that are Working, bit 0 for
-// position 1; and of each position the set of cores that the row shows.
+// The answer to a row asked; where it is taken, the sets of the positions that are given cores, that borrow some, and whose job has either and is
+// Working, bit 0 for position 1; and of each position the set of cores that the row shows.
 pub struct Tick {
     pub answer: Answer,
     pub given: u32,
@@ -68,7 +68,7 @@ impl Run {
                 answer: Answer::Taken,
                 given: shares.given,
                 lent: shares.lent,
-                working: claims.working,
+                working: (shares.given | shares.lent) & claims.working,
                 sets: sets,
             };
         }

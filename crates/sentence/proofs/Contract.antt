@@ -9,7 +9,7 @@ use lib.Seq.{take-at, getD-append-add, getD-drop}
 use Rattle.model.specs.Search.{any}
 use Rattle.model.specs.Task.{Table, AllValid, task}
 use Rattle.model.specs.Horizon.{horizon}
-use Rattle.model.specs.Verdict.{missedIn, firstMiss, FirstMiss}
+use Rattle.model.specs.Verdict.{Miss, missedIn, firstMiss, FirstMiss}
 use Rattle.model.proofs.Bools.{not-false-true}
 use Rattle.table.specs.declared.Answer.{Answer}
 use Rattle.table.specs.declared.Answer.the-variants as answer
@@ -20,8 +20,11 @@ use Rattle.table.specs.Numbers as table
 use Rattle.table.specs.Load.{LoadOf, loadMeaning}
 use Rattle.table.proofs.Exact.{refusal-exact, passed-exact}
 use Rattle.table.proofs.Passed.{passed-count, passed-inside, passed-valid, passed-horizon}
-use Rattle.judge.specs.Judged.{loadedTable}
-use Rattle.judge.proofs.Contract.{same-table}
+use Rattle.table.specs.Fit.{loadedTable}
+use Rattle.table.proofs.Fit.{same-table}
+use Rattle.judge.specs.JudgeAnswer.{judged, verdictMeaning}
+use Rattle.judge.specs.Judged.{verdictOf}
+use Rattle.judge.proofs.Contract.{judged-exact}
 use Rattle.sentence.specs.Counting.{LengthsWithin}
 use Rattle.sentence.specs.Facts.{Facts, limit, Expressible}
 use Rattle.sentence.specs.Sentence.{sentenceText}
@@ -57,7 +60,15 @@ front-size : (w old : List ℕ) → length w ≤ length old → length (front w 
 front-size w old l = omega (arith, length-append w (drop (length w) old), length-drop (length w) old)
 
 module _ (ws : List ℕ) where
-  -- the facts of a table that misses are expressible
+  -- a table that misses has the verdict Miss, with the tick and the position of the facts
+  facts-verdict :
+      table.NoneApplies ws → any (suc (horizon (tableOf ws))) (missedIn (tableOf ws)) ≡ true
+      → verdictMeaning (verdictOf ws) ≡ judged (Miss (factsOf ws .tick) (factsOf ws .position))
+  unfolding factsIn
+  facts-verdict none e =
+      judged-exact ws .miss (firstMiss (tableOf ws)) (suc (missPlace (tableOf ws))) .1 (none, first-found (tableOf ws) (passed-valid ws none) e)
+
+  -- and its facts are expressible
   facts-expressible : table.NoneApplies ws → any (suc (horizon (tableOf ws))) (missedIn (tableOf ws)) ≡ true → Expressible (factsOf ws)
   unfolding factsIn
   facts-expressible none e =
@@ -72,13 +83,14 @@ module _ (ws old new : List ℕ) where
   abbrev text : List ℕ
   text = sentenceText (factsOf ws)
 
-  -- where no number applies the facts are expressible, and the sentence has space
-  expressible-here : NoneApplies ws (length old) → Expressible (factsOf ws)
-  expressible-here none =
-      facts-expressible ws passed (not-false-true (any (suc (horizon (tableOf ws))) (missedIn (tableOf ws))) (λ e. none 17 0 (seventeen (never (tableOf ws) (passed-valid ws passed) e))))
-    where
-      passed : table.NoneApplies ws
-      passed n p x = none n p (words n p x)
+  -- where no number applies the table passes and misses, and the sentence has space
+  passed : NoneApplies ws (length old) → table.NoneApplies ws
+  passed none n p x = none n p (words n p x)
+
+  misses : NoneApplies ws (length old) → any (suc (horizon (tableOf ws))) (missedIn (tableOf ws)) ≡ true
+  misses none =
+      not-false-true (any (suc (horizon (tableOf ws))) (missedIn (tableOf ws)))
+      (λ e. none 17 0 (seventeen (never (tableOf ws) (passed-valid ws (passed none)) e)))
 
   room : NoneApplies ws (length old) → length text ≤ length old
   room none = not-less (λ l. none 18 0 (eighteen l))
@@ -93,9 +105,10 @@ module _ (ws old new : List ℕ) where
     written = λ n. (none n, λ x. ap sentenceMeaning (e ∙ length-exact ws (length old) n .1 x));
     buffer = f;
     sentence = sentence;
-    back = λ n x. ap parsed (sentence n x) ∙ sentence-back (factsOf ws) (expressible-here (none n x .0));
+    back = λ n x. ap parsed (sentence n x) ∙ sentence-back (factsOf ws) (facts-expressible ws (passed (none n x .0)) (misses (none n x .0)));
     behind = λ n i x l. ap (λ (z : List ℕ). getD z i 0) (text-there n x) ∙ front-behind text old i (omega (arith, none n x .1));
     size = go v refl;
+    miss = λ n x. facts-verdict ws (passed (none n x .0)) (misses (none n x .0));
     short = λ n x. omega (arith, none n x .1, sentence-longest ws (length old) (none n x .0));
     found = found;
   }

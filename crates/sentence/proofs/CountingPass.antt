@@ -21,9 +21,9 @@ use Rattle.simulation.proofs.Late.{missed-late}
 use Rattle.simulation.specs.PlaceRelation.{PlaceRelatedAt}
 use Rattle.simulation.proofs.Steps.{tick-on, chosen-on, even-on}
 use Rattle.simulation.proofs.MachineRelated.{MachineRelated}
-use Rattle.judge.specs.Judged.{loadedTable, Fit}
-use Rattle.judge.proofs.Ticks.{Chosen, chosen-row}
-use Rattle.judge.proofs.Refines.{RefinesTick, refines-start, looked, refines-on}
+use Rattle.table.specs.Fit.{loadedTable, Fit}
+use Rattle.simulation.proofs.AtTick.{Chosen, chosen-row}
+use Rattle.simulation.proofs.RefinesTick.{RefinesTick, refines-start, handled-after, refines-on}
 use Rattle.sentence.specs.Counting.{added}
 use Rattle.sentence.specs.Waiting.{bookAt, releaseOf, lateJob, hadBy}
 use Rattle.sentence.proofs.Waiting.{missed-here, same-book, Counted, counted-start, counted-pass, counted-add, waits-before, waits-after}
@@ -85,7 +85,7 @@ module _ (t : Loaded) (fit : Fit t) (tick place : ℕ) (f : FirstMiss (loadedTab
       -- a place that is granted cores is in the row of the book
       pub granted-row : (q : ℕ) → bit (y .granted) q ≡ inRow s (bookAt s (x .tick)) q
       granted-row q =
-          chosen-row t fit (afterEvents (loadedNumbers t) x) (evenAtTick (loadedNumbers t) x) (nextEventAfter (loadedNumbers t) x) (x .tick) (looked t fit x (c .follows) met-here)
+          chosen-row t fit (afterEvents (loadedNumbers t) x) (evenAtTick (loadedNumbers t) x) (nextEventAfter (loadedNumbers t) x) (x .tick) (handled-after t fit x (c .follows) met-here)
           (y .granted) (subst₂ (λ (n m : ℕ). Chosen t n m (y .granted)) (chosen-on (loadedNumbers t) x y e) (even-on (loadedNumbers t) x y e) (on .chosen)) q
           ∙ ap (λ (b : Book). inRow s b q) (sym (same-book s (fit .valid) tick place f (x .tick) (omega arith)))
 

@@ -3,8 +3,6 @@ use mathlib.Core.List.{List, [], _∷_, map}
 use mathlib.Core.Path.{_≡_, refl}
 use Prim.Native.Nat.{ℕ}
 use Prim.Native.String.{String}
-use lib.ListN.{drop}
-use Rattle.model.proofs.LineByLine.{LineByLine, by-line}
 use Rattle.text.specs.Decimal.{value, decimal, lastDigits, digitCount, digitsWithin}
 use Rattle.text.specs.Output.{letters}
 use Rattle.sentence.specs.Facts.{Facts, Part, expressible, ascending}
@@ -65,18 +63,9 @@ cases =
     ∷ []
 
 -- the value by the definitions of a text; a case is named by its text
-abbrev read : Case → Case
-read c = case (c .text) (parsed (letters (c .text)))
-
-each-case : LineByLine read cases cases
-unfolding parsed candidate numbersFrom paired same sentenceText sentenceHead parts expressible ascending value decimal lastDigits digitCount digitsWithin
-each-case =
-    let past-13 : LineByLine read (drop 13 cases) (drop 13 cases) =
-    (refl, (refl, (refl, (refl, (refl, (refl, (refl, (refl, (refl, (refl, (refl, (refl, tt)))))))))))) in
-    (refl, (refl, (refl, (refl, (refl, (refl, (refl, (refl, (refl, (refl, (refl, (refl, (refl, past-13)))))))))))))
-
 pub read-cases : map (λ c. case (c .text) (parsed (letters (c .text)))) cases ≡ cases
-read-cases = by-line read cases cases each-case
+unfolding parsed candidate numbersFrom paired same sentenceText sentenceHead parts expressible ascending value decimal lastDigits digitCount digitsWithin
+read-cases = refl
 
 -- the sentence of facts, also of some that are not parsed back
 pub record SentenceExample : Type 0 where
@@ -91,15 +80,6 @@ sentenceExamples =
     ∷ []
 
 -- the sentence, and the expected one
-abbrev sentenceExample : SentenceExample → List ℕ
-sentenceExample s = sentenceText (s .of)
-
-abbrev expected : SentenceExample → List ℕ
-expected s = letters (s .text)
-
-each-example : LineByLine sentenceExample sentenceExamples (map expected sentenceExamples)
-unfolding sentenceText sentenceHead parts decimal lastDigits digitCount digitsWithin
-each-example = (refl, (refl, (refl, tt)))
-
 pub examples-exact : map (λ s. sentenceText (s .of)) sentenceExamples ≡ map (λ s. letters (s .text)) sentenceExamples
-examples-exact = by-line sentenceExample sentenceExamples (map expected sentenceExamples) each-example
+unfolding sentenceText sentenceHead parts decimal lastDigits digitCount digitsWithin
+examples-exact = refl

@@ -21,4 +21,5 @@ pub mod WritingSentence
 pub mod Answers
 pub mod LengthsWithin
 pub mod Contract
+pub mod OffChain
 pub mod Lines

@@ -4,9 +4,7 @@ use mathlib.Core.Path.{_≡_, refl}
 use mathlib.Core.List.{List, [], _∷_, map}
 use Prim.Native.Nat.{ℕ, zero, suc}
 use Prim.Native.String.{String}
-use lib.ListN.{drop}
 use Rattle.model.proofs.Computing.{computing}
-use Rattle.model.proofs.LineByLine.{LineByLine, by-line}
 use Rattle.table.specs.Words.{visited, count, chain, tableOf}
 use Rattle.table.specs.Answer.{headerNumber, lastStep, endingOf, firstOut, byHorizon, byTasks, byWalk, answerOf}
 use Rattle.text.specs.Decimal.{decimal, lastDigits, digitCount, digitsWithin}
@@ -124,14 +122,7 @@ computed l = outcome (sentenceMeaning (sentenceAnswerOf (l .words) (l .bytes))) 
 abbrev pub expected : Line → Outcome
 expected l = outcome (l .result) (letters (l .text))
 
--- line by line
-each-line : LineByLine computed lines (map expected lines)
+pub answer-lines : map computed lines ≡ map expected lines
 unfolding sentenceAnswerOf byTable byBuffer sentenceText sentenceHead parts namedFrom decimal lastDigits digitCount digitsWithin factsIn missPlace ranWhileWaiting tally
     answerOf byWalk byTasks byHorizon firstOut endingOf lastStep headerNumber tableOf chain count visited computing
-each-line =
-    let past-10 : LineByLine computed (drop 10 lines) (map expected (drop 10 lines)) =
-    (refl, (refl, (refl, (refl, (refl, (refl, (refl, (refl, (refl, (refl, tt)))))))))) in
-    (refl, (refl, (refl, (refl, (refl, (refl, (refl, (refl, (refl, (refl, past-10))))))))))
-
-pub answer-lines : map computed lines ≡ map expected lines
-answer-lines = by-line computed lines (map expected lines) each-line
+answer-lines = refl

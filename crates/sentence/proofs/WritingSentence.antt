@@ -14,7 +14,7 @@ use Rattle.model.specs.Search.{any, least}
 use Rattle.model.specs.Task.{Table}
 use Rattle.model.specs.Horizon.{horizon}
 use Rattle.model.specs.Verdict.{missedAt, missedIn, firstMiss}
-use Rattle.judge.specs.declared.misses.Missed.the-variants.{Never, At}
+use Rattle.judge.specs.declared.Missed.the-variants.{Never, At}
 use Rattle.judge.specs.FirstMiss.{missedBefore}
 use Rattle.text.specs.Written.{Put}
 use Rattle.sentence.specs.Facts.{Facts}

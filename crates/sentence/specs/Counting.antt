@@ -9,7 +9,7 @@ use Rattle.model.specs.Sizes.{mostTasks}
 use Rattle.table.specs.declared.Loaded.{Loaded}
 use Rattle.table.specs.Limits.{mostTime}
 use Rattle.simulation.specs.Places.{mapPlaces}
-use Rattle.judge.specs.Judged.{loadedTable}
+use Rattle.table.specs.Fit.{loadedTable}
 
 -- one more for each place of a set
 abbrev pub added : ℕ → List ℕ → List ℕ

@@ -9,12 +9,14 @@ use lib.ListN.{length, getD, take, drop}
 use Rattle.model.specs.Search.{any}
 use Rattle.model.specs.Task.{Table}
 use Rattle.model.specs.Horizon.{horizon}
-use Rattle.model.specs.Verdict.{missedIn}
+use Rattle.model.specs.Verdict.{Miss, missedIn}
 use Rattle.table.specs.declared.Answer.{Answer}
 use Rattle.table.specs.declared.Answer.the-variants as table
 use Rattle.table.specs.Limits.{mostHorizon}
 use Rattle.table.specs.Words.{tableOf}
 use Rattle.table.specs.Answer.{answerOf}
+use Rattle.judge.specs.JudgeAnswer.{judged, verdictMeaning}
+use Rattle.judge.specs.Judged.{verdictOf}
 use Rattle.sentence.specs.Facts.{Facts}
 use Rattle.sentence.specs.Sentence.{sentenceText}
 use Rattle.sentence.specs.Waiting.{factsIn, factsOf}
@@ -76,6 +78,8 @@ pub record SentenceOf (ws old new : List ℕ) (v : SentenceAnswer) : Type 0 wher
   -- bytes after the sentence are unchanged
   pub behind : (n i : ℕ) → sentenceMeaning v ≡ ofLength n → n ≤ i → getD new i 0 ≡ getD old i 0
   pub size : length new ≡ length old
+  -- its tick and its position are those of the verdict, which is Miss
+  pub miss : (n : ℕ) → sentenceMeaning v ≡ ofLength n → verdictMeaning (verdictOf ws) ≡ judged (Miss (factsOf ws .tick) (factsOf ws .position))
   -- no sentence is longer than 700 bytes
   pub short : (n : ℕ) → sentenceMeaning v ≡ ofLength n → n ≤ longestSentence mostHorizon
   -- a refusal leaves the buffer as found

@@ -5,7 +5,7 @@ ghost use lib.ListN.{length, getD};
 ghost use Rattle.model.specs.Search.{bit};
 ghost use Rattle.model.specs.Sizes.{mostTasks};
 ghost use Rattle.model.specs.Verdict.{FirstMiss};
-ghost use Rattle.judge.specs.Judged.{loadedTable, Fit};
+ghost use Rattle.table.specs.Fit.{loadedTable, Fit};
 ghost use Rattle.sentence.specs.Facts.{factsBy};
 ghost use Rattle.sentence.specs.Waiting.{factsAt};
 ghost use Rattle.sentence.specs.Counting.{added, above};
@@ -50,7 +50,7 @@ fn counts_above(ran: [u64; MOST_TASKS], place: usize) -> [u64; MOST_TASKS]
 
 // The facts of the first miss, of a place at a tick: the run up to that tick; from the late job's release on, each tick in which it is not granted cores
 // is counted for the places that are.
-pub(crate) fn count(table: Loaded, tick: u32, place: usize) -> Facts
+pub fn count(table: Loaded, tick: u32, place: usize) -> Facts
     requires { ⌜ Fit table × FirstMiss (loadedTable table) tick (suc place) × (tick ≤ table .horizon) ⌝ }
     ensures { λ r. ⌜ factsBy r ≡ factsAt (loadedTable table) tick place ⌝ }
 {
@@ -67,7 +67,15 @@ pub(crate) fn count(table: Loaded, tick: u32, place: usize) -> Facts
     let mut ran = [0u64; MOST_TASKS];
     while registers.tick < tick {
         let before = registers.tick;
-        registers = simulation::step(setting, &widths, &times, registers, &mut places);
+        let on = judge::by_ticks::run_on(
+            setting,
+            &widths,
+            &times,
+            registers,
+            &mut places,
+            before + 1,
+        );
+        registers = on.registers;
         if release <= before {
             let granted = registers.granted;
             let runs = has(granted, place);

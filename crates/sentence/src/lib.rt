@@ -3,17 +3,17 @@ ghost use mathlib.Core.Path.{_≡_};
 ghost use Prim.Native.Nat.{suc, _≤_};
 ghost use lib.ListN.{length};
 ghost use Rattle.model.specs.Verdict.{FirstMiss};
-ghost use Rattle.judge.specs.Judged.{loadedTable, Fit};
+ghost use Rattle.table.specs.Fit.{loadedTable, Fit};
 ghost use Rattle.sentence.specs.Parsed.{noFacts, FactsOf};
 ghost use Rattle.sentence.specs.Waiting.{factsAt, factsIn};
 ghost use Rattle.sentence.specs.Counting.{LengthsWithin};
 ghost use Rattle.sentence.specs.SentenceAnswer.{byBuffer, byTable, sentenceMeaning, leftIn, SentenceOf};
-use judge::misses::Missed;
+use judge::Missed;
 use model::MOST_TASKS;
 use table::Answer;
 use table::Loaded;
 
-mod counting; // counting.rt: the facts of a miss, counted in the full-length run
+pub mod counting; // counting.rt: the facts of a miss, counted in the full-length run
 pub mod reader; // reader.rt: a sentence parsed
 pub mod writer; // writer.rt: a sentence written
 
@@ -104,7 +104,7 @@ fn by_table(table: Loaded, buffer: &mut [u8]) -> SentenceAnswer
     requires { ⌜ Fit table × LengthsWithin table ⌝ }
     ensures { λ r. ⌜ (r ≡ byTable (loadedTable table) (length (now (buffer .entry)))) × (now (buffer .exit) ≡ leftIn (sentenceMeaning r) (factsIn (loadedTable table)) (now (buffer .entry))) ⌝ }
 {
-    let missed = fast_judge::first_miss(table, table.horizon + 1);
+    let missed = judge::fastest::first_miss(table, table.horizon + 1);
     match missed {
         Missed::Never => SentenceAnswer::Refused(17, 0),
         Missed::At(tick, position) => write_miss(table, tick, position as usize - 1, buffer),

@@ -17,40 +17,16 @@ use Rattle.text.specs.declared.line.ParsedNumber.{ParsedNumber}
 use Rattle.text.specs.declared.line.ParsedNumber.the-variants as found
 use Rattle.text.proofs.Lines.{mark-within, mark-stop}
 use Rattle.text.proofs.Numbers.{found-nothing}
+use Rattle.splitter.specs.Words.{wordsIn}
+use Rattle.splitter.proofs.Words.{words-one, words-more}
 use Rattle.session.specs.declared.operations.Numbers.{Numbers}
 use Rattle.session.specs.declared.operations.Numbers.the-variants.{Bare, One, Two, Other}
 use Rattle.session.specs.declared.operations.Operation.{Operation}
 use Rattle.session.specs.declared.operations.Operation.the-variants.{Nothing}
-use Rattle.session.specs.Operation.{noneLong, wordsIn, oneOf, twoOf, numbersOf, numbersAfter, advanceBy, rowBy, setsBy, withdrawBy, withdrawAllBy}
+use Rattle.session.specs.Operation.{noneLong, oneOf, twoOf, numbersOf, numbersAfter, advanceBy, rowBy, setsBy, workingBy, withdrawBy, withdrawAllBy}
 use Rattle.session.specs.Operation.{operationBy, operationOf}
 
 -- WORDS
-
--- a text with no space is one word
-pub words-one : (l : List ℕ) → lengthTo space l ≡ length l → wordsIn l ≡ l ∷ []
-unfolding wordsIn lengthTo
-words-one [] e = refl
-words-one (b ∷ l) e = go (eqb b space) e (words-one l)
-  where
-    go :
-        (t : Bool) → cond t 0 (suc (lengthTo space l)) ≡ suc (length l) → (lengthTo space l ≡ length l → wordsIn l ≡ l ∷ [])
-        → cond t ([] ∷ wordsIn l) (joined b (wordsIn l)) ≡ (b ∷ l) ∷ []
-    go true e ih = absurd (omega arith)
-    go false e ih = ap (joined b) (ih (omega arith))
-
--- else it is its first word, and the words after the space
-pub words-more : (l : List ℕ) → lengthTo space l < length l → wordsIn l ≡ take (lengthTo space l) l ∷ wordsIn (drop (suc (lengthTo space l)) l)
-unfolding wordsIn lengthTo
-words-more [] h = absurd (not-suc-le-zero h)
-words-more (b ∷ l) h = go (eqb b space) h (words-more l)
-  where
-    go :
-        (t : Bool) → cond t 0 (suc (lengthTo space l)) < suc (length l)
-        → (lengthTo space l < length l → wordsIn l ≡ take (lengthTo space l) l ∷ wordsIn (drop (suc (lengthTo space l)) l))
-        → cond t ([] ∷ wordsIn l) (joined b (wordsIn l))
-        ≡ take (cond t 0 (suc (lengthTo space l))) (b ∷ l) ∷ wordsIn (drop (suc (cond t 0 (suc (lengthTo space l)))) (b ∷ l))
-    go true h ih = refl
-    go false h ih = ap (joined b) (ih (le-of-suc-le-suc h))
 
 -- there is a word
 words-some : (l : List ℕ) → (w : List ℕ) × (ws : List (List ℕ)) × (wordsIn l ≡ w ∷ ws)
@@ -165,9 +141,14 @@ pub by-sets : (b : ℕ) (ns : Numbers) → b ≡ 115 → setsBy ns ≡ operation
 unfolding operationBy
 by-sets b ns e = rw e
 
-pub by-none : (b : ℕ) (ns : Numbers) → (b ≡ 97 → ⊥) → (b ≡ 114 → ⊥) → (b ≡ 119 → ⊥) → (b ≡ 87 → ⊥) → (b ≡ 115 → ⊥) → Nothing ≡ operationBy b ns
+pub by-working : (b : ℕ) (ns : Numbers) → b ≡ 106 → workingBy ns ≡ operationBy b ns
 unfolding operationBy
-by-none b ns a r w v s = rw (ne-eqb b 97 a, ne-eqb b 114 r, ne-eqb b 119 w, ne-eqb b 87 v, ne-eqb b 115 s)
+by-working b ns e = rw e
+
+pub by-none :
+    (b : ℕ) (ns : Numbers) → (b ≡ 97 → ⊥) → (b ≡ 114 → ⊥) → (b ≡ 119 → ⊥) → (b ≡ 87 → ⊥) → (b ≡ 115 → ⊥) → (b ≡ 106 → ⊥) → Nothing ≡ operationBy b ns
+unfolding operationBy
+by-none b ns a r w v s j = rw (ne-eqb b 97 a, ne-eqb b 114 r, ne-eqb b 119 w, ne-eqb b 87 v, ne-eqb b 115 s, ne-eqb b 106 j)
 
 pub asked-empty : (l : List ℕ) → length l ≡ 0 → Nothing ≡ operationOf l
 unfolding operationOf
@@ -210,15 +191,16 @@ numbers-long l h = ⊎-elim whole part (eq-or-lt-of-le (mark-within space l))
 
 by-other : (b : ℕ) → operationBy b Other ≡ Nothing
 unfolding operationBy
-by-other b = go (eqb b 97) (eqb b 114) (eqb b 119) (eqb b 87) (eqb b 115)
+by-other b = go (eqb b 97) (eqb b 114) (eqb b 119) (eqb b 87) (eqb b 115) (eqb b 106)
   where
-    go : (t u v w x : Bool) → cond t Nothing (cond u Nothing (cond v Nothing (cond w Nothing (cond x Nothing Nothing)))) ≡ Nothing
-    go true u v w x = refl
-    go false true v w x = refl
-    go false false true w x = refl
-    go false false false true x = refl
-    go false false false false true = refl
-    go false false false false false = refl
+    go : (t u v w x y : Bool) → cond t Nothing (cond u Nothing (cond v Nothing (cond w Nothing (cond x Nothing (cond y Nothing Nothing))))) ≡ Nothing
+    go true u v w x y = refl
+    go false true v w x y = refl
+    go false false true w x y = refl
+    go false false false true x y = refl
+    go false false false false true y = refl
+    go false false false false false true = refl
+    go false false false false false false = refl
 
 -- an operation has at most 23 bytes: a letter, and twice a space and ten digits
 pub long-none : (l : List ℕ) → noneLong ≤ length l → operationOf l ≡ Nothing

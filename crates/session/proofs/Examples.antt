@@ -7,7 +7,7 @@ use Prim.Native.String.{String}
 use lib.ListN.{drop, replicate}
 use Rattle.model.proofs.Computing.{computing}
 use Rattle.model.proofs.LineByLine.{LineByLine, by-line}
-use Rattle.phase.specs.declared.Phase.the-variants.{Working}
+use Rattle.phase.specs.declared.Phase.the-variants as phase
 use Rattle.phase.specs.declared.Task.{Task}
 use Rattle.phase.specs.Task.{unused}
 use Rattle.run.specs.declared.Run.{Run}
@@ -17,13 +17,17 @@ use Rattle.run.specs.Advance.{advanceAnswer, advanceOf}
 use Rattle.run.specs.Withdraw.{withdrawAnswer, withdrawOf, withdrawAllOf}
 use Rattle.run.specs.Row.{rowAnswer, bytesIn, rowOf}
 use Rattle.run.specs.Sets.{setsIn, setsOf}
+use Rattle.run.specs.Working.{workingOf}
+use Rattle.model.specs.Working.{setWhere}
 use Rattle.text.specs.Decimal.{all, value, decimal, lastDigits, digitCount, digitsWithin}
 use Rattle.text.specs.Format.{isNumber}
 use Rattle.text.specs.Output.{letters, fields, lineOf}
+use Rattle.splitter.specs.Split.{nothing, lastLine, linesFrom}
+use Rattle.splitter.specs.Words.{wordsIn}
 use Rattle.session.specs.declared.operations.Operation.{Operation}
-use Rattle.session.specs.declared.operations.Operation.the-variants.{Advance, Withdraw, WithdrawAll, Row, Sets, Nothing}
-use Rattle.session.specs.Operation.{wordsIn, numbersOf, numbersAfter, operationBy, operationOf, wordLine, answerLine, shownLine, setsLine, reply, runAfter}
-use Rattle.session.specs.Transcript.{nothing, lastLine, linesFrom, replies}
+use Rattle.session.specs.declared.operations.Operation.the-variants.{Advance, Withdraw, WithdrawAll, Row, Sets, Working, Nothing}
+use Rattle.session.specs.Operation.{numbersOf, numbersAfter, operationBy, operationOf, wordLine, answerLine, shownLine, setsLine, workingLine, reply, runAfter}
+use Rattle.session.specs.Transcript.{replies}
 
 -- THE OPERATION OF A LINE
 
@@ -45,6 +49,8 @@ lines =
     ∷ asks "W 1" (WithdrawAll 1)
     ∷ asks "s" (Sets 0)
     ∷ asks "s 1" (Sets 1)
+    ∷ asks "j" (Working 0)
+    ∷ asks "j 1" (Working 1)
     -- a letter is needed, and it is the first byte
     ∷ asks "" Nothing
     ∷ asks " " Nothing
@@ -62,6 +68,8 @@ lines =
     ∷ asks "a 1 2 3" Nothing
     ∷ asks "r 1 2" Nothing
     ∷ asks "s 1 2" Nothing
+    ∷ asks "j 1 2" Nothing
+    ∷ asks "J" Nothing
     ∷ asks "w" Nothing
     ∷ asks "w 1 2" Nothing
     ∷ asks "W" Nothing
@@ -77,6 +85,8 @@ lines =
     ∷ asks "r 1 " Nothing
     ∷ asks "s " Nothing
     ∷ asks "s1" Nothing
+    ∷ asks "j " Nothing
+    ∷ asks "j1" Nothing
     ∷ asks "w " Nothing
     ∷ asks "w  1" Nothing
     ∷ asks "w 1 " Nothing
@@ -121,6 +131,8 @@ lines =
     ∷ asks "r 4294967296" Nothing
     ∷ asks "s 4294967295" (Sets 4294967295)
     ∷ asks "s 4294967296" Nothing
+    ∷ asks "j 4294967295" (Working 4294967295)
+    ∷ asks "j 4294967296" Nothing
     ∷ asks "w 0" (Withdraw 0)
     ∷ asks "w 4294967295" (Withdraw 4294967295)
     ∷ asks "w 4294967296" Nothing
@@ -142,7 +154,7 @@ each-line : LineByLine worked lines lines
 unfolding operationOf operationBy numbersAfter numbersOf wordsIn isNumber all value
 each-line =
     let past-80 : LineByLine worked (drop 80 lines) (drop 80 lines) =
-    (refl, (refl, (refl, (refl, (refl, (refl, (refl, (refl, tt)))))))) in
+    (refl, (refl, (refl, (refl, (refl, (refl, (refl, (refl, (refl, (refl, (refl, (refl, (refl, (refl, (refl, (refl, tt)))))))))))))))) in
     let past-60 : LineByLine worked (drop 60 lines) (drop 60 lines) =
     (refl, (refl, (refl, (refl, (refl, (refl, (refl, (refl, (refl, (refl, (refl, (refl, (refl, (refl, (refl, (refl, (refl, (refl, (refl, (refl, past-80)))))))))))))))))))) in
     let past-40 : LineByLine worked (drop 40 lines) (drop 40 lines) =
@@ -158,7 +170,7 @@ lines-asked = by-line worked lines lines each-line
 
 -- a task of one tick in the release tick of an odd job, by its widths
 abbrev task : ℕ → ℕ → Task
-task v w = record { offset = 0; width = v; length = 1; deadline = 2; period = 2; second = w; even = false; phase = Working 0 0 0 }
+task v w = record { offset = 0; width = v; length = 1; deadline = 2; period = 2; second = w; even = false; phase = phase.Working 0 0 0 }
 
 -- two of them under greedy: of width 1 on one core; and with widths that fall on two cores, so that the run is not firm
 abbrev pub pair : Run
@@ -217,21 +229,15 @@ transcripts =
     ∷ transcriptExample lending "s\ns 1\ns 4\nr"
     "sets 3 0 0 0 0 0 0 0 0 0 0 0 0 0 0 0 0 0 0 0 0 0 0 0 0 0 0 0 0 0 0 0\nsets 2 1 0 0 0 0 0 0 0 0 0 0 0 0 0 0 0 0 0 0 0 0 0 0 0 0 0 0 0 0 0 0\nrefused 20 0\nrow 1 1\n"
     ∷ transcriptExample none "s" "refused 14 0\n"
+    -- who works: the borrower and not the lender, whose set has a core; a refusal has no set; and nothing changes
+    ∷ transcriptExample lending "j\nj 1\nj 4\nr\na 1\nj\na 2\nj" "working 1\nworking 2\nrefused 20 0\nrow 1 1\ntaken\nworking 2\ntaken\nworking 1\n"
+    ∷ transcriptExample none "j" "refused 14 0\n"
     -- after a line that is no operation nothing is written
     ∷ transcriptExample pair "r 1 2\nr\n" "not an operation\n"
     ∷ []
 
-abbrev transcriptText : TranscriptExample → List ℕ
-transcriptText t = replies (t .from) (linesFrom nothing [] (letters (t .input)))
-
-abbrev expected : TranscriptExample → List ℕ
-expected t = letters (t .output)
-
-each-transcript : LineByLine transcriptText transcripts (map expected transcripts)
-unfolding replies linesFrom lastLine reply runAfter wordLine answerLine shownLine setsLine operationOf operationBy numbersAfter numbersOf wordsIn isNumber all value lineOf fields
-    decimal lastDigits digitCount digitsWithin computing advanceOf advanceAnswer withdrawOf withdrawAllOf withdrawAnswer rowOf rowAnswer bytesIn setsOf setsIn pastCount runOut
-    firstLateIn wrongEmptiesIn wrongReportsIn grantsIn lentIn offerIn seeksIn mapFirst moved withdrawnIn
-each-transcript = (refl, (refl, (refl, (refl, (refl, (refl, (refl, (refl, (refl, (refl, (refl, (refl, (refl, (refl, (refl, (refl, (refl, (refl, tt))))))))))))))))))
-
 pub transcripts-exact : map (λ t. replies (t .from) (linesFrom nothing [] (letters (t .input)))) transcripts ≡ map (λ t. letters (t .output)) transcripts
-transcripts-exact = by-line transcriptText transcripts (map expected transcripts) each-transcript
+unfolding replies linesFrom lastLine reply runAfter wordLine answerLine shownLine setsLine workingLine operationOf operationBy numbersAfter numbersOf wordsIn isNumber all value lineOf fields
+    decimal lastDigits digitCount digitsWithin computing advanceOf advanceAnswer withdrawOf withdrawAllOf withdrawAnswer rowOf rowAnswer bytesIn setsOf setsIn workingOf setWhere pastCount runOut
+    firstLateIn wrongEmptiesIn wrongReportsIn grantsIn lentIn offerIn seeksIn mapFirst moved withdrawnIn
+transcripts-exact = refl

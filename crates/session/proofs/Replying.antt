@@ -1,12 +1,10 @@
 -- The replies, case by case.
-use mathlib.Core.Bool.{Bool, true, false, _&&_, cond}
-use mathlib.Core.List.{List, [], _∷_, _++_}
+use mathlib.Core.Bool.{true, false}
+use mathlib.Core.List.{List, [], _∷_, _++_, append-nil}
 use mathlib.Core.Path.{_≡_, refl, sym, ap, _∙_}
 use Prim.Native.Nat.{ℕ, _≤_, _<_}
-use native.Mathlib.Omega.{arith}
-use lib.ListN.{length, getD, take}
-use lib.Dec.{eqb, leb}
-use borrow.Author.Tests.{le-leb, lt-leb, leb-true}
+use lib.ListN.{length, take}
+use borrow.Author.Tests.{le-leb}
 use Rattle.text.specs.Format.{mostBytes, wordsOf, numbersIn}
 use Rattle.text.specs.Output.{letters, lineOf}
 use Rattle.run.specs.declared.Run.{Run}
@@ -17,16 +15,14 @@ use Rattle.run.specs.Advance.{advanceOf}
 use Rattle.run.specs.Withdraw.{withdrawOf, withdrawAllOf}
 use Rattle.run.specs.Row.{rowOf}
 use Rattle.run.specs.Sets.{setsOf}
+use Rattle.run.specs.Working.{workingOf}
 use Rattle.run.specs.Start.{startOf}
-use Rattle.session.specs.declared.Stage.{Stage}
-use Rattle.session.specs.declared.Stage.the-variants.{Table, Operations, Over}
-use Rattle.session.specs.declared.Session.{Session}
 use Rattle.session.specs.declared.operations.Operation.{Operation}
-use Rattle.session.specs.declared.operations.Operation.the-variants.{Advance, Withdraw, WithdrawAll, Row, Sets, Nothing}
-use Rattle.session.specs.Operation.{wordLine, answerLine, shownLine, setsLine, reply, runAfter, isLast}
-use Rattle.session.specs.Transcript.{tooMany, isDashes, startLine, opened, replies}
-use Rattle.session.specs.Session.{stageOf, TextWritten, OpenedOf}
-use Rattle.session.proofs.Transcripts.{nil-right, tooLong, opened-long}
+use Rattle.session.specs.declared.operations.Operation.the-variants.{Advance, Withdraw, WithdrawAll, Row, Sets, Working, Nothing}
+use Rattle.session.specs.Operation.{wordLine, answerLine, shownLine, setsLine, workingLine, reply, runAfter, isLast}
+use Rattle.session.specs.Transcript.{startLine, opened, replies}
+use Rattle.session.specs.Session.{TextWritten, OpenedOf}
+use Rattle.session.proofs.Transcripts.{tooLong, opened-long}
 
 -- ANSWERS
 
@@ -53,6 +49,14 @@ sets-taken a sets e = rw e
 pub sets-refused : (a : Answer) (sets : List ℕ) (n p : ℕ) → a ≡ Refused n p → lineOf (letters "refused") (n ∷ p ∷ []) ≡ setsLine a sets
 unfolding setsLine
 sets-refused a sets n p e = rw e
+
+pub working-taken : (a : Answer) (set : ℕ) → a ≡ Taken → lineOf (letters "working") (set ∷ []) ≡ workingLine a set
+unfolding workingLine
+working-taken a set e = rw e
+
+pub working-refused : (a : Answer) (set n p : ℕ) → a ≡ Refused n p → lineOf (letters "refused") (n ∷ p ∷ []) ≡ workingLine a set
+unfolding workingLine
+working-refused a set n p e = rw e
 
 -- OPERATIONS
 
@@ -111,6 +115,17 @@ run-sets o r e q = rw q
 pub last-sets : (o : Operation) (e : ℕ) → o ≡ Sets e → false ≡ isLast o
 last-sets o e q = rw q
 
+pub reply-working : (o : Operation) (r : Run) (e : ℕ) → o ≡ Working e → workingLine (workingOf r e .answer) (workingOf r e .set) ≡ reply o r
+unfolding reply
+reply-working o r e q = rw q
+
+pub run-working : (o : Operation) (r : Run) (e : ℕ) → o ≡ Working e → r ≡ runAfter o r
+unfolding runAfter
+run-working o r e q = rw q
+
+pub last-working : (o : Operation) (e : ℕ) → o ≡ Working e → false ≡ isLast o
+last-working o e q = rw q
+
 pub reply-none : (o : Operation) (r : Run) → o ≡ Nothing → wordLine (letters "not an operation") ≡ reply o r
 unfolding reply
 reply-none o r e = rw e
@@ -122,22 +137,6 @@ run-none o r e = rw e
 pub last-none : (o : Operation) → o ≡ Nothing → true ≡ isLast o
 last-none o e = rw e
 
--- DASHES
-
-pub dashes-of : (l : List ℕ) → length l ≡ 2 → eqb (getD l 0 0) 45 && eqb (getD l 1 0) 45 ≡ isDashes l
-unfolding isDashes
-dashes-of [] e = absurd (omega arith)
-dashes-of (a ∷ []) e = absurd (omega arith)
-dashes-of (a ∷ b ∷ []) e = refl
-dashes-of (a ∷ b ∷ c ∷ l) e = absurd (omega arith)
-
-pub no-dashes : (l : List ℕ) → (length l ≡ 2 → ⊥) → false ≡ isDashes l
-unfolding isDashes
-no-dashes [] e = refl
-no-dashes (a ∷ []) e = refl
-no-dashes (a ∷ b ∷ []) e = absurd (e refl)
-no-dashes (a ∷ b ∷ c ∷ l) e = refl
-
 -- THE TABLE
 
 pub opened-refused :
@@ -147,7 +146,7 @@ opened-refused table before after run n h s = record {
   room = s .room;
   same = s .same;
   behind = s .behind;
-  text = λ ls. opened-long table ls h ∙ sym (s .front) ∙ sym (nil-right (take n after));
+  text = λ ls. opened-long table ls h ∙ sym (s .front) ∙ sym (append-nil (take n after));
 }
 
 pub opened-run :
@@ -162,35 +161,3 @@ opened-run table before after s n h e w = record {
       rw (le-leb (length table) mostBytes h)
       (ap (λ (x : Started). answerLine (letters "ok") (x .answer) ++ replies (x .run) ls) (sym e) ∙ ap (λ (x : List ℕ). x ++ replies (s .run) ls) (sym (w .front)));
 }
-
--- STAGES
-
-pub stage-left : (s : Session) → s .held < s .from → Over ≡ stageOf s
-stage-left s h = rw (lt-leb (s .from) (s .held) h)
-
-pub stage-long : (s : Session) → tooMany < s .held → Over ≡ stageOf s
-stage-long s h = rw (lt-leb (s .held) tooMany h) (go (leb (s .from) (s .held)))
-  where
-    go : (t : Bool) → Over ≡ cond (t && false) (s .stage) Over
-    go true = refl
-    go false = refl
-
-pub stage-in : (s : Session) → s .from ≤ s .held → s .held ≤ tooMany → s .stage ≡ stageOf s
-stage-in s f h = rw (le-leb (s .from) (s .held) f, le-leb (s .held) tooMany h)
-
--- a session that is not over has its numbers within its bytes
-pub stage-within : (s : Session) → (stageOf s ≡ Over → ⊥) → (s .from ≤ s .held) × (s .held ≤ tooMany)
-stage-within s = go (leb (s .from) (s .held)) (leb (s .held) tooMany) refl refl
-  where
-    go :
-        (t u : Bool) → leb (s .from) (s .held) ≡ t → leb (s .held) tooMany ≡ u → (cond (t && u) (s .stage) Over ≡ Over → ⊥)
-        → (s .from ≤ s .held) × (s .held ≤ tooMany)
-    go true true e f n = (leb-true (s .from) (s .held) e, leb-true (s .held) tooMany f)
-    go true false e f n = absurd (n refl)
-    go false u e f n = absurd (n refl)
-
-pub table-not-over : (t : Stage) → t ≡ Table → t ≡ Over → ⊥
-table-not-over t e f = let z : _≡_ {A = ℕ} 0 1 = cc in absurd (omega arith)
-
-pub operations-not-over : (t : Stage) → t ≡ Operations → t ≡ Over → ⊥
-operations-not-over t e f = let z : _≡_ {A = ℕ} 0 1 = cc in absurd (omega arith)

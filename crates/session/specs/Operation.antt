@@ -5,11 +5,12 @@ use Prim.Native.Nat.{ℕ, _+_, _*_}
 use lib.ListN.{take}
 use lib.Dec.{eqb}
 use Rattle.model.specs.Sizes.{mostTasks}
-use Rattle.text.specs.Format.{newline, mostDigits, joined}
+use Rattle.text.specs.Format.{newline, mostDigits}
 use Rattle.text.specs.Input.{parseNumber}
 use Rattle.text.specs.Output.{letters, lineOf, space}
 use Rattle.text.specs.declared.line.ParsedNumber.{ParsedNumber}
 use Rattle.text.specs.declared.line.ParsedNumber.the-variants as found
+use Rattle.splitter.specs.Words.{wordsIn}
 use Rattle.run.specs.declared.Run.{Run}
 use Rattle.run.specs.declared.Answer.{Answer}
 use Rattle.run.specs.declared.Answer.the-variants.{Taken, Refused}
@@ -17,10 +18,11 @@ use Rattle.run.specs.Advance.{advanceOf}
 use Rattle.run.specs.Withdraw.{withdrawOf, withdrawAllOf}
 use Rattle.run.specs.Row.{rowOf}
 use Rattle.run.specs.Sets.{setsOf}
+use Rattle.run.specs.Working.{workingOf}
 use Rattle.session.specs.declared.operations.Numbers.{Numbers}
 use Rattle.session.specs.declared.operations.Numbers.the-variants.{Bare, One, Two, Other}
 use Rattle.session.specs.declared.operations.Operation.{Operation}
-use Rattle.session.specs.declared.operations.Operation.the-variants.{Advance, Withdraw, WithdrawAll, Row, Sets, Nothing}
+use Rattle.session.specs.declared.operations.Operation.the-variants.{Advance, Withdraw, WithdrawAll, Row, Sets, Working, Nothing}
 
 -- a line of this number of bytes is no operation: one more than a letter and two numbers, each with a space before it
 abbrev pub noneLong : ℕ
@@ -29,11 +31,6 @@ noneLong = 1 + 2 * (1 + mostDigits) + 1
 -- the most bytes of a reply: `sets`, for each of 32 positions a space and up to 20 digits, and a newline
 abbrev pub longestReply : ℕ
 longestReply = 4 + mostTasks * (1 + 20) + 1
-
--- the words of a text: what is before, between and after its spaces
-unfoldable pub wordsIn : List ℕ → List (List ℕ)
-wordsIn [] = [] ∷ []
-wordsIn (b ∷ bs) = cond (eqb b space) ([] ∷ wordsIn bs) (joined b (wordsIn bs))
 
 -- one number, of one to ten digits, up to 4,294,967,295
 abbrev pub oneOf : ParsedNumber → Numbers
@@ -79,6 +76,13 @@ setsBy (One e) = Sets e
 setsBy (Two e n) = Nothing
 setsBy Other = Nothing
 
+-- `j EMPTIES` asks who works with that set; without a number it is 0
+abbrev pub workingBy : Numbers → Operation
+workingBy Bare = Working 0
+workingBy (One e) = Working e
+workingBy (Two e n) = Nothing
+workingBy Other = Nothing
+
 -- `w POSITION` withdraws that position
 abbrev pub withdrawBy : Numbers → Operation
 withdrawBy Bare = Nothing
@@ -93,14 +97,15 @@ withdrawAllBy (One x) = WithdrawAll x
 withdrawAllBy (Two x n) = Nothing
 withdrawAllBy Other = Nothing
 
--- the operation of a letter, `a`, `r`, `w`, `W` or `s`, and what is after it; with any other letter it is none
+-- the operation of a letter, `a`, `r`, `w`, `W`, `s` or `j`, and what is after it; with any other letter it is none
 unfoldable pub operationBy : ℕ → Numbers → Operation
 operationBy letter ns =
     cond (eqb letter 97) (advanceBy ns)
     (cond (eqb letter 114) (rowBy ns)
     (cond (eqb letter 119) (withdrawBy ns)
     (cond (eqb letter 87) (withdrawAllBy ns)
-    (cond (eqb letter 115) (setsBy ns) Nothing))))
+    (cond (eqb letter 115) (setsBy ns)
+    (cond (eqb letter 106) (workingBy ns) Nothing)))))
 
 -- the operation of a line; an empty line is none
 unfoldable pub operationOf : List ℕ → Operation
@@ -126,6 +131,11 @@ unfoldable pub setsLine : Answer → List ℕ → List ℕ
 setsLine Taken sets = lineOf (letters "sets") sets
 setsLine (Refused n p) sets = lineOf (letters "refused") (n ∷ p ∷ [])
 
+-- who works is `working` and the set of positions, position 1 its lowest digit; or its refusal
+unfoldable pub workingLine : Answer → ℕ → List ℕ
+workingLine Taken set = lineOf (letters "working") (set ∷ [])
+workingLine (Refused n p) set = lineOf (letters "refused") (n ∷ p ∷ [])
+
 -- the reply to an operation on run r
 unfoldable pub reply : Operation → Run → List ℕ
 reply (Advance x e) r = answerLine (letters "taken") (advanceOf r x e .answer)
@@ -133,6 +143,7 @@ reply (Withdraw p) r = answerLine (letters "taken") (withdrawOf r p .answer)
 reply (WithdrawAll x) r = answerLine (letters "taken") (withdrawAllOf r x .answer)
 reply (Row e) r = shownLine (r .cores) (rowOf r e .answer) (rowOf r e .bytes)
 reply (Sets e) r = setsLine (setsOf r e .answer) (setsOf r e .sets)
+reply (Working e) r = workingLine (workingOf r e .answer) (workingOf r e .set)
 reply Nothing r = wordLine (letters "not an operation")
 
 -- the run after it
@@ -142,6 +153,7 @@ runAfter (Withdraw p) r = withdrawOf r p .run
 runAfter (WithdrawAll x) r = withdrawAllOf r x .run
 runAfter (Row e) r = r
 runAfter (Sets e) r = r
+runAfter (Working e) r = r
 runAfter Nothing r = r
 
 -- a line that is no operation ends the session
@@ -151,4 +163,5 @@ isLast (Withdraw p) = false
 isLast (WithdrawAll x) = false
 isLast (Row e) = false
 isLast (Sets e) = false
+isLast (Working e) = false
 isLast Nothing = true

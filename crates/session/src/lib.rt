@@ -1,10 +1,7 @@
 // A session: the table and the operations of a run, read as they come, and the reply to each.
 ghost use mathlib.Core.Path.{_≡_};
-ghost use mathlib.Core.List.{[]};
-ghost use Prim.Native.Nat.{_≤_, min};
 ghost use Rattle.session.specs.declared.Stage.the-variants.{Table, Operations};
-ghost use Rattle.session.specs.Transcript.{tooMany, nothing};
-ghost use Rattle.session.specs.Session.{TextWritten, transcriptIn, stageOf, isOver, stageAfter, FedBy, FedOf, LastOf, NewOf, overWith};
+ghost use Rattle.session.specs.Session.{transcriptIn, isOver, stageAfter, fedWith, FedBy, FedOf, NewOf};
 
 pub mod open; // open.rt: the table, and the run that it starts
 pub mod operations; // operations.rt: the operation of a line
@@ -12,9 +9,6 @@ mod replies; // replies.rt: the reply to an operation
 
 use model::MOST_TASKS;
 use run::Run;
-
-// This number of bytes with no line `--` in them is too many for a table: the longest text, the two dashes, and one more.
-pub const TOO_MANY: usize = text::BYTES + 3;
 
 // A line of this number of bytes is no operation: one more than a letter and two numbers, each with a space before it.
 const NONE_LONG: usize = 1 + 2 * (1 + text::DIGITS) + 1;
@@ -29,12 +23,9 @@ pub enum Stage {
     Over,
 }
 
-// The state of a session: the bytes that it holds and their count, where the last line of the table's begins, and the run.
+// The state of a session: its stage, and the run.
 pub struct Session {
     pub stage: Stage,
-    pub bytes: [u8; TOO_MANY],
-    pub from: usize,
-    pub held: usize,
     pub run: Run,
 }
 
@@ -45,18 +36,13 @@ pub struct Fed {
     pub length: usize,
 }
 
-// A session that is over.
-fn over(session: Session, taken: usize, length: usize) -> Fed
-    ensures { λ r. ⌜ r ≡ overWith session taken length ⌝ }
+// A session in a stage, after a number of bytes taken and a number of bytes written.
+fn fed_with(stage: Stage, run: Run, taken: usize, length: usize) -> Fed
+    ensures { λ r. ⌜ r ≡ fedWith stage run taken length ⌝ }
 {
-    let bytes = session.bytes;
-    let run = session.run;
     Fed {
         session: Session {
-            stage: Stage::Over,
-            bytes: bytes,
-            from: 0,
-            held: 0,
+            stage: stage,
             run: run,
         },
         taken: taken,
@@ -71,153 +57,35 @@ fn stage_after(over: bool) -> Stage
     if over { Stage::Over } else { Stage::Operations }
 }
 
-// A chunk of the table: up to the end of its first line, or as much as there is space for.
-fn feed_table(session: Session, chunk: &[u8], out: &mut [u8; REPLY]) -> Fed
-    requires { ⌜ (session .from ≤ session .held) × (session .held ≤ tooMany) ⌝ }
-    ensures { λ r. ⌜ FedBy (transcriptIn Table session) (now (chunk .entry)) (now (out .entry)) (now (out .exit)) r ⌝ }
+// The table, once it has ended, and the answer to it.
+fn feed_table(run: Run, bytes: &[u8], ended: bool, out: &mut [u8; REPLY]) -> Fed
+    ensures { λ r. ⌜ FedBy (transcriptIn Table run) ended (now (bytes .entry)) (now (out .entry)) (now (out .exit)) r ⌝ }
 {
-    let mut bytes = session.bytes;
-    let from = session.from;
-    let end = text::line::end_from(chunk, 0, b'\n');
-    let count = text::smaller(end, TOO_MANY - session.held);
-    let held = text::row::copy(chunk, 0, count, &mut bytes, session.held);
-    if held == TOO_MANY {
-        let length = replies::write_refused(1, 0, out);
-        return over(session, chunk.len(), length);
-    }
-    let run = session.run;
-    if count == chunk.len() {
-        return Fed {
-            session: Session {
-                stage: Stage::Table,
-                bytes: bytes,
-                from: from,
-                held: held,
-                run: run,
-            },
-            taken: count,
-            length: 0,
-        };
-    }
-    if open::is_dashes(&bytes[from..held]) {
-        let opened = open::begin(&bytes[..from], out);
-        let length = opened.length;
-        let stage = stage_after(opened.over);
+    let part = splitter::table(bytes, ended);
+    if part.whole {
+        let end = part.end;
+        let opened = open::begin(&bytes[..end], out);
         let begun = opened.run;
-        return Fed {
-            session: Session {
-                stage: stage,
-                bytes: bytes,
-                from: 0,
-                held: 0,
-                run: begun,
-            },
-            taken: count + 1,
-            length: length,
-        };
+        return fed_with(stage_after(opened.over), begun, part.next, opened.length);
     }
-    bytes[held] = b'\n';
-    Fed {
-        session: Session {
-            stage: Stage::Table,
-            bytes: bytes,
-            from: held + 1,
-            held: held + 1,
-            run: run,
-        },
-        taken: count + 1,
-        length: 0,
-    }
+    fed_with(Stage::Table, run, 0, 0)
 }
 
-// A chunk of the operations: up to the end of its first line; a line longer than any operation is none.
-fn feed_operations(session: Session, chunk: &[u8], out: &mut [u8; REPLY]) -> Fed
-    requires { ⌜ session .held ≤ tooMany ⌝ }
-    ensures { λ r. ⌜ FedBy (transcriptIn Operations session) (now (chunk .entry)) (now (out .entry)) (now (out .exit)) r ⌝ }
+// The first operation, once its line has ended, and the reply to it; a line longer than any operation is none.
+fn feed_operations(run: Run, bytes: &[u8], ended: bool, out: &mut [u8; REPLY]) -> Fed
+    ensures { λ r. ⌜ FedBy (transcriptIn Operations run) ended (now (bytes .entry)) (now (out .entry)) (now (out .exit)) r ⌝ }
 {
-    if NONE_LONG <= session.held {
-        let length = replies::write_word(b"not an operation", out);
-        return over(session, chunk.len(), length);
+    let part = splitter::line(bytes, NONE_LONG, ended);
+    if part.whole {
+        let end = part.end;
+        let reply = replies::answer(run, operations::operation_of(&bytes[..end]), out);
+        let next = reply.run;
+        if reply.last {
+            return fed_with(Stage::Over, next, bytes.len(), reply.length);
+        }
+        return fed_with(Stage::Operations, next, part.next, reply.length);
     }
-    let mut bytes = session.bytes;
-    let end = text::line::end_from(chunk, 0, b'\n');
-    let count = text::smaller(end, NONE_LONG - session.held);
-    let held = text::row::copy(chunk, 0, count, &mut bytes, session.held);
-    if held == NONE_LONG {
-        let length = replies::write_word(b"not an operation", out);
-        return over(session, chunk.len(), length);
-    }
-    let run = session.run;
-    if count == chunk.len() {
-        return Fed {
-            session: Session {
-                stage: Stage::Operations,
-                bytes: bytes,
-                from: 0,
-                held: held,
-                run: run,
-            },
-            taken: count,
-            length: 0,
-        };
-    }
-    let reply = replies::answer(run, operations::operation_of(&bytes[..held]), out);
-    if reply.last {
-        return over(session, chunk.len(), reply.length);
-    }
-    let next = reply.run;
-    Fed {
-        session: Session {
-            stage: Stage::Operations,
-            bytes: bytes,
-            from: 0,
-            held: 0,
-            run: next,
-        },
-        taken: count + 1,
-        length: reply.length,
-    }
-}
-
-// The end of the input in the table: the answer to it.
-fn end_table(session: Session, out: &mut [u8; REPLY]) -> usize
-    requires { ⌜ (session .from ≤ session .held) × (session .held ≤ tooMany) ⌝ }
-    ensures { λ r. ⌜ TextWritten (transcriptIn Table session nothing []) (now (out .entry)) (now (out .exit)) r ⌝ }
-{
-    let bytes = session.bytes;
-    let from = session.from;
-    let held = session.held;
-    let end = open::table_end(&bytes, from, held);
-    let opened = open::begin(&bytes[..end], out);
-    opened.length
-}
-
-// The end of the input in the operations: the reply to a last line that lacks its newline.
-fn end_operations(session: Session, out: &mut [u8; REPLY]) -> usize
-    requires { ⌜ session .held ≤ tooMany ⌝ }
-    ensures { λ r. ⌜ TextWritten (transcriptIn Operations session nothing []) (now (out .entry)) (now (out .exit)) r ⌝ }
-{
-    let bytes = session.bytes;
-    let held = session.held;
-    if held == 0 {
-        return 0;
-    }
-    let run = session.run;
-    let reply = replies::answer(run, operations::operation_of(&bytes[..held]), out);
-    reply.length
-}
-
-// The stage of a session; one whose numbers are outside its bytes is over.
-fn stage_of(session: Session) -> Stage
-    ensures { λ r. ⌜ r ≡ stageOf session ⌝ }
-{
-    if session.held < session.from {
-        return Stage::Over;
-    }
-    if TOO_MANY < session.held {
-        return Stage::Over;
-    }
-    session.stage
+    fed_with(Stage::Operations, run, 0, 0)
 }
 
 impl Session {
@@ -228,50 +96,34 @@ impl Session {
         let none = [0u32; 1];
         let started = run::start(&none);
         let run = started.run;
-        let stage = Stage::Table;
-        let bytes = [0u8; TOO_MANY];
         Session {
-            stage: stage,
-            bytes: bytes,
-            from: 0,
-            held: 0,
+            stage: Stage::Table,
             run: run,
         }
     }
 
-    // Takes bytes of a chunk, at least one where there is one, and writes the replies to them.
-    pub fn feed(self, chunk: &[u8], out: &mut [u8; REPLY]) -> Fed
-        ensures { λ r. ⌜ FedOf self (now (chunk .entry)) (now (out .entry)) (now (out .exit)) r ⌝ }
+    // Takes the table or a line of the bytes, where it has ended or the input has, and writes the reply to it; what is left is to be fed again.
+    pub fn feed(self, bytes: &[u8], ended: bool, out: &mut [u8; REPLY]) -> Fed
+        ensures { λ r. ⌜ FedOf self ended (now (bytes .entry)) (now (out .entry)) (now (out .exit)) r ⌝ }
     {
-        let stage = stage_of(self);
+        let stage = self.stage;
+        let run = self.run;
         match stage {
-            Stage::Table => feed_table(self, chunk, out),
-            Stage::Operations => feed_operations(self, chunk, out),
-            Stage::Over => over(self, chunk.len(), 0),
+            Stage::Table => feed_table(run, bytes, ended, out),
+            Stage::Operations => feed_operations(run, bytes, ended, out),
+            Stage::Over => fed_with(Stage::Over, run, bytes.len(), 0),
         }
     }
 
     // Whether the session is over: it writes nothing any more, whatever comes.
     pub fn is_over(self) -> bool
-        ensures { λ r. ⌜ r ≡ isOver (stageOf self) ⌝ }
+        ensures { λ r. ⌜ r ≡ isOver (self .stage) ⌝ }
     {
-        let stage = stage_of(self);
+        let stage = self.stage;
         match stage {
             Stage::Table => false,
             Stage::Operations => false,
             Stage::Over => true,
-        }
-    }
-
-    // Writes the rest of the transcript where no more bytes come.
-    pub fn end(self, out: &mut [u8; REPLY]) -> usize
-        ensures { λ r. ⌜ LastOf self (now (out .entry)) (now (out .exit)) r ⌝ }
-    {
-        let stage = stage_of(self);
-        match stage {
-            Stage::Table => end_table(self, out),
-            Stage::Operations => end_operations(self, out),
-            Stage::Over => 0,
         }
     }
 }

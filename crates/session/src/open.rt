@@ -1,12 +1,8 @@
 // The table of a session, and the run that it starts.
 ghost use mathlib.Core.Path.{_≡_};
-ghost use Rattle.session.specs.Transcript.{isDashes};
 ghost use Rattle.text.specs.Format.{wordsOf, numbersIn};
 ghost use Rattle.run.specs.Start.{startOf};
 ghost use Rattle.session.specs.Session.{OpenedOf};
-ghost use mathlib.Core.Bool.{cond};
-ghost use Prim.Native.Nat.{_≤_, _-_};
-ghost use lib.ListN.{length, take, drop};
 use crate::REPLY;
 use crate::replies;
 use run::Run;
@@ -17,27 +13,6 @@ pub struct Opened {
     pub run: Run,
     pub length: usize,
     pub over: bool,
-}
-
-// Whether a line is `--`.
-pub fn is_dashes(line: &[u8]) -> bool
-    ensures { λ r. ⌜ r ≡ isDashes (now (line .entry)) ⌝ }
-{
-    if line.len() == 2 {
-        return (line[0] == b'-') & (line[1] == b'-');
-    }
-    false
-}
-
-// Where the table ends, whose last line begins at `from`: before a line `--`, else after it.
-pub(crate) fn table_end(bytes: &[u8], from: usize, held: usize) -> usize
-    requires { ⌜ (from ≤ held) × (held ≤ length (now bytes)) ⌝ }
-    ensures { λ r. ⌜ r ≡ cond (isDashes (take (held - from) (drop from (now (bytes .entry))))) from held ⌝ }
-{
-    if is_dashes(&bytes[from..held]) {
-        return from;
-    }
-    held
 }
 
 // The start of the run of a table's text.

@@ -1,16 +1,17 @@
 // The operation of a line.
 ghost use mathlib.Core.Path.{_≡_};
-ghost use Rattle.session.specs.Operation.{operationOf, numbersAfter, oneOf, twoOf, advanceBy, rowBy, setsBy, withdrawBy, withdrawAllBy};
+ghost use Rattle.session.specs.Operation.{operationOf, numbersAfter, oneOf, twoOf, advanceBy, rowBy, setsBy, workingBy, withdrawBy, withdrawAllBy};
 use text::line::ParsedNumber;
 
 // An advance with its reports and its empties, a position withdrawn, the positions of a set withdrawn together, a row asked with empties, one asked as
-// sets, or nothing that a run can do.
+// sets, who works asked, or nothing that a run can do.
 pub enum Operation {
     Advance(u32, u32),
     Withdraw(u32),
     WithdrawAll(u32),
     Row(u32),
     Sets(u32),
+    Working(u32),
     Nothing,
 }
 
@@ -100,6 +101,18 @@ fn sets_by(numbers: Numbers) -> Operation
     }
 }
 
+// The question who works, with the number after its letter.
+fn working_by(numbers: Numbers) -> Operation
+    ensures { λ r. ⌜ r ≡ workingBy numbers ⌝ }
+{
+    match numbers {
+        Numbers::Bare => Operation::Working(0),
+        Numbers::One(empties) => Operation::Working(empties),
+        Numbers::Two(_, _) => Operation::Nothing,
+        Numbers::Other => Operation::Nothing,
+    }
+}
+
 // A withdrawal of the position after its letter.
 fn withdraw_by(numbers: Numbers) -> Operation
     ensures { λ r. ⌜ r ≡ withdrawBy numbers ⌝ }
@@ -124,7 +137,7 @@ fn withdraw_all_by(numbers: Numbers) -> Operation
     }
 }
 
-// The operation of a line: `a REPORTS EMPTIES`, `r EMPTIES`, `s EMPTIES`, `w POSITION`, `W SET`, or none.
+// The operation of a line: `a REPORTS EMPTIES`, `r EMPTIES`, `s EMPTIES`, `j EMPTIES`, `w POSITION`, `W SET`, or none.
 pub fn operation_of(line: &[u8]) -> Operation
     ensures { λ r. ⌜ r ≡ operationOf (now (line .entry)) ⌝ }
 {
@@ -147,6 +160,9 @@ pub fn operation_of(line: &[u8]) -> Operation
     }
     if line[0] == b's' {
         return sets_by(numbers);
+    }
+    if line[0] == b'j' {
+        return working_by(numbers);
     }
     Operation::Nothing
 }

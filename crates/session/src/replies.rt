@@ -7,7 +7,7 @@ ghost use lib.ListN.{length, take};
 ghost use Rattle.text.specs.Decimal.{decimal};
 ghost use Rattle.text.specs.Output.{fields, letters, lineOf, space};
 ghost use Rattle.text.specs.Written.{Put};
-ghost use Rattle.session.specs.Operation.{wordLine, answerLine, shownLine, setsLine, reply, runAfter, isLast};
+ghost use Rattle.session.specs.Operation.{wordLine, answerLine, shownLine, setsLine, workingLine, reply, runAfter, isLast};
 ghost use Rattle.session.specs.Session.{TextWritten};
 use crate::REPLY;
 use crate::operations::Operation;
@@ -18,6 +18,7 @@ use run::Answer;
 use run::Row;
 use run::Run;
 use run::Sets;
+use run::WorkingPositions;
 use text::decimal;
 use text::first;
 use text::row;
@@ -140,6 +141,28 @@ fn write_sets(shown: Sets, out: &mut [u8; REPLY]) -> usize
     }
 }
 
+// Writes the set of the positions that work.
+fn write_positions(set: u32, out: &mut [u8; REPLY]) -> usize
+    ensures { λ r. ⌜ TextWritten (lineOf (letters "working") (set ∷ [])) (now (out .entry)) (now (out .exit)) r ⌝ }
+{
+    let start = row::copy(b"working", 0, 7, out, 0);
+    let end = put_set(out, start, set as u64);
+    out[end] = b'\n';
+    end + 1
+}
+
+// Writes who works, or its refusal.
+fn write_working(asked: WorkingPositions, out: &mut [u8; REPLY]) -> usize
+    ensures { λ r. ⌜ TextWritten (workingLine (asked .answer) (asked .set)) (now (out .entry)) (now (out .exit)) r ⌝ }
+{
+    let answer = asked.answer;
+    let set = asked.set;
+    match answer {
+        Answer::Taken => write_positions(set, out),
+        Answer::Refused(number, position) => write_refused(number, position, out),
+    }
+}
+
 // Does an operation, and writes the reply to it.
 pub(crate) fn answer(run: Run, operation: Operation, out: &mut [u8; REPLY]) -> Reply
     ensures { λ r. ⌜ TextWritten (reply operation run) (now (out .entry)) (now (out .exit)) (r .length) × (r .run ≡ runAfter operation run) × (r .last ≡ isLast operation) ⌝ }
@@ -160,6 +183,15 @@ pub(crate) fn answer(run: Run, operation: Operation, out: &mut [u8; REPLY]) -> R
         Operation::Sets(empties) => {
             let shown = run.sets(empties);
             let length = write_sets(shown, out);
+            Reply {
+                run: run,
+                length: length,
+                last: false,
+            }
+        }
+        Operation::Working(empties) => {
+            let asked = run.working(empties);
+            let length = write_working(asked, out);
             Reply {
                 run: run,
                 length: length,

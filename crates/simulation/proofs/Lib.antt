@@ -1,4 +1,5 @@
--- The relation of the machine to the full-length run of the book: from one line of jobs and one place to a tick and to a whole run.
+-- The relation of the machine to the full-length run of the book: from one line of jobs and one place to a tick and to a whole run; and from one event to
+-- the next, where nothing changes between.
 pub mod Examples
 pub mod Lines
 pub mod Places
@@ -17,3 +18,19 @@ pub mod SameClaimants
 pub mod Refines
 pub mod Fields
 pub mod Steps
+pub mod AtTick
+pub mod RefinesTick
+pub mod Upcoming
+pub mod Represents
+pub mod Between
+pub mod BetweenEvents
+pub mod SetWalk
+pub mod Passing
+pub mod JumpStep
+pub mod Shortest
+pub mod DuePlaces
+pub mod Handled
+pub mod JumpLands
+pub mod Taken
+pub mod AreEvents
+pub mod EventExamples

@@ -1,5 +1,5 @@
 -- One tick of any run: the machine, with the choice that is kept while the claimants and their widths are unchanged.
--- A tick preserves the relation to the table's full-length run: this is proved where the table is known, in crate `judge`.
+-- A tick preserves the relation to the table's full-length run: `refines-on` in proofs/RefinesTick.antt.
 use mathlib.Core.Path.{_≡_}
 use mathlib.Core.Bool.{Bool, not, _&&_, cond}
 use mathlib.Core.List.{List, _++_, map}

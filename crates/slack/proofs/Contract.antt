@@ -22,8 +22,8 @@ use Rattle.table.specs.Load.{LoadOf, loadMeaning}
 use Rattle.table.specs.Numbers as numbers
 use Rattle.table.specs.Numbers.{Earlier, place}
 use Rattle.table.specs.Words.{tableOf}
-use Rattle.judge.proofs.Contract.{same-table}
-use Rattle.judge.specs.Judged.{loadedTable}
+use Rattle.table.proofs.Fit.{same-table}
+use Rattle.table.specs.Fit.{loadedTable}
 use Rattle.slack.specs.declared.SlackAnswer.{SlackAnswer}
 use Rattle.slack.specs.Answer.{SlackOf, slackIn, givenSlack, hasSlack, slackAnswer, slackBy, slackOf, noSlack}
 use Rattle.slack.specs.Numbers.{Applies, First, NoneApplies, twenty-three, words}

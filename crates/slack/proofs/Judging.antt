@@ -11,10 +11,10 @@ use Rattle.model.specs.Horizon.{horizon}
 use Rattle.model.specs.Task.{Task, greedy, limited, ruleOf}
 use Rattle.table.specs.declared.Loaded.{Loaded}
 use Rattle.judge.proofs.FirstMiss.{never-found, one-found}
-use Rattle.judge.specs.declared.misses.Missed.{Missed}
-use Rattle.judge.specs.declared.misses.Missed.the-variants.{Never, At}
+use Rattle.judge.specs.declared.Missed.{Missed}
+use Rattle.judge.specs.declared.Missed.the-variants.{Never, At}
 use Rattle.judge.specs.FirstMiss.{missedBefore}
-use Rattle.judge.specs.Judged.{Fit, loadedTable}
+use Rattle.table.specs.Fit.{Fit, loadedTable}
 use Rattle.slack.specs.Ordered.{ordered}
 use Rattle.slack.specs.Slack.{misses}
 

@@ -13,7 +13,7 @@ use Rattle.table.specs.declared.Loaded.{Loaded}
 use Rattle.table.specs.declared.Task.{Task}
 use Rattle.table.specs.Limits.{mostTime}
 use Rattle.table.specs.Task.{noTask, taskOf, tasksOf}
-use Rattle.judge.specs.Judged.{Fit, loadedTable}
+use Rattle.table.specs.Fit.{Fit, loadedTable}
 use Rattle.slack.specs.Longer.{TableLengthened, grown, lengthen}
 use Rattle.slack.proofs.Grown.{grown-longer, horizon-longer, period-longer, valid-grown, start-longer}
 

@@ -6,12 +6,12 @@ ghost use Rattle.model.specs.Sizes.{mostTasks};
 ghost use Rattle.model.specs.Task.{ruleOf, task};
 ghost use Rattle.table.specs.Limits.{mostTime};
 ghost use Rattle.table.specs.Task.{tasksOf};
-ghost use Rattle.judge.specs.Judged.{loadedTable, Fit};
+ghost use Rattle.table.specs.Fit.{loadedTable, Fit};
 ghost use Rattle.slack.specs.Answer.{slackIn, hasSlack};
 ghost use Rattle.slack.specs.Longer.{grown};
 ghost use Rattle.slack.specs.Ordered.{ordered};
 ghost use Rattle.slack.specs.Slack.{misses, slack};
-use judge::misses::Missed;
+use judge::Missed;
 use model::MOST_TASKS;
 use table::Loaded;
 use table::Task;
@@ -21,7 +21,7 @@ fn misses(table: Loaded) -> bool
     requires { ⌜ Fit table ⌝ }
     ensures { λ r. ⌜ r ≡ misses (loadedTable table) ⌝ }
 {
-    let missed = fast_judge::first_miss(table, table.horizon + 1);
+    let missed = judge::fastest::first_miss(table, table.horizon + 1);
     match missed {
         Missed::Never => false,
         Missed::At(_, _) => true,

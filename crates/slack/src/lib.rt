@@ -1,6 +1,6 @@
 // Slack: by how many ticks each task of a table alone may become longer.
 ghost use mathlib.Core.Path.{_≡_};
-ghost use Rattle.judge.specs.Judged.{loadedTable, Fit};
+ghost use Rattle.table.specs.Fit.{loadedTable, Fit};
 ghost use Rattle.slack.specs.Answer.{slackIn, hasSlack, slackAnswer, noSlack, SlackOf};
 use model::MOST_TASKS;
 use table::Answer;

@@ -2,7 +2,7 @@
 ghost use mathlib.Core.Path.{_≡_};
 ghost use Prim.Native.Nat.{_+_, _≤_};
 ghost use lib.ListN.{length};
-ghost use Rattle.stream.specs.Reading.{ReadOnceOf, FilledOf};
+ghost use Rattle.stream.specs.Reading.{ReadOnceOf, FilledOf, MovedToFront};
 ghost use Rattle.stream.specs.Sent.{saturated, unreadBy, SentOf};
 use libc::STDERR_FILENO;
 use libc::STDIN_FILENO;
@@ -62,6 +62,20 @@ pub fn fill(buffer: &mut [u8], held: usize) -> Reading
         }
     }
     reading
+}
+
+// Moves the bytes from a place up to another to the front of the buffer; returns how many they are.
+pub fn move_to_front(buffer: &mut [u8], from: usize, end: usize) -> usize
+    requires { ⌜ (from ≤ end) × (end ≤ length (now buffer)) ⌝ }
+    ensures { λ r. ⌜ MovedToFront from end (now (buffer .entry)) (now (buffer .exit)) r ⌝ }
+{
+    let count = end - from;
+    let mut k: usize = 0;
+    while k < count {
+        buffer[k] = buffer[from + k];
+        k += 1;
+    }
+    count
 }
 
 // A count and more, which stops at the largest number that a count can be.

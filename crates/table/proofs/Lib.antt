@@ -17,6 +17,7 @@ pub mod Inside
 pub mod Walking
 pub mod Loads
 pub mod Passed
+pub mod Fit
 pub mod Contract
 pub mod OffChain
 pub mod UnfencedWords

@@ -11,7 +11,8 @@ use borrow.Author.Tests.{eqb-true, eqb-false}
 use Rattle.model.specs.Task.{Table, absentTask, ruleOf}
 use Rattle.model.proofs.Bools.{not-true-false}
 use Rattle.model.proofs.Search.{any-same}
-use Rattle.table.specs.declared.Answer.the-variants.{Passed}
+use Rattle.table.specs.declared.Answer.{Answer}
+use Rattle.table.specs.declared.Answer.the-variants.{Passed, Refused}
 use Rattle.table.specs.declared.Loaded.{Loaded}
 use Rattle.table.specs.declared.chain.Ending.the-variants.{Past, Again, Whole}
 use Rattle.table.specs.Words.{headerWords, recordWords, coreCount, rule, fenceOf, records, field, next, visited, count, taskOfRecord, tableOf}
@@ -176,3 +177,13 @@ module _ (ws us : List ℕ) (s : SameOnChain ws us) where
       same-table
       (not-true-false (outOfRangeAt ws (lastStep ws)) (λ x. none 5 0 (five-decides ws .0 x)))
       (not-true-false (repeatedAt ws (lastStep ws)) (λ x. none 6 0 (six-decides ws .0 x)))
+
+  -- so every value that is made from the answer and the table, and in a refusal from the answer alone, is the same
+  pub off-chain-by :
+      {A : Type 0} (f : Answer → Table → A) → ((n p : ℕ) (a b : Table) → f (Refused n p) a ≡ f (Refused n p) b)
+      → f (answerOf ws) (tableOf ws) ≡ f (answerOf us) (tableOf us)
+  off-chain-by f alone = ap (λ (x : Answer). f x (tableOf ws)) off-chain-answer ∙ go (answerOf us) refl
+    where
+      go : (x : Answer) → answerOf us ≡ x → f (answerOf us) (tableOf ws) ≡ f (answerOf us) (tableOf us)
+      go Passed e = ap (f (answerOf us)) (off-chain-table (off-chain-answer ∙ e))
+      go (Refused n p) e = rw e (alone n p (tableOf ws) (tableOf us))

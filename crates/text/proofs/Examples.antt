@@ -6,7 +6,6 @@ use Prim.Native.String.{String}
 use lib.ListN.{replicate}
 use Rattle.model.specs.Task.{Table, greedy, idling, lending, limited}
 use Rattle.model.proofs.Computing.{computing}
-use Rattle.model.proofs.LineByLine.{LineByLine, by-line}
 use Rattle.model.proofs.Examples.{A, fencedOn, on, t, t₂}
 use Rattle.text.specs.Decimal.{all, value, decimal, lastDigits, digitCount, digitsWithin}
 use Rattle.text.specs.Format.{Words, readWords, noText, wordsOf, lines, isNumber, textOf}
@@ -43,15 +42,9 @@ cases =
     ∷ []
 
 -- the value by the definitions of a text; a case is named by its text
-abbrev read : Case → Case
-read c = case (c .text) (wordsOf (letters (c .text)))
-
-each-text : LineByLine read cases cases
-unfolding wordsOf lines isNumber all value
-each-text = (refl, (refl, (refl, (refl, (refl, (refl, (refl, (refl, (refl, (refl, (refl, (refl, (refl, tt)))))))))))))
-
 pub texts : map (λ c. case (c .text) (wordsOf (letters (c .text)))) cases ≡ cases
-texts = by-line read cases cases each-text
+unfolding wordsOf lines isNumber all value
+texts = refl
 
 -- H: the numbers of 32 records are read, those of 33 are not
 pub most-read : wordsOf (textOf (replicate 229 0)) ≡ readWords (replicate 229 0)
@@ -89,18 +82,9 @@ prints =
     ∷ []
 
 -- what is printed for a table, and what is to be
-abbrev printing : Print → List ℕ
-printing p = printed (p .table)
-
-abbrev expected : Print → List ℕ
-expected p = letters (p .text)
-
-each-print : LineByLine printing prints (map expected prints)
-unfolding printed firstLine rowLine rowLines lineOf fields decimal lastDigits digitCount digitsWithin computing
-each-print = (refl, (refl, (refl, (refl, (refl, (refl, (refl, (refl, tt))))))))
-
 pub prints-exact : map (λ p. printed (p .table)) prints ≡ map (λ p. letters (p .text)) prints
-prints-exact = by-line printing prints (map expected prints) each-print
+unfolding printed firstLine rowLine rowLines lineOf fields decimal lastDigits digitCount digitsWithin computing
+prints-exact = refl
 
 -- a refusal
 pub refusal : firstLine (refused 8 12) ≡ letters "refused 8 12\n"

@@ -13,3 +13,4 @@ pub mod FirstPrinted
 pub mod Writing
 pub mod RowText
 pub mod Examples
+pub mod OffChain

@@ -25,7 +25,7 @@ fn verdict_on(bytes: &[u8]) -> Verdict
     let input = text::read(bytes);
     let words = input.words;
     let count = input.count;
-    fast_judge::judge(&words[..count])
+    judge::judge(&words[..count])
 }
 
 // Writes the verdict's line.

@@ -1,7 +1,7 @@
 -- `interference::response_bounds` meets its contract: the test of the table that was loaded is the answer. Assumes nothing.
 use borrow.Author.Needs.{needs}
 use denote.Ref.{now}
-use Rattle.judge.proofs.Contract.{fit}
+use Rattle.table.proofs.Fit.{fit}
 use Rattle.interference.proofs.Contract.{loaded-contract, refused-contract}
 use Rattle.interference.proofs.response_bounds.Statement.{statement}
 use Rattle.interference.proofs.response_bounds.Tie as tie

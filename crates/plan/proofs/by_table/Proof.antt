@@ -6,7 +6,7 @@ use mathlib.Core.Path.{refl, sym, _∙_}
 use mathlib.Core.Bool.{true, false}
 use Prim.Native.Nat.{_-_, _≤_}
 use lib.ListN.{length}
-use Rattle.judge.specs.Judged.{loadedTable}
+use Rattle.table.specs.Fit.{loadedTable}
 use Rattle.judge.proofs.FirstMiss.{never-found, one-found}
 use Rattle.plan.proofs.Cases.{above, beyond, too-short, long-enough}
 use Rattle.plan.proofs.by_table.Statement.{statement}

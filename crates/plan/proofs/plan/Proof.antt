@@ -2,7 +2,7 @@
 use borrow.Author.Needs.{needs}
 use mathlib.Core.Path.{refl}
 use denote.Ref.{now}
-use Rattle.judge.proofs.Contract.{fit}
+use Rattle.table.proofs.Fit.{fit}
 use Rattle.plan.proofs.Contract.{cores-most, passed-plan, refused-plan}
 use Rattle.plan.proofs.plan.Statement.{statement}
 use Rattle.plan.proofs.plan.Tie as tie

@@ -5,7 +5,7 @@ use native.Mathlib.Omega.{arith}
 use mathlib.Core.Path.{_∙_, _≡_, sym}
 use Prim.Native.Nat.{_<_}
 use lib.ListN.{length}
-use Rattle.session.specs.Transcript.{tooMany}
+use Rattle.splitter.specs.Split.{tooMany}
 use Rattle.plan_checker.proofs.Rounds.{again-room}
 use Rattle.plan_checker.proofs.main.Statement.{statement}
 use Rattle.plan_checker.proofs.main.Tie as tie

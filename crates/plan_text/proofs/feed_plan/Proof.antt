@@ -2,131 +2,139 @@
 -- Assumes nothing.
 use borrow.Author.Needs.{needs}
 use native.Mathlib.Omega.{arith}
-use mathlib.Core.Path.{_∙_, _≡_, ap, refl, subst⁻¹, sym}
-use mathlib.Core.List.{List}
-use Prim.Native.Nat.{_+_, _-_, ℕ}
+use mathlib.Core.Path.{_∙_, refl, subst⁻¹, sym}
+use Prim.Native.Nat.{_+_, _-_, _≤_}
 use lib.ListN.{length}
-use Rattle.plan_text.specs.declared.PlanProgress.{PlanProgress}
-use Rattle.plan_text.specs.declared.LineAnswer.{LineAnswer}
-use Rattle.plan_text.specs.Checked.{isMore}
-use Rattle.plan_text.specs.Check.{PlanFed, ExtentKnown, overWith}
-use Rattle.plan_text.proofs.Feeding.{Taken, line-ends, taken-all, taken-long, taken-next, taken-over, taken-waits}
+use Rattle.plan_text.specs.Check.{FedBy, ExtentKnown}
+use Rattle.plan_text.proofs.Feeding.{Taken, line-ends, moves, next-within, plan-ended, plan-waits, taken-next, taken-over, taken-waits}
 use Rattle.plan_text.proofs.feed_plan.Statement.{statement}
 use Rattle.plan_text.proofs.feed_plan.Tie as tie
 
 abbrev Inv-loop : tie.InvT-loop
-Inv-loop bytes from reach rows₀ at₀ rows at = Taken rows₀ from bytes rows at × ExtentKnown reach (rows .plan)
+Inv-loop bytes from ended extent rows₀ at₀ rows at = Taken rows₀ from ended bytes rows at × ExtentKnown extent (rows .plan)
 
 abbrev μ-loop : tie.MeasureT-loop
-μ-loop bytes from reach rows₀ at₀ rows at = length bytes - at
+μ-loop bytes from ended extent rows₀ at₀ rows at = length bytes - at
 
--- the arguments of the call
-abbrev start : tie.After-end-from Inv-loop μ-loop → PlanProgress
-start e = e .before .before .before .before .before .args .start
+-- the state at the head of the loop
+abbrev loop : tie.After-line Inv-loop μ-loop → tie.At-loop Inv-loop μ-loop
+loop c = c .before .before .before
 
-abbrev from : tie.After-end-from Inv-loop μ-loop → ℕ
-from e = e .before .before .before .before .before .args .from
+-- the state after `line`
+abbrev line : tie.After-step Inv-loop μ-loop → tie.After-line Inv-loop μ-loop
+line c = c .before .before .before .before
 
-abbrev bytes : tie.After-end-from Inv-loop μ-loop → List ℕ
-bytes e = e .before .before .before .before .before .args .bytes .now
+-- the bounds of the line
+ends : (c : tie.After-line Inv-loop μ-loop) → loop c .loop .at + c .line .result .end ≤ length (loop c .before .before .before .args .bytes .now)
+ends c = let a = loop c .before .before .before .args in line-ends (a .start) (a .from) (a .ended) (a .bytes .now) (loop c .loop .rows) _ (c .line .result) (loop c .loop .inv .0) (c .line .ensures)
+
+next : (c : tie.After-line Inv-loop μ-loop) → loop c .loop .at + c .line .result .next ≤ length (loop c .before .before .before .args .bytes .now)
+next c = let a = loop c .before .before .before .args in next-within (a .start) (a .from) (a .ended) (a .bytes .now) (loop c .loop .rows) _ (c .line .result) (loop c .loop .inv .0) (c .line .ensures)
+
+fits : (c : tie.After-line Inv-loop μ-loop) → loop c .loop .at + c .line .result .next ≤ 18446744073709551615
+fits c = omega (arith, next c)
 
 extent-of-requires : tie.Need-extent-of-requires Inv-loop μ-loop
 extent-of-requires c κs = search needs
 
 loop-holds : tie.Need-loop-holds Inv-loop μ-loop
-loop-holds c = ((c .before .before .pre, λ e more. refl), c .extent-of .ensures)
+loop-holds c = ((c .before .before .pre, λ e more _. refl), c .extent-of .ensures)
 
-end-from-requires : tie.Need-end-from-requires Inv-loop μ-loop
-end-from-requires c κs = search needs
+sub-line : tie.Need-sub-line Inv-loop μ-loop
+sub-line c = search needs
 
-sub-if2 : tie.Need-sub-if2 Inv-loop μ-loop
-sub-if2 c = omega (arith, c .before .end-from .ensures)
+part-line-start : tie.Need-part-line-start Inv-loop μ-loop
+part-line-start c = search needs
+
+part-line-end : tie.Need-part-line-end Inv-loop μ-loop
+part-line-end c = search needs
+
+line-requires : tie.Need-line-requires Inv-loop μ-loop
+line-requires c κs = search needs
 
 going-requires : tie.Need-going-requires Inv-loop μ-loop
 going-requires c κs = search needs
 
 returns : tie.Need-returns Inv-loop μ-loop
 returns c =
-    let e = c .before .before .before in
-    subst⁻¹ (PlanFed (start e) (from e) (bytes e)) (c .going .ensures) (taken-waits (start e) (from e) (bytes e) (e .before .before .loop .rows) (e .before .before .loop .at) (e .end-from .result) (e .before .before .loop .inv .0) (e .end-from .ensures) (c .before .before .if1 .taken) (c .before .if2 .taken))
+    let l = c .before .before in
+    let a = loop l .before .before .before .args in
+    subst⁻¹ (FedBy _ _ _ _) (c .going .ensures) (taken-waits (a .start) (a .from) (a .ended) (a .bytes .now) (loop l .loop .rows) (loop l .loop .at) (l .line .result) (loop l .loop .inv .0) (l .line .ensures) (c .before .if1 .left) (l .before .before .loop-test .taken))
+
+add-step : tie.Need-add-step Inv-loop μ-loop
+add-step c = omega (arith, ends (c .before .before))
 
 sub-step : tie.Need-sub-step Inv-loop μ-loop
-sub-step c = omega (arith, c .before .before .end-from .ensures)
+sub-step c = search needs
 
 part-step-start : tie.Need-part-step-start Inv-loop μ-loop
 part-step-start c = search needs
 
 part-step-end : tie.Need-part-step-end Inv-loop μ-loop
-part-step-end c = search needs
+part-step-end c = omega (arith, ends (c .before .before))
 
 step-requires : tie.Need-step-requires Inv-loop μ-loop
-step-requires c κs = c .before .before .before .before .before .loop .inv .1
+step-requires c κs = loop (c .before .before .before) .loop .inv .1
+
+is-more-requires : tie.Need-is-more-requires Inv-loop μ-loop
+is-more-requires c κs = search needs
+
+add-over : tie.Need-add-over Inv-loop μ-loop
+add-over c = omega (arith, fits (line (c .before .before .before .before)))
 
 over-requires : tie.Need-over-requires Inv-loop μ-loop
 over-requires c κs = search needs
 
 returns-2 : tie.Need-returns-2 Inv-loop μ-loop
 returns-2 c =
-    let e = c .before .before .before .before .before .before in
-    subst⁻¹ (PlanFed (start e) (from e) (bytes e)) (c .over .ensures ∙ ap (λ (t : LineAnswer). overWith (t .rows) (t .answer) (e .end-from .result)) (c .before .before .step .ensures .0))
-    (taken-long (start e) (from e) (bytes e) (e .before .before .loop .rows) (e .before .before .loop .at) (e .end-from .result) (e .before .before .loop .inv .0) (e .end-from .ensures) (c .before .before .before .before .before .if1 .taken) (omega (arith, c .before .before .before .before .if2 .left)))
+    let s = c .before .before .before .before .before in
+    let l = line s in
+    let a = loop l .before .before .before .args in
+    subst⁻¹ (FedBy _ _ _ _) (c .over .ensures)
+    (taken-over (a .start) (a .from) (a .ended) (a .bytes .now) (loop l .loop .rows) (loop l .loop .at) (l .line .result) (loop l .loop .inv .0) (l .line .ensures) (s .step .result) (s .before .before .before .if1 .taken) (s .step .ensures .0)
+    (sym (c .before .before .before .is-more .ensures) ∙ c .before .before .if2 .left))
 
-sub-step-2 : tie.Need-sub-step-2 Inv-loop μ-loop
-sub-step-2 c = omega (arith, c .before .end-from .ensures)
+add-at : tie.Need-add-at Inv-loop μ-loop
+add-at c = omega (arith, fits (line (c .before .before .before .before)))
 
-part-step-start-2 : tie.Need-part-step-start-2 Inv-loop μ-loop
-part-step-start-2 c = search needs
+loop-less : tie.Need-loop-less Inv-loop μ-loop
+loop-less c =
+    let l = line (c .before .before .before .before) in
+    let a = loop l .before .before .before .args in
+    omega (arith, next l, l .before .before .loop-test .taken, moves (a .start) (a .from) (a .ended) (a .bytes .now) (loop l .loop .rows) (loop l .loop .at) (l .line .result) (loop l .loop .inv .0) (l .line .ensures) (l .before .before .loop-test .taken))
 
-part-step-end-2 : tie.Need-part-step-end-2 Inv-loop μ-loop
-part-step-end-2 c =
-    let e = c .before in
-    omega (arith, line-ends (start e) (from e) (bytes e) (e .before .before .loop .rows) (e .before .before .loop .at) (e .end-from .result) (e .before .before .loop .inv .0) (e .end-from .ensures))
+loop-again : tie.Need-loop-again Inv-loop μ-loop
+loop-again c =
+    let s = c .before .before .before .before in
+    let l = line s in
+    let a = loop l .before .before .before .args in (
+      taken-next (a .start) (a .from) (a .ended) (a .bytes .now) (loop l .loop .rows) (loop l .loop .at) (l .line .result) (loop l .loop .inv .0) (l .line .ensures) (s .step .result) (s .before .before .before .if1 .taken) (s .step .ensures .0)
+          (sym (c .before .before .is-more .ensures) ∙ c .before .if2 .taken),
+      s .step .ensures .1,
+    )
 
-step-requires-2 : tie.Need-step-requires-2 Inv-loop μ-loop
-step-requires-2 c κs = c .before .before .before .before .loop .inv .1
-
-is-more-requires : tie.Need-is-more-requires Inv-loop μ-loop
-is-more-requires c κs = search needs
-
-add-over : tie.Need-add-over Inv-loop μ-loop
-add-over c =
-    let e = c .before .before .before .before .before .before in
-    omega (arith, line-ends (start e) (from e) (bytes e) (e .before .before .loop .rows) (e .before .before .loop .at) (e .end-from .result) (e .before .before .loop .inv .0) (e .end-from .ensures))
+end-rows-requires : tie.Need-end-rows-requires Inv-loop μ-loop
+end-rows-requires c κs = search needs
 
 over-requires-2 : tie.Need-over-requires-2 Inv-loop μ-loop
 over-requires-2 c κs = search needs
 
 returns-3 : tie.Need-returns-3 Inv-loop μ-loop
 returns-3 c =
-    let e = c .before .before .before .before .before .before .before in
-    subst⁻¹ (PlanFed (start e) (from e) (bytes e)) (c .over2 .ensures ∙ ap (λ (t : LineAnswer). overWith (t .rows) (t .answer) (e .end-from .result + 1)) (c .before .before .before .before .step2 .ensures .0))
-    (taken-over (start e) (from e) (bytes e) (e .before .before .loop .rows) (e .before .before .loop .at) (e .end-from .result) (e .before .before .loop .inv .0) (e .end-from .ensures) (c .before .before .before .before .before .before .if1 .left)
-    (sym (ap (λ (t : LineAnswer). isMore (t .answer)) (c .before .before .before .before .step2 .ensures .0)) ∙ sym (c .before .before .is-more .ensures) ∙ c .before .if3 .left))
-
-add-at : tie.Need-add-at Inv-loop μ-loop
-add-at c =
-    let e = c .before .before .before .before .before .before in
-    omega (arith, line-ends (start e) (from e) (bytes e) (e .before .before .loop .rows) (e .before .before .loop .at) (e .end-from .result) (e .before .before .loop .inv .0) (e .end-from .ensures))
-
-loop-less : tie.Need-loop-less Inv-loop μ-loop
-loop-less c =
-    let e = c .before .before .before .before .before .before in
-    omega (arith, e .end-from .ensures, e .before .loop-test .taken)
-
-loop-again : tie.Need-loop-again Inv-loop μ-loop
-loop-again c =
-    let e = c .before .before .before .before .before .before in (
-      subst⁻¹ (λ (t : LineAnswer). Taken (start e) (from e) (bytes e) (t .rows) (e .end-from .result + 1)) (c .before .before .before .step2 .ensures .0)
-          (taken-next (start e) (from e) (bytes e) (e .before .before .loop .rows) (e .before .before .loop .at) (e .end-from .result) (e .before .before .loop .inv .0) (e .end-from .ensures) (c .before .before .before .before .before .if1 .left)
-          (sym (ap (λ (t : LineAnswer). isMore (t .answer)) (c .before .before .before .step2 .ensures .0)) ∙ sym (c .before .is-more .ensures) ∙ c .if3 .taken)),
-      c .before .before .before .step2 .ensures .1,
-    )
+    let l = c .before .before .before .before in
+    let a = l .before .before .before .args in
+    subst⁻¹ (FedBy _ _ _ _) (c .over2 .ensures)
+    (plan-ended (a .start) (a .from) (a .ended) (a .bytes .now) (l .loop .rows) (l .loop .at) (l .loop .inv .0) (omega (arith, c .before .before .before .loop-test .left)) _ (c .before .before .if3 .taken) (c .before .end-rows .ensures))
 
 going-requires-2 : tie.Need-going-requires-2 Inv-loop μ-loop
 going-requires-2 c κs = search needs
 
 returns-4 : tie.Need-returns-4 Inv-loop μ-loop
-returns-4 c = subst⁻¹ (PlanFed _ _ _) (c .going2 .ensures) (taken-all _ _ _ _ _ (c .before .before .loop .inv .0) (omega (arith, c .before .loop-test .left)))
+returns-4 c =
+    let l = c .before .before .before in
+    let a = l .before .before .before .args in
+    subst⁻¹ (FedBy _ _ _ _) (c .going2 .ensures)
+    (plan-waits (a .start) (a .from) (a .ended) (a .bytes .now) (l .loop .rows) (l .loop .at) (l .loop .inv .0) (omega (arith, c .before .before .loop-test .left)) (c .before .if3 .left))
 
 pub feed-plan-spec : {M : Type 1} → statement M
 feed-plan-spec =
@@ -136,26 +144,26 @@ feed-plan-spec =
     μ-loop
     extent-of-requires
     loop-holds
-    end-from-requires
-    sub-if2
+    sub-line
+    part-line-start
+    part-line-end
+    line-requires
     going-requires
     returns
+    add-step
     sub-step
     part-step-start
     part-step-end
     step-requires
-    over-requires
-    returns-2
-    sub-step-2
-    part-step-start-2
-    part-step-end-2
-    step-requires-2
     is-more-requires
     add-over
-    over-requires-2
-    returns-3
+    over-requires
+    returns-2
     add-at
     loop-less
     loop-again
+    end-rows-requires
+    over-requires-2
+    returns-3
     going-requires-2
     returns-4)

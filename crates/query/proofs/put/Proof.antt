@@ -23,6 +23,9 @@ told-4 c = c .before .before
 abbrev told-5 : tie.After-bounds → tie.After-enum-told5
 told-5 c = c .before .before
 
+abbrev told-6 : tie.After-verdict → tie.After-enum-told6
+told-6 c = c .before .before
+
 -- the state at the call
 abbrev entry : tie.After-enum-told → tie.Start
 entry c = c .before .before .before .before
@@ -38,6 +41,9 @@ entry-4 c = c .before .before .before .before
 
 abbrev entry-5 : tie.After-enum-told5 → tie.Start
 entry-5 c = c .before .before .before .before
+
+abbrev entry-6 : tie.After-enum-told6 → tie.Start
+entry-6 c = c .before .before .before .before
 
 enum-told : tie.Need-enum-told
 enum-told c = search needs
@@ -68,6 +74,12 @@ enum-told-5 c = search needs
 
 bounds-requires : tie.Need-bounds-requires
 bounds-requires c κs = search needs
+
+enum-told-6 : tie.Need-enum-told-6
+enum-told-6 c = search needs
+
+verdict-requires : tie.Need-verdict-requires
+verdict-requires c κs = search needs
 
 same-length : tie.Need-same-length
 same-length c = search needs
@@ -119,6 +131,16 @@ returns-5 c =
     let ws = now (entry-5 t .args .words) in
     (y .bounds .ensures .0, y .bounds .ensures .1 ∙ ap (λ (q : Question). answerTo q ws) (sym (t .enum-told5 .given .1)))
 
+same-length-6 : tie.Need-same-length-6
+same-length-6 c = search needs
+
+returns-6 : tie.Need-returns-6
+returns-6 c =
+    let y = c .before .before in
+    let t = told-6 y in
+    let ws = now (entry-6 t .args .words) in
+    (y .verdict .ensures .0, y .verdict .ensures .1 ∙ ap (λ (q : Question). answerTo q ws) (sym (t .enum-told6 .given .1)))
+
 pub put-spec : {M : Type 1} → statement M
 put-spec =
     tie.close
@@ -133,6 +155,8 @@ put-spec =
     slack-requires
     enum-told-5
     bounds-requires
+    enum-told-6
+    verdict-requires
     same-length
     returns
     same-length-2
@@ -142,4 +166,6 @@ put-spec =
     same-length-4
     returns-4
     same-length-5
-    returns-5)
+    returns-5
+    same-length-6
+    returns-6)

@@ -55,6 +55,15 @@ slice-aggregate-after-word-5 c = search needs
 after-word-requires-5 : tie.Need-after-word-requires-5
 after-word-requires-5 c κs = search needs
 
+enum-told-6 : tie.Need-enum-told-6
+enum-told-6 c = search needs
+
+slice-aggregate-after-word-6 : tie.Need-slice-aggregate-after-word-6
+slice-aggregate-after-word-6 c = search needs
+
+after-word-requires-6 : tie.Need-after-word-requires-6
+after-word-requires-6 c κs = search needs
+
 returns : tie.Need-returns
 returns c =
     let t = c .before .before in
@@ -85,6 +94,12 @@ returns-5 c =
     let bs = now (t .before .before .before .args .bytes) in
     c .after-word5 .ensures ∙ ap (λ (q : Question). cond (startsWith (wordOf q) bs) (length (wordOf q)) 0) (sym (t .enum-told5 .given .1))
 
+returns-6 : tie.Need-returns-6
+returns-6 c =
+    let t = c .before .before in
+    let bs = now (t .before .before .before .args .bytes) in
+    c .after-word6 .ensures ∙ ap (λ (q : Question). cond (startsWith (wordOf q) bs) (length (wordOf q)) 0) (sym (t .enum-told6 .given .1))
+
 pub table-after-word-spec : {M : Type 1} → statement M
 table-after-word-spec =
     tie.close
@@ -104,8 +119,12 @@ table-after-word-spec =
     enum-told-5
     slice-aggregate-after-word-5
     after-word-requires-5
+    enum-told-6
+    slice-aggregate-after-word-6
+    after-word-requires-6
     returns
     returns-2
     returns-3
     returns-4
-    returns-5)
+    returns-5
+    returns-6)

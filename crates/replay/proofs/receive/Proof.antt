@@ -1,19 +1,11 @@
--- `replay::receive` meets its contract: the session is fed the bytes read. Assumes nothing.
+-- `replay::receive` meets its contract: the session is fed what was left and the bytes read. Assumes nothing.
+use borrow.Author.Needs.{needs}
 use native.Mathlib.Omega.{arith}
 use mathlib.Core.Path.{refl, sym}
 use lib.Seq.{length-take-le}
-use Rattle.replay.proofs.Rounds.{received-unread, received-end, received-bytes}
-use borrow.Author.Needs.{needs}
+use Rattle.replay.proofs.Rounds.{received-unread, received-bytes}
 use Rattle.replay.proofs.receive.Statement.{statement}
 use Rattle.replay.proofs.receive.Tie as tie
-
--- the state where the test `if1` fails
-abbrev else1 : tie.After-feed-chunk → tie.Else1
-else1 c = c .before .before .before
-
--- the state after `read`
-abbrev read-from-else2 : tie.Else2 → tie.After-read
-read-from-else2 c = c .before .before .before .before
 
 read-requires : tie.Need-read-requires
 read-requires c κs = search needs
@@ -28,33 +20,29 @@ same-length : tie.Need-same-length
 same-length c = search needs
 
 returns : tie.Need-returns
-returns c = received-unread _ _ _ (c .before .before .if1 .taken) refl refl
+returns c = let read = c .before .before .before .before .before .read in received-unread _ _ _ _ _ _ (read .ensures) (read .ensures .behind .same) (c .before .before .if1 .taken) refl refl
 
-finish-requires : tie.Need-finish-requires
-finish-requires c κs = search needs
+slice-reshare-prefix-feed-all : tie.Need-slice-reshare-prefix-feed-all
+slice-reshare-prefix-feed-all c = search needs
+
+slice-aggregate-feed-all : tie.Need-slice-aggregate-feed-all
+slice-aggregate-feed-all c = let read = c .before .before .before .before .read in sym (length-take-le _ _ (omega (arith, read .ensures .behind .same, read .ensures .behind .most)))
+
+feed-all-requires : tie.Need-feed-all-requires
+feed-all-requires c κs = search needs
+
+move-to-front-requires : tie.Need-move-to-front-requires
+move-to-front-requires c κs =
+    let read = c .before .before .before .before .before .before .read in
+    let n = length-take-le (read .result .held) (read .last .0) (omega (arith, read .ensures .behind .same, read .ensures .behind .most)) in
+    (omega (arith, n, c .before .feed-all .ensures .taken), omega (arith, read .ensures .behind .same, read .ensures .behind .most))
 
 same-length-2 : tie.Need-same-length-2
 same-length-2 c = search needs
 
 returns-2 : tie.Need-returns-2
-returns-2 c = received-end _ _ _ (c .before .before .if1 .left) (c .before .if2 .taken) (c .finish .ensures) refl
-
-slice-reshare-prefix-feed-chunk : tie.Need-slice-reshare-prefix-feed-chunk
-slice-reshare-prefix-feed-chunk c = search needs
-
-slice-aggregate-feed-chunk : tie.Need-slice-aggregate-feed-chunk
-slice-aggregate-feed-chunk c =
-    let h = read-from-else2 (c .before) in
-    sym (length-take-le (h .read .result .held) (h .read .last .0) (omega (arith, h .read .ensures .behind .most, h .read .ensures .behind .same)))
-
-feed-chunk-requires : tie.Need-feed-chunk-requires
-feed-chunk-requires c κs = search needs
-
-same-length-3 : tie.Need-same-length-3
-same-length-3 c = search needs
-
-returns-3 : tie.Need-returns-3
-returns-3 c = received-bytes _ _ _ (else1 c .if1 .left) (c .before .before .if2 .left) (c .feed-chunk .ensures)
+returns-2 c =
+    received-bytes _ _ _ _ _ _ (c .before .before .before .before .before .before .before .before .before .read .ensures) (c .before .before .before .before .before .before .if1 .left) (c .before .before .before .before .feed-all .ensures) (c .before .before .move-to-front .ensures)
 
 pub receive-spec : {M : Type 1} → statement M
 receive-spec =
@@ -65,11 +53,9 @@ receive-spec =
     report-unread-requires
     same-length
     returns
-    finish-requires
+    slice-reshare-prefix-feed-all
+    slice-aggregate-feed-all
+    feed-all-requires
+    move-to-front-requires
     same-length-2
-    returns-2
-    slice-reshare-prefix-feed-chunk
-    slice-aggregate-feed-chunk
-    feed-chunk-requires
-    same-length-3
-    returns-3)
+    returns-2)

@@ -4,7 +4,7 @@ use borrow.Author.Needs.{needs}
 use native.Mathlib.Omega.{arith}
 use mathlib.Core.Path.{_≡_, sym, ap, _∙_}
 use Prim.Native.Nat.{ℕ}
-use lib.Count.{trailingZeros}
+use lib.Count.{ones, trailingZeros}
 use lib.ListN.{getD, take, length-take}
 use lib.Seq.{getD-take}
 use Rattle.model.specs.Task.{ruleOf}
@@ -12,18 +12,17 @@ use Rattle.model.proofs.Digits.{LowestDigit, lowest-digit}
 use Rattle.rule.specs.Granted.{selection}
 use Rattle.rule.specs.Widths.{widthsIn}
 use Rattle.cores.proofs.Cores.{front-le}
-use Rattle.rule.proofs.Granting.{takes}
 use Rattle.rule.proofs.Serving.{Held, begun, taken, passed-over, over, skipped, all-granted}
 use Rattle.rule.proofs.Widths.{widths-length}
 use Rattle.rule.proofs.grants.Statement.{statement}
 use Rattle.rule.proofs.grants.Tie as tie
 
 abbrev Inv-loop : tie.InvT-loop
-Inv-loop rule free claims even widths count sets₀ set₀ left₀ rest₀ sets set left rest =
-    Held (ruleOf rule) (take count (widthsIn even widths)) claims free count sets rest set left
+Inv-loop rule free claims even widths count sets₀ set₀ rest₀ sets set rest =
+    Held (ruleOf rule) (take count (widthsIn even widths)) claims free count sets rest set
 
 abbrev μ-loop : tie.MeasureT-loop
-μ-loop rule free claims even widths count sets₀ set₀ left₀ rest₀ sets set left rest = rest
+μ-loop rule free claims even widths count sets₀ set₀ rest₀ sets set rest = rest
 
 -- the state at the call
 abbrev entry-from-loop : tie.At-loop Inv-loop μ-loop → tie.Start Inv-loop μ-loop
@@ -96,21 +95,15 @@ read c =
 
 -- the rule's answer to it
 said : (c : tie.After-select Inv-loop μ-loop)
-    → selection (ruleOf (entry-from-select c .args .rule)) (in-loop-from-select c .before .loop .left) (own c) ≡ c .select .result
+    → selection (ruleOf (entry-from-select c .args .rule)) (ones (in-loop-from-select c .before .loop .set)) (own c) ≡ c .select .result
 said c =
     let r = ruleOf (entry-from-select c .args .rule) in
-    ap (selection r (in-loop-from-select c .before .loop .left)) (read c) ∙ sym (c .select .ensures)
+    ap (selection r (ones (in-loop-from-select c .before .loop .set))) (read c) ∙ sym (c .select .ensures)
 
 sub-set : tie.Need-sub-set Inv-loop μ-loop
 sub-set c =
     let l = in-loop-from-lowest c .before .loop in
     front-le (l .set) (width (select c)) (c .lowest .result) (l .inv .whole) (omega (arith, c .lowest .ok)) (c .lowest .ensures)
-
-sub-left : tie.Need-sub-left Inv-loop μ-loop
-sub-left c =
-    let l = in-loop-from-lowest c .before .loop in
-    let a = entry-from-select (select c) .args in
-    takes (ruleOf (a .rule)) (l .left) (width (select c)) (sym (select c .select .ensures) ∙ c .before .enum-told .given .1)
 
 loop-less : tie.Need-loop-less Inv-loop μ-loop
 loop-less c = at-step (in-loop-from-lowest c) .falls
@@ -123,10 +116,9 @@ loop-again c =
     let l = t .before .loop in
     let q = trailingZeros 32 (l .rest) in
     let w = read n in
-    rw (← w)
-    (taken (ruleOf (a .rule)) (take (a .count) (widthsIn (a .even) (a .widths .now))) (a .claims) (a .free) (a .count) (l .sets) (l .rest) (l .set) (l .left)
+    taken (ruleOf (a .rule)) (take (a .count) (widthsIn (a .even) (a .widths .now))) (a .claims) (a .free) (a .count) (l .sets) (l .rest) (l .set)
     q _ (l .inv) (at-step t .lowest) (at-step t .after) (n .before .before .if1 .taken) (c .lowest .result) (omega (arith, c .lowest .ok))
-    (rw w (c .lowest .ensures)) (said n ∙ c .before .enum-told .given .1) (at-step t .place))
+    (rw w (c .lowest .ensures)) (said n ∙ c .before .enum-told .given .1) (at-step t .place)
 
 enum-told-2 : tie.Need-enum-told-2 Inv-loop μ-loop
 enum-told-2 c = search needs
@@ -141,7 +133,7 @@ loop-again-2 c =
     let a = entry-from-loop (t .before) .args in
     let l = t .before .loop in
     passed-over (ruleOf (a .rule)) (take (a .count) (widthsIn (a .even) (a .widths .now))) (a .claims) (a .free) (a .count) (l .sets) (l .rest) (l .set)
-    (l .left) (trailingZeros 32 (l .rest)) _ (l .inv) (at-step t .lowest) (at-step t .after) (said n ∙ c .enum-told2 .given .1)
+    (trailingZeros 32 (l .rest)) _ (l .inv) (at-step t .lowest) (at-step t .after) (said n ∙ c .enum-told2 .given .1)
 
 enum-told-3 : tie.Need-enum-told-3 Inv-loop μ-loop
 enum-told-3 c = search needs
@@ -153,8 +145,8 @@ returns c =
     let a = entry-from-loop (t .before) .args in
     let l = t .before .loop in
     let h = over (ruleOf (a .rule)) (take (a .count) (widthsIn (a .even) (a .widths .now))) (a .claims) (a .free) (a .count) (l .sets) (l .rest) (l .set)
-    (l .left) (trailingZeros 32 (l .rest)) _ (l .inv) (at-step t .lowest) (at-step t .after) (said n ∙ c .enum-told3 .given .1) in
-    all-granted (ruleOf (a .rule)) (widthsIn (a .even) (a .widths .now)) (a .claims) (a .free) (a .count) (l .sets) (l .set) (l .left)
+    (trailingZeros 32 (l .rest)) _ (l .inv) (at-step t .lowest) (at-step t .after) (said n ∙ c .enum-told3 .given .1) in
+    all-granted (ruleOf (a .rule)) (widthsIn (a .even) (a .widths .now)) (a .claims) (a .free) (a .count) (l .sets) (l .set)
     (widths-length (a .even) (a .widths .now)) h
 
 loop-less-3 : tie.Need-loop-less-3 Inv-loop μ-loop
@@ -165,7 +157,7 @@ loop-again-3 c =
     let t = c .before in
     let a = entry-from-loop (t .before) .args in
     let l = t .before .loop in
-    skipped (ruleOf (a .rule)) (take (a .count) (widthsIn (a .even) (a .widths .now))) (a .claims) (a .free) (a .count) (l .sets) (l .rest) (l .set) (l .left)
+    skipped (ruleOf (a .rule)) (take (a .count) (widthsIn (a .even) (a .widths .now))) (a .claims) (a .free) (a .count) (l .sets) (l .rest) (l .set)
     (trailingZeros 32 (l .rest)) _ (l .inv) (at-step t .lowest) (at-step t .after)
     (omega (arith, length-take (a .count) (widthsIn (a .even) (a .widths .now)), c .if1 .left))
 
@@ -174,9 +166,9 @@ returns-2 c =
     let a = entry-from-loop (c .before) .args in
     let l = c .before .loop in
     let z : l .rest ≡ 0 = omega arith in
-    let h : Held (ruleOf (a .rule)) (take (a .count) (widthsIn (a .even) (a .widths .now))) (a .claims) (a .free) (a .count) (l .sets) 0 (l .set) (l .left) =
+    let h : Held (ruleOf (a .rule)) (take (a .count) (widthsIn (a .even) (a .widths .now))) (a .claims) (a .free) (a .count) (l .sets) 0 (l .set) =
     rw (← z) (l .inv) in
-    all-granted (ruleOf (a .rule)) (widthsIn (a .even) (a .widths .now)) (a .claims) (a .free) (a .count) (l .sets) (l .set) (l .left)
+    all-granted (ruleOf (a .rule)) (widthsIn (a .even) (a .widths .now)) (a .claims) (a .free) (a .count) (l .sets) (l .set)
     (widths-length (a .even) (a .widths .now)) h
 
 pub grants-spec : {M : Type 1} → statement M
@@ -195,7 +187,6 @@ grants-spec =
     mul-sets
     array-write-sets
     sub-set
-    sub-left
     loop-less
     loop-again
     enum-told-2

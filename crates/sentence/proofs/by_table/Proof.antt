@@ -8,9 +8,9 @@ use lib.ListN.{length}
 use Rattle.model.specs.Horizon.{horizon}
 use Rattle.model.specs.Verdict.{FirstMiss}
 use Rattle.table.specs.declared.Loaded.{Loaded}
-use Rattle.judge.specs.Judged.{loadedTable, Fit}
-use Rattle.judge.specs.declared.misses.Missed.{Missed}
-use Rattle.judge.specs.declared.misses.Missed.the-variants.{Never, At}
+use Rattle.table.specs.Fit.{loadedTable, Fit}
+use Rattle.judge.specs.declared.Missed.{Missed}
+use Rattle.judge.specs.declared.Missed.the-variants.{Never, At}
 use Rattle.judge.specs.FirstMiss.{missedBefore, MissedOf, missMeaning}
 use Rattle.judge.proofs.FirstMiss.{never-found, one-found}
 use Rattle.sentence.specs.Facts.{Facts}

@@ -3,7 +3,7 @@
 use borrow.Author.Needs.{needs}
 use mathlib.Core.Path.{refl}
 use denote.Ref.{now}
-use Rattle.judge.proofs.Contract.{fit}
+use Rattle.table.proofs.Fit.{fit}
 use Rattle.sentence.proofs.Contract.{short-table, passed-sentence, refused-sentence}
 use Rattle.sentence.proofs.sentence.Statement.{statement}
 use Rattle.sentence.proofs.sentence.Tie as tie

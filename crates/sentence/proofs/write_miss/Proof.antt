@@ -6,8 +6,8 @@ use Prim.Native.Nat.{ℕ, _≤_, _<_}
 use native.Mathlib.Omega.{arith}
 use native.Mathlib.Nat.{zero-add}
 use lib.ListN.{length, replicate, length-replicate}
-use Rattle.judge.specs.Judged.{loadedTable}
-use Rattle.judge.proofs.Ticks.{size, few}
+use Rattle.table.specs.Fit.{loadedTable}
+use Rattle.simulation.proofs.AtTick.{size, few}
 use Rattle.text.specs.Written.{Put}
 use Rattle.text.proofs.Writing.{put-length}
 use Rattle.sentence.specs.Facts.{Facts, factsBy}

@@ -2,7 +2,7 @@
 use mathlib.Core.Bool.{Bool}
 use mathlib.Core.Path.{_≡_, ap, sym, _∙_}
 use borrow.Author.Needs.{needs}
-use Rattle.judge.specs.Judged.{loadedTable}
+use Rattle.table.specs.Fit.{loadedTable}
 use Rattle.slack.specs.Answer.{slackIn, givenSlack, hasSlack, slackAnswer, noSlack}
 use Rattle.slack.proofs.by_table.Statement.{statement}
 use Rattle.slack.proofs.by_table.Tie as tie

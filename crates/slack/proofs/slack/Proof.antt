@@ -1,7 +1,7 @@
 -- `slack::slack` meets its contract: what is made of the table that was loaded is the answer. Assumes nothing.
 use borrow.Author.Needs.{needs}
 use denote.Ref.{now}
-use Rattle.judge.proofs.Contract.{fit}
+use Rattle.table.proofs.Fit.{fit}
 use Rattle.slack.proofs.Contract.{loaded-promise, refused-all}
 use Rattle.slack.proofs.slack.Statement.{statement}
 use Rattle.slack.proofs.slack.Tie as tie

@@ -2,8 +2,8 @@
 -- Assumes nothing.
 use native.Mathlib.Omega.{arith}
 use mathlib.Core.Bool.{false≢true}
-use mathlib.Core.Path.{sym}
-use borrow.Author.Tests.{eqb-false}
+use mathlib.Core.Path.{refl, sym}
+use borrow.Author.Tests.{eqb-true, eqb-false}
 use Rattle.stream.proofs.Moving.{part-behind}
 use borrow.Author.Needs.{needs}
 use Rattle.stream.proofs.read.Statement.{statement}
@@ -47,6 +47,7 @@ returns c =
     record {
       behind = part-behind (a .args .held) (a .args .buffer .now) (read-from-then1 c .read .last .1 .0) _ (a .pre) (same-length c) (omega arith) (a .pre);
       more = λ e f. absurd (false≢true (sym f));
+      none = λ e. refl;
     }
 
 sub-count : tie.Need-sub-count
@@ -73,6 +74,7 @@ returns-2 c =
     record {
       behind = part-behind (a .args .held) (a .args .buffer .now) (read-from-count c .read .last .1 .0) _ (a .pre) (same-length-2 c) (omega arith) (omega (arith, c .count .ensures .0 .0));
       more = λ e f. omega (arith, eqb-false (c .count .result) 0 e);
+      none = λ e. omega (arith, eqb-true (c .count .result) 0 e);
     }
 
 pub read-spec : {M : Type 1} → statement M

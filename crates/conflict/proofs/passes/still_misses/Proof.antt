@@ -4,13 +4,15 @@ use mathlib.Core.Path.{_≡_, ap, subst, sym, _∙_}
 use Prim.Native.Nat.{ℕ}
 use denote.Ref.{now}
 use native.Mathlib.Omega.{arith}
-use lib.ListN.{length, length-take}
+use lib.ListN.{length, length-take, take}
+use lib.Seq.{take-at}
 use borrow.Author.Needs.{needs}
 use Rattle.table.specs.Words.{tableOf}
 use Rattle.judge.specs.declared.Verdict.{Verdict}
 use Rattle.judge.specs.declared.Verdict.the-variants.{Firm, Full, Miss, Refused}
 use Rattle.judge.specs.Judged.{Judged}
 use Rattle.conflict.specs.Conflict.{conflicts}
+use Rattle.conflict.specs.Relinked.{relinked}
 use Rattle.conflict.proofs.Judging.{conflicts-by, verdictMiss}
 use Rattle.conflict.proofs.Relinked.{same-length}
 use Rattle.conflict.proofs.passes.still_misses.Statement.{statement}
@@ -20,11 +22,19 @@ use Rattle.conflict.proofs.passes.still_misses.Tie as tie
 abbrev call : tie.After-judge → tie.Start
 call c = c .before .before .before .before
 
+-- the words of the part are at the front of what `relinked` returns
+front : (c : tie.After-relinked) → (let s = c .before .before in
+    take (length (now (s .args .words))) (c .relinked .result) ≡ relinked (now (s .args .words)) (s .args .kept))
+front c =
+    let s = c .before .before in
+    let ws = now (s .args .words) in
+    ap (take (length ws)) (c .relinked .ensures) ∙ take-at (relinked ws (s .args .kept)) _ (length ws) (same-length ws (s .pre) (s .args .kept))
+
 -- the verdict on the words of the part
 says : (c : tie.After-judge) (u : Verdict) → c .judge .result ≡ u → verdictMiss u ≡ conflicts (tableOf (now (call c .args .words))) (call c .args .kept)
 says c u q =
     let v = c .judge .result in
-    let j = subst (λ (us : List ℕ). Judged us v) (c .before .before .relinked .ensures) (c .judge .ensures) in
+    let j = subst (λ (us : List ℕ). Judged us v) (front (c .before .before)) (c .judge .ensures) in
     sym (conflicts-by (now (call c .args .words)) (call c .pre) (call c .args .kept) v j ∙ ap verdictMiss q)
 
 relinked-requires : tie.Need-relinked-requires
@@ -35,12 +45,12 @@ array-share-prefix-part c =
     let r = c .relinked in
     let s = c .before .before in
     let ws = now (s .args .words) in
-    omega (arith, length-take (length ws) (r .result), ap {B = ℕ} length (r .ensures), same-length ws (s .pre) (s .args .kept))
+    omega (arith, length-take (length ws) (r .result), ap {B = ℕ} length (front c), same-length ws (s .pre) (s .args .kept))
 
 slice-aggregate-judge : tie.Need-slice-aggregate-judge
 slice-aggregate-judge c =
     let s = c .before .before .before in
-    sym (ap {B = ℕ} length (c .before .relinked .ensures) ∙ same-length (now (s .args .words)) (s .pre) (s .args .kept))
+    sym (ap {B = ℕ} length (front (c .before)) ∙ same-length (now (s .args .words)) (s .pre) (s .args .kept))
 
 judge-requires : tie.Need-judge-requires
 judge-requires c κs = search needs

@@ -4,7 +4,7 @@ use mathlib.Core.Path.{subst}
 use Prim.Native.Nat.{ℕ, _-_}
 use native.Mathlib.Omega.{arith}
 use Rattle.model.specs.Interference.{mostHalvings}
-use Rattle.judge.specs.Judged.{loadedTable}
+use Rattle.table.specs.Fit.{loadedTable}
 use Rattle.interference.proofs.Finding.{Halving, halving-done, halving-met, halving-next, halving-start}
 use Rattle.interference.proofs.Sums.{place-limits}
 use Rattle.interference.proofs.search.bound_from.Statement.{statement}

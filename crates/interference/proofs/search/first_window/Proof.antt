@@ -8,7 +8,7 @@ use Rattle.model.specs.Interference.{mostTries}
 use Rattle.model.specs.Task.{task}
 use Rattle.table.specs.Limits.{mostTime}
 use Rattle.table.specs.Task.{noTask}
-use Rattle.judge.specs.Judged.{loadedTable}
+use Rattle.table.specs.Fit.{loadedTable}
 use Rattle.interference.proofs.Finding.{Trying, too-long, try-found, try-last, try-next, try-none, trying-start}
 use Rattle.interference.proofs.Sums.{place-limits}
 use Rattle.interference.proofs.search.first_window.Statement.{statement}

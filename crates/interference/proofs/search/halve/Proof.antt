@@ -3,7 +3,7 @@ use borrow.Author.Needs.{needs}
 use mathlib.Core.Path.{sym, _∙_}
 use native.Mathlib.Numerals.{add-one}
 use native.Mathlib.Omega.{arith}
-use Rattle.judge.specs.Judged.{loadedTable}
+use Rattle.table.specs.Fit.{loadedTable}
 use Rattle.interference.proofs.Finding.{longer-half, shorter-half}
 use Rattle.interference.proofs.Sums.{place-limits}
 use Rattle.interference.proofs.search.halve.Statement.{statement}

@@ -5,7 +5,7 @@ use native.Mathlib.Nat.{lt-of-le-of-lt, mul-le-mul}
 use native.Mathlib.Omega.{arith}
 use lib.Dec.{lit<}
 use Rattle.table.specs.Limits.{mostTime}
-use Rattle.judge.specs.Judged.{loadedTable}
+use Rattle.table.specs.Fit.{loadedTable}
 use Rattle.interference.proofs.Finding.{test-value}
 use Rattle.interference.proofs.Sums.{place-limits}
 use Rattle.interference.proofs.search.passes.Statement.{statement}

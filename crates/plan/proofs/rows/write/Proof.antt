@@ -13,8 +13,8 @@ use Rattle.model.specs.Sizes.{mostCores}
 use Rattle.table.specs.declared.Loaded.{Loaded}
 use Rattle.simulation.specs.TickState.{Numbers, numbersBy, loadedNumbers, TickState, tickStateOf, afterEvents, nextEventAfter, evenAtTick, Steppable, nextTickState}
 use Rattle.simulation.proofs.Steps.{tick-on, chosen-on, even-on}
-use Rattle.judge.specs.Judged.{loadedTable, Fit}
-use Rattle.judge.proofs.Refines.{RefinesTick, refines-start, looked, steppable, refines-on}
+use Rattle.table.specs.Fit.{loadedTable, Fit}
+use Rattle.simulation.proofs.RefinesTick.{RefinesTick, refines-start, handled-after, steppable, refines-on}
 use Rattle.plan.proofs.Late.{all-met}
 use Rattle.plan.specs.Plan.{withRows}
 use Rattle.plan.proofs.Writing.{RowBy, RowFor, Filled, filled-start, filled-pass, filled-room, filled-more, none-changed, row-bytes}
@@ -258,7 +258,7 @@ loop-again c =
           (filled-more t (first-of p) (last-of p) (k .loop .registers .tick) (k .loop .at) _ (found-of p) (k .loop .out) _ (j .if3 .row)
           (k .loop .inv .3) (then2-from-slice-known2 c .if2 .taken) (then1 .if1 .taken) (enough-of p)
           (row-bytes t (fit-of p) (afterEvents (loadedNumbers t) s) (evenAtTick (loadedNumbers t) s) (nextEventAfter (loadedNumbers t) s) (k .loop .registers .tick) (j .if3 .row)
-          (looked t (fit-of p) s (k .loop .inv .0) (met then1)) row)
+          (handled-after t (fit-of p) s (k .loop .inv .0) (met then1)) row)
           refl (c .before .before .put .ensures)),
     )
 

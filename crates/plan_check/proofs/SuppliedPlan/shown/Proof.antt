@@ -6,7 +6,7 @@ use Prim.Native.Nat.{_<_, suc, _≤_}
 use native.Mathlib.Omega.{arith}
 use borrow.Author.Needs.{needs}
 use Rattle.model.specs.Sizes.{mostTasks}
-use Rattle.run.proofs.Limits.{or-left-false}
+use Rattle.model.proofs.Bools.{or-left-false}
 use Rattle.run.proofs.RunOut.{few-cores}
 use Rattle.run.specs.declared.Run.{Run}
 use Rattle.plan_check.specs.Numbers.{afterRow, missed}

@@ -22,7 +22,7 @@ far :
     → horizonOut (c .before .before .last-start .result + c .before .hyperperiod .result) ≡ horizonOut (horizonIn (c .before .before .before .before .args .run))
 far c =
     let s = c .before .before .before in
-    horizon-out (s .before .args .run) (s .parameters .result) _ _ (s .parameters .ensures) (c .before .before .last-start .ensures) (c .before .hyperperiod .ensures)
+    horizon-out (s .before .args .run) (s .parameters .result) _ _ (s .parameters .ensures .1) (c .before .before .last-start .ensures) (c .before .hyperperiod .ensures)
 
 -- the run passes 14
 passed : (s : tie.Start) → runOut (s .args .run) ≡ false
@@ -35,13 +35,13 @@ last-start-requires : tie.Need-last-start-requires
 last-start-requires c κs =
     let s = c .before in
     let r = s .args .run in
-    (some-tasks r (passed s), (few r (passed s), plain-within r (passed s) (c .parameters .result) (c .parameters .ensures)))
+    (some-tasks r (passed s), (few r (passed s), plain-within r (passed s) (c .parameters .result) (c .parameters .ensures .1)))
 
 hyperperiod-requires : tie.Need-hyperperiod-requires
 hyperperiod-requires c κs =
     let s = c .before .before in
     let r = s .args .run in
-    (few r (passed s), plain-within r (passed s) (c .before .parameters .result) (c .before .parameters .ensures))
+    (few r (passed s), plain-within r (passed s) (c .before .parameters .result) (c .before .parameters .ensures .1))
 
 horizon-out-requires : tie.Need-horizon-out-requires
 horizon-out-requires c κs = search needs
@@ -68,7 +68,7 @@ returns-2 c =
     let r = s .before .args .run in
     let near = sym (t .horizon-out .ensures) ∙ c .if1 .left in
     let n = number-none r (s .before .pre) (sym (far t) ∙ near) in
-    let ready = horizon-near r (s .parameters .result) _ _ (s .parameters .ensures) (t .before .before .last-start .ensures) (t .before .hyperperiod .ensures) near (s .before .pre) in
+    let ready = horizon-near r (s .parameters .result) _ _ (s .parameters .ensures .1) (t .before .before .last-start .ensures) (t .before .hyperperiod .ensures) near (s .before .pre) in
     record { value = extent-near r _ _ n ready; number = sym n; ready = λ _. ready }
 
 pub by-tasks-spec : {M : Type 1} → statement M

@@ -2,7 +2,7 @@
 -- Assumes nothing.
 use borrow.Author.Needs.{needs}
 use Rattle.plan_text.specs.declared.Stage.the-variants.{Plan, Table}
-use Rattle.plan_text.proofs.Ending.{fed-done, fed-in}
+use Rattle.plan_text.proofs.Feeding.{fed-done, fed-in}
 use Rattle.plan_text.proofs.Check.feed.Statement.{statement}
 use Rattle.plan_text.proofs.Check.feed.Tie as tie
 
@@ -22,13 +22,13 @@ enum-told-3 : tie.Need-enum-told-3
 enum-told-3 c = search needs
 
 returns : tie.Need-returns
-returns c = fed-in _ Table _ _ (c .before .enum-told .given .1) (c .feed-table .ensures)
+returns c = fed-in _ Table _ _ _ (c .before .enum-told .given .1) (c .feed-table .ensures)
 
 returns-2 : tie.Need-returns-2
-returns-2 c = fed-in _ Plan _ _ (c .before .enum-told2 .given .1) (c .feed-plan .ensures .fed)
+returns-2 c = fed-in _ Plan _ _ _ (c .before .enum-told2 .given .1) (c .feed-plan .ensures)
 
 returns-3 : tie.Need-returns-3
-returns-3 c = fed-done _ _ (c .enum-told3 .given .1)
+returns-3 c = fed-done _ _ _ (c .enum-told3 .given .1)
 
 pub feed-spec : {M : Type 1} → statement M
 feed-spec =

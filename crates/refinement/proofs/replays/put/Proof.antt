@@ -1,13 +1,12 @@
--- `refinement::replays::put` meets its contract. The loop's invariant: the first i bytes are the row's, and the others are as found (`written-more`).
+-- `refinement::replays::put` meets its contract. The loop's invariant: the first i bytes are the row's, and the others are as found (`front-more`).
 -- Assumes nothing.
-use mathlib.Core.Path.{_≡_, sym, ap, _∙_}
-use mathlib.Core.List.{List, _++_}
-use Prim.Native.Nat.{ℕ, _+_, _-_, _≤_}
+use mathlib.Core.Path.{_≡_, _∙_}
+use mathlib.Core.List.{_++_}
+use Prim.Native.Nat.{_-_, _≤_}
 use native.Mathlib.Omega.{arith}
-use lib.ListN.{length, getD, take, drop, length-set}
-use lib.Seq.{length-take-le, take-all}
+use lib.ListN.{length, take, drop, length-set}
 use borrow.Author.Needs.{needs}
-use Rattle.run.proofs.Written.{written-more, take-more}
+use Rattle.run.proofs.Written.{front-more, front-all}
 use Rattle.refinement.proofs.replays.put.Statement.{statement}
 use Rattle.refinement.proofs.replays.put.Tie as tie
 use Rattle.model.specs.Sizes.{mostCores}
@@ -37,11 +36,8 @@ loop-again : tie.Need-loop-again Inv-loop μ-loop
 loop-again c =
     let s = c .before in
     let a = s .before .args in
-    let i = s .loop .i in
     let len : length (a .t1) ≡ mostCores = search needs in
-    let n : length (take i (a .t1)) ≡ i = length-take-le i (a .t1) (omega arith) in
-    let more = written-more (take i (a .t1)) (a .bytes .now) i (getD (a .t1) i 0) 0 n (omega arith) in
-    (omega arith, (simp length-set (s .loop .inv .1 .0), simp (s .loop .inv .1 .1) (more ∙ ap (λ (l : List ℕ). l ++ drop (i + 1) (a .bytes .now)) (sym (take-more (a .t1) i 0 (omega arith))))))
+    (omega arith, (simp length-set (s .loop .inv .1 .0), simp (s .loop .inv .1 .1) (front-more (a .t1) (a .bytes .now) (s .loop .i) 0 (omega arith) (omega arith))))
 
 same-length : tie.Need-same-length Inv-loop μ-loop
 same-length c = c .before .loop .inv .1 .0
@@ -50,9 +46,7 @@ returns : tie.Need-returns Inv-loop μ-loop
 returns c =
     let s = c .before in
     let a = s .before .args in
-    let len : length (a .t1) ≡ mostCores = search needs in
-    let e : s .loop .i ≡ mostCores = omega arith in
-    s .loop .inv .1 .1 ∙ (ap (λ (k : ℕ). take k (a .t1) ++ drop k (a .bytes .now)) e ∙ ap (λ (l : List ℕ). l ++ drop mostCores (a .bytes .now)) (take-all mostCores (a .t1) (omega arith)))
+    s .loop .inv .1 .1 ∙ front-all (a .t1) (a .bytes .now) (s .loop .i) mostCores (omega arith) (search needs)
 
 pub put-spec : {M : Type 1} → statement M
 put-spec =

@@ -1,4 +1,4 @@
--- `response_time::recording::any_left` meets its contract: the places that have been handled have no tick left (`RemainingDue` of crate event_simulation).
+-- `response_time::recording::any_left` meets its contract: the places that have been handled have no tick left (`RemainingDue` of crate judge).
 -- Assumes nothing.
 use mathlib.Core.Path.{_≡_, refl, sym, ap, _∙_}
 use mathlib.Core.Bool.{Bool, true, false, _&&_, true≢false}
@@ -15,8 +15,8 @@ use Rattle.model.proofs.Search.{any-of, none-any}
 use Rattle.simulation.specs.Machine.{machineOf}
 use Rattle.simulation.specs.Places.{segment}
 use Rattle.simulation.proofs.Parts.{front-at}
-use Rattle.event_simulation.proofs.Late.{RemainingDue, at-lowest, walk-passes}
-use Rattle.event_simulation.proofs.Sets.{Off, lowest}
+use Rattle.judge.proofs.LateByEvents.{RemainingDue, at-lowest, walk-passes}
+use Rattle.simulation.proofs.SetWalk.{Off, lowest}
 use Rattle.response_time.specs.Recording.{anyLeft}
 use Rattle.response_time.proofs.recording.any_left.Statement.{statement}
 use Rattle.response_time.proofs.recording.any_left.Tie as tie

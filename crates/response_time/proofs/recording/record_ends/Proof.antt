@@ -9,7 +9,7 @@ use lib.ListN.{getD}
 use Rattle.model.specs.Search.{bit}
 use Rattle.simulation.specs.Places.{segment}
 use Rattle.simulation.proofs.Parts.{part-at}
-use Rattle.event_simulation.proofs.Sets.{taken, lowest, Off, off-turn}
+use Rattle.simulation.proofs.SetWalk.{taken, lowest, Off, off-turn}
 use Rattle.response_time.specs.Recording.{recorded}
 use Rattle.response_time.proofs.Recorded.{noted-none, noted-more, noted-all}
 use Rattle.response_time.proofs.recording.record_ends.Statement.{statement}

@@ -7,10 +7,11 @@ use native.Mathlib.Omega.{arith}
 use lib.ListN.{replicate}
 use Rattle.table.specs.declared.Loaded.{Loaded}
 use Rattle.simulation.specs.TickState.{Numbers, numbersBy}
-use Rattle.judge.specs.Judged.{Fit}
-use Rattle.event_simulation.specs.EventState.{EventState, eventStateOf, StateRepresents}
-use Rattle.event_simulation.specs.Jump.{JumpStarts}
-use Rattle.event_simulation.proofs.Events.{initial-represents}
+use Rattle.table.specs.Fit.{Fit}
+use Rattle.simulation.specs.EventState.{EventState, eventStateOf, StateRepresents}
+use Rattle.simulation.specs.Jump.{JumpStarts, JumpOf}
+use Rattle.simulation.proofs.AreEvents.{initial-represents}
+use Rattle.judge.proofs.OneStep.{one-jump}
 use Rattle.response_time.proofs.Jumping.{Noted, jump-recorded, jump-small}
 use Rattle.response_time.proofs.Walked.{noted-start, late-misses, none-misses, missed-answer, met-answer}
 use Rattle.response_time.proofs.walk.times_of.Statement.{statement}
@@ -35,14 +36,14 @@ asked c = c .before .before .before
 abbrev turn : tie.After-any-left Inv-loop μ-loop → tie.At-loop Inv-loop μ-loop
 turn c = asked c .before .before .before
 
-abbrev clear : tie.After-places3 Inv-loop μ-loop → tie.Else2 Inv-loop μ-loop
-clear c = c .before .before .before
+abbrev clear : tie.After-run-on Inv-loop μ-loop → tie.Else2 Inv-loop μ-loop
+clear c = c .before .before .before .before .before
 
 abbrev past : tie.Else1 Inv-loop μ-loop → tie.At-loop Inv-loop μ-loop
 past c = c .before .before .before
 
-abbrev jumped-in : tie.After-responses Inv-loop μ-loop → tie.After-jump Inv-loop μ-loop
-jumped-in c = c .before .before .before .before .before
+abbrev jumped-in : tie.After-responses Inv-loop μ-loop → tie.After-run-on Inv-loop μ-loop
+jumped-in c = c .before .before .before .before .before .before
 
 -- the table, which fits, its numbers, and the run at the loop's head
 abbrev table-of : tie.After-places Inv-loop μ-loop → Loaded
@@ -102,29 +103,43 @@ returns c =
     let late = late-misses t fit (state-of k) (k .loop .inv .0) (sym (c .before .if2 .taken) ∙ a .any-left .ensures) in
     c .refused .ensures ∙ missed-answer t fit (late .0) (k .loop .registers .tick) (asked a .if1 .taken) (late .1)
 
-jump-requires : tie.Need-jump-requires Inv-loop μ-loop
-jump-requires c κs = (table-of (turn (clear c .before) .before), begins (clear c))
+add-run-on : tie.Need-add-run-on Inv-loop μ-loop
+add-run-on c =
+    let e = c .before .before .before .before in
+    omega (arith, asked (e .before) .if1 .taken, fit-of (turn (e .before) .before) .limit)
+
+run-on-requires : tie.Need-run-on-requires Inv-loop μ-loop
+run-on-requires c κs =
+    let b = begins (c .before .before .before .before) in
+    (table-of (turn (c .before .before .before .before .before) .before), record { fit = b .fit; numbers = b .numbers; represents = b .represents; early = omega (arith, b .early) })
+
+-- one jump is taken
+jump-of : (a : tie.After-run-on Inv-loop μ-loop) → let k = turn (clear a .before) in
+    JumpOf (nums (k .before)) (state-of k) (eventStateOf (a .run-on .result .registers) (a .run-on .last .1 .1 .1 .1 .0))
+jump-of a =
+    let k = turn (clear a .before) in
+    one-jump (table-of (k .before)) (nums (k .before)) (state-of k) _ _ (begins (clear a)) (a .run-on .ensures)
 
 record-ends-requires : tie.Need-record-ends-requires Inv-loop μ-loop
 record-ends-requires c κs =
     let a = jumped-in c in
-    let k = turn (clear (a .before) .before) in
-    jump-small (table-of (k .before)) (nums (k .before)) (state-of k) (eventStateOf (a .jump .result) _) (begins (clear (a .before))) (a .jump .ensures .value)
+    let k = turn (clear a .before) in
+    jump-small (table-of (k .before)) (nums (k .before)) (state-of k) (eventStateOf (a .run-on .result .registers) _) (begins (clear a)) (jump-of a .value)
 
 loop-less : tie.Need-loop-less Inv-loop μ-loop
 loop-less c =
     let a = jumped-in (c .before) in
-    let e = clear (a .before) in
-    omega (arith, asked (e .before) .if1 .taken, a .jump .ensures .lands _ (begins e) .next .after)
+    let e = clear a in
+    omega (arith, asked (e .before) .if1 .taken, jump-of a .lands _ (begins e) .next .after)
 
 loop-again : tie.Need-loop-again Inv-loop μ-loop
 loop-again c =
     let a = jumped-in (c .before) in
-    let e = clear (a .before) in
+    let e = clear a in
     let k = turn (e .before) in
     let t = table-of (k .before) in (
-      a .jump .ensures .lands t (begins e) .represents,
-      jump-recorded t (nums (k .before)) (state-of k) (eventStateOf (a .jump .result) _) (begins e) (a .jump .ensures .value) (k .loop .responses) (k .loop .inv .1)
+      jump-of a .lands t (begins e) .represents,
+      jump-recorded t (nums (k .before)) (state-of k) (eventStateOf (a .run-on .result .registers) _) (begins e) (jump-of a .value) (k .loop .responses) (k .loop .inv .1)
           _ (c .record-ends .ensures),
     )
 
@@ -145,7 +160,8 @@ times-of-spec =
     any-left-requires
     refused-requires
     returns
-    jump-requires
+    add-run-on
+    run-on-requires
     record-ends-requires
     loop-less
     loop-again

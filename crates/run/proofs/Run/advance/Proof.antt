@@ -3,17 +3,20 @@
 -- Assumes nothing.
 use mathlib.Core.Path.{_≡_, sym, ap, _∙_}
 use mathlib.Core.Bool.{not}
-use lib.Bits.{bitAnd, bitOr}
+use Prim.Native.Nat.{ℕ}
+use lib.Bits.{bitAnd}
 use lib.Dec.{eqb}
 use borrow.Author.Needs.{needs}
 use borrow.Author.Tests.{eq-eqb, ne-eqb}
+use Rattle.model.specs.Search.{bit}
 use Rattle.model.specs.Sizes.{mostTasks}
 use Rattle.run.specs.declared.Answer.the-variants.{Taken}
 use Rattle.run.specs.Numbers.{wrongReportsIn}
 use Rattle.run.specs.Row.{rowAnswer}
-use Rattle.run.proofs.Cases.{advance-misreported, advance-refused, advance-taken, row-passes, sets-answer}
+use Rattle.run.proofs.Cases.{advance-misreported, advance-refused, advance-taken, row-passes, sets-answer, working-by}
 use Rattle.run.proofs.Chosen.{may-report}
 use Rattle.run.proofs.Exact.{advance-of}
+use Rattle.run.proofs.Working.{works-at}
 use Rattle.run.proofs.Run.advance.Statement.{statement}
 use Rattle.run.proofs.Run.advance.Tie as tie
 
@@ -23,10 +26,10 @@ looked c = c .before .before
 
 -- the state in which the reports are within, and in which they are not
 abbrev reported : tie.Then1 → tie.After-enum-told
-reported c = c .before .before .before
+reported c = c .before .before
 
 abbrev misreported : tie.Else1 → tie.After-enum-told
-misreported c = c .before .before .before
+misreported c = c .before .before
 
 -- the answer is the row's
 answered : (c : tie.After-tick) → (let a = c .before .args in c .tick .result .answer ≡ rowAnswer (a .self) (a .empties))
@@ -41,16 +44,16 @@ Within c =
     let t = looked c in
     let a = t .before .args in
     let k = t .tick .result in
-    wrongReportsIn (a .self) (a .empties) (a .reports) ≡ not (eqb (bitAnd (a .reports) (bitAnd (bitOr (k .given) (k .lent)) (k .working))) (a .reports))
+    wrongReportsIn (a .self) (a .empties) (a .reports) ≡ not (eqb (bitAnd (a .reports) (k .working)) (a .reports))
 
 within : (c : tie.After-enum-told) → Within c
 within c =
     let t = looked c in
     let s = t .before in
     let k = t .tick .result in
-    let h = t .tick .ensures in
-    let q = c .enum-told .given .1 in
-    may-report (s .args .self) (s .args .empties) (k .given) (k .lent) (k .working) (h .gives q) (h .lends q) (h .works q)
+    let r = s .args .self in
+    let e = s .args .empties in
+    may-report r e (k .working) (λ p. ap (λ (x : ℕ). bit x p) (t .tick .ensures .works ∙ working-by r e (taken c)) ∙ works-at r e (taken c) p)
     (s .args .reports) mostTasks (s .fits .reports .fits)
 
 tick-requires : tie.Need-tick-requires

@@ -14,7 +14,7 @@ is-firm-requires : tie.Need-is-firm-requires
 is-firm-requires c κs = search needs
 
 returns : tie.Need-returns
-returns c = c .is-firm .ensures ∙ ap (firm (ruleIn (c .before .before .args .self))) (c .before .parameters .ensures)
+returns c = c .is-firm .ensures ∙ ap (firm (ruleIn (c .before .before .args .self))) (c .before .parameters .ensures .1)
 
 pub is-firm-spec : {M : Type 1} → statement M
 is-firm-spec = tie.close (tie.spec parameters-requires is-firm-requires returns)

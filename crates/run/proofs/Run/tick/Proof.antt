@@ -16,6 +16,7 @@ use mir.Syntax.{w32}
 use mir.Val.{Fits}
 use Rattle.model.specs.Fence.{unfenced}
 use Rattle.model.specs.Sizes.{mostTasks}
+use Rattle.model.proofs.Digits.{same-set}
 use Rattle.model.proofs.Search.{least-none}
 use Rattle.cores.proofs.Unfenced.{open-of}
 use Rattle.run.specs.declared.Run.{Run}
@@ -27,11 +28,12 @@ use Rattle.run.specs.Run.{ruleIn}
 use Rattle.run.specs.Sets.{noSets, setsOf}
 use Rattle.run.specs.Allocation.{AllocationOf}
 use Rattle.run.specs.Tick.{TickOf}
-use Rattle.run.proofs.Cases.{sets-empty, sets-late, sets-out, sets-shown}
-use Rattle.run.proofs.Chosen.{has-cores, has-lent, may-begin, same-sets, ws}
+use Rattle.run.proofs.Cases.{sets-answer, sets-empty, sets-late, sets-out, sets-shown, working-by, working-none}
+use Rattle.run.proofs.Chosen.{has-cores, has-lent, may-begin, may-end, same-sets, ws}
 use Rattle.run.proofs.First.{not-taken}
 use Rattle.run.proofs.Found.{none-gathered, some-gathered}
 use Rattle.run.proofs.RunOut.{head-few, head-few-cores, headOut, out-by-head, out-by-place}
+use Rattle.run.proofs.Working.{works-at}
 use Rattle.run.proofs.Run.tick.Statement.{statement}
 use Rattle.run.proofs.Run.tick.Tie as tie
 
@@ -45,7 +47,8 @@ refused r e n p t i q = record {
   shows = ap (λ (t : Tick). t .sets) i ∙ sym (ap (λ (w : Sets). w .sets) q);
   gives = λ a. absurd (not-taken n p (sym (ap (λ (t : Tick). t .answer) i) ∙ a));
   lends = λ a. absurd (not-taken n p (sym (ap (λ (t : Tick). t .answer) i) ∙ a));
-  works = λ a. absurd (not-taken n p (sym (ap (λ (t : Tick). t .answer) i) ∙ a));
+  works = ap (λ (t : Tick). t .working) i ∙ sym (working-none r e n p (sym (sets-answer r e) ∙ ap (λ (w : Sets). w .answer) q));
+  none = λ m q a. (ap (λ (t : Tick). t .given) i, ap (λ (t : Tick). t .lent) i, ap (λ (t : Tick). t .working) i);
 }
 
 -- the state at the call
@@ -194,13 +197,14 @@ allocate-requires c κs =
 
 returns-4 : tie.Need-returns-4
 returns-4 c =
-    let o = c .before in
+    let o = c .before .before .before in
     let t = begun-in o in
     let e = t .before .before in
     let g = in-time e in
     let a = entry g .args in
     let m : wrongEmptiesIn (a .self) (a .empties) ≡ false = begun g ∙ ap not (eq-eqb _ _ (t .if4 .taken)) in
     let q = sets-shown (a .self) (a .empties) (passes (e .before .before)) (none-late e) m in
+    let w = sym (sets-answer (a .self) (a .empties)) ∙ ap (λ (w : Sets). w .answer) q in
     record {
       answered = sym (ap (λ (w : Sets). w .answer) q);
       shows =
@@ -208,7 +212,12 @@ returns-4 c =
           ∙ sym (ap (λ (w : Sets). w .sets) q);
       gives = λ x. has-cores (a .self) (a .empties) (g .claims .result) (g .claims .ensures) (o .allocate .result) (shared o);
       lends = λ x. has-lent (a .self) (a .empties) (g .claims .result) (g .claims .ensures) (o .allocate .result) (shared o);
-      works = λ x. g .claims .ensures .worked;
+      works =
+          same-set _ _ (λ p.
+          may-end (a .self) (a .empties) (g .claims .result) (g .claims .ensures) (o .allocate .result) (shared o) p
+          ∙ sym (works-at (a .self) (a .empties) w p))
+          ∙ sym (working-by (a .self) (a .empties) w);
+      none = λ n p x. absurd (not-taken n p (sym x));
     }
 
 tick-refused-requires-4 : tie.Need-tick-refused-requires-4

@@ -12,14 +12,16 @@ use Rattle.model.specs.Verdict.{FirstMiss}
 use Rattle.table.specs.declared.Loaded.{Loaded}
 use Rattle.table.specs.Task.{taskOf, noTask}
 use Rattle.table.proofs.Places.{task-at}
-use Rattle.simulation.specs.TickState.{Numbers, loadedNumbers, TickState, tickStateOf, Steppable, nextTickState}
+use Rattle.simulation.specs.TickState.{Numbers, numbersBy, loadedNumbers, TickState, tickStateOf, nextTickState}
 use Rattle.simulation.specs.Machine.{machineOf}
 use Rattle.simulation.proofs.Parts.{front-at}
 use Rattle.simulation.proofs.Steps.{tick-on}
 use Rattle.simulation.proofs.MachineRelated.{MachineRelated}
-use Rattle.judge.specs.Judged.{loadedTable, Fit}
-use Rattle.judge.proofs.Ticks.{size}
-use Rattle.judge.proofs.Refines.{Begins, steppable}
+use Rattle.table.specs.Fit.{loadedTable, Fit}
+use Rattle.simulation.proofs.AtTick.{size}
+use Rattle.simulation.proofs.RefinesTick.{TickStarts}
+use Rattle.judge.specs.RunOn.{TicksBegin}
+use Rattle.judge.proofs.OneStep.{one-tick}
 use Rattle.sentence.specs.Facts.{named}
 use Rattle.sentence.specs.Waiting.{releaseOf, hadBy}
 use Rattle.sentence.proofs.Waiting.{missed-here, deadline-within, Counted, counted-small, counted-named}
@@ -30,7 +32,7 @@ use Rattle.sentence.proofs.counting.count.Tie as tie
 -- of every table whose run begins so and that misses here first
 abbrev Inv-loop : tie.InvT-loop
 Inv-loop tick place late release setting widths times registers₀ places₀ ran₀ registers places ran =
-    (t : Loaded) → Begins t setting widths times registers₀ places₀ → FirstMiss (loadedTable t) tick (suc place) → release ≡ releaseOf (loadedTable t) tick place
+    (t : Loaded) → TickStarts t setting widths times registers₀ places₀ → FirstMiss (loadedTable t) tick (suc place) → release ≡ releaseOf (loadedTable t) tick place
     → Counting t tick place (tickStateOf registers places) ran
 
 abbrev μ-loop : tie.MeasureT-loop
@@ -41,16 +43,16 @@ abbrev places-from-else1 : tie.Else1 Inv-loop μ-loop → tie.After-places Inv-l
 places-from-else1 c = c .before .before .before
 
 -- the state where the test `if1` holds
-abbrev then1 : tie.After-places2 Inv-loop μ-loop → tie.Then1 Inv-loop μ-loop
-then1 c = c .before .before .before
+abbrev then1 : tie.After-run-on Inv-loop μ-loop → tie.Then1 Inv-loop μ-loop
+then1 c = c .before .before .before .before
 
 -- the state after `has`
 abbrev has : tie.After-add Inv-loop μ-loop → tie.After-has Inv-loop μ-loop
 has c = c .before .before .before
 
--- the state after `step`
-abbrev step : tie.Else3 Inv-loop μ-loop → tie.After-step Inv-loop μ-loop
-step c = c .before .before .before
+-- the state after `run_on`
+abbrev run-on : tie.Else3 Inv-loop μ-loop → tie.After-run-on Inv-loop μ-loop
+run-on c = c .before .before .before .before
 
 -- the state at the call
 abbrev entry-from-struct-known : tie.After-struct-known Inv-loop μ-loop → tie.Start Inv-loop μ-loop
@@ -60,11 +62,11 @@ entry-from-struct-known c = c .before .before .before
 abbrev loop-from-struct-known3 : tie.After-struct-known3 Inv-loop μ-loop → tie.At-loop Inv-loop μ-loop
 loop-from-struct-known3 c = c .before .before .before
 
-abbrev loop-from-places2 : tie.After-places2 Inv-loop μ-loop → tie.At-loop Inv-loop μ-loop
-loop-from-places2 c = then1 c .before .before
+abbrev loop-from-run-on : tie.After-run-on Inv-loop μ-loop → tie.At-loop Inv-loop μ-loop
+loop-from-run-on c = then1 c .before .before
 
 abbrev loop-from-then3 : tie.Then3 Inv-loop μ-loop → tie.At-loop Inv-loop μ-loop
-loop-from-then3 c = loop-from-places2 (c .before .before .before .before)
+loop-from-then3 c = loop-from-run-on (c .before .before .before .before)
 
 abbrev loop-from-ran : tie.After-ran Inv-loop μ-loop → tie.At-loop Inv-loop μ-loop
 loop-from-ran c = loop-from-then3 (c .before)
@@ -88,7 +90,7 @@ abbrev entry-from-else1 : tie.Else1 Inv-loop μ-loop → tie.Start Inv-loop μ-l
 entry-from-else1 c = entry-from-places (places-from-else1 c)
 
 abbrev entry-from-then2 : tie.Then2 Inv-loop μ-loop → tie.Start Inv-loop μ-loop
-entry-from-then2 c = entry-from-places (loop-from-places2 (c .before .before) .before)
+entry-from-then2 c = entry-from-places (loop-from-run-on (c .before .before) .before)
 
 -- THE PLACES. What the function is given
 abbrev table-of : tie.After-places Inv-loop μ-loop → Loaded
@@ -104,7 +106,7 @@ place-of p = entry-from-places p .args .place
 abbrev Of : tie.After-places Inv-loop μ-loop → Loaded → Type 0
 Of p t =
     let co = columns-of-from-places p in
-    Begins t (co .columns-of .result .setting) (co .columns-of .result .widths)
+    TickStarts t (co .columns-of .result .setting) (co .columns-of .result .widths)
     (co .columns-of .result .times) (p .before .before .start .result .registers) (p .before .before .start .result .places)
 
 own : (p : tie.After-places Inv-loop μ-loop) → Of p (table-of p)
@@ -131,13 +133,36 @@ counting-of k =
     let x = entry-from-places p in
     k .loop .inv (table-of p) (own p) (x .pre .1) (ap (λ (τ : Task). tick-of p - τ .deadline) (sym (same-task (table-of p) (x .pre .0) (tick-of p) (place-of p) (x .pre .1))))
 
--- a tick is taken
-stepped : (g : tie.After-step Inv-loop μ-loop) (t : Loaded) → Of (loop-from-places2 (g .before) .before) t
-    → tickStateOf (g .step .result) (g .step .last .1 .1 .1 .1 .0) ≡ nextTickState (loadedNumbers t) (tickStateOf (loop-from-places2 (g .before) .loop .registers) (loop-from-places2 (g .before) .loop .places))
-stepped g t b = g .step .ensures ∙ ap (λ (n : Numbers). nextTickState n (tickStateOf (loop-from-places2 (g .before) .loop .registers) (loop-from-places2 (g .before) .loop .places))) (b .numbers)
+-- the run before a tick, and where it goes on by one: no deadline of the tick is missed
+abbrev state-of : tie.At-loop Inv-loop μ-loop → TickState
+state-of k = tickStateOf (k .loop .registers) (k .loop .places)
 
-on : (g : tie.After-step Inv-loop μ-loop) → g .step .result .tick ≡ loop-from-places2 (g .before) .loop .registers .tick + 1
-on g = tick-on _ _ _ (g .step .ensures)
+abbrev nums : tie.After-places Inv-loop μ-loop → Numbers
+nums p = let r = columns-of-from-places p .columns-of .result in numbersBy (r .setting) (r .widths) (r .times)
+
+ticks-begin : (k : tie.At-loop Inv-loop μ-loop) → k .loop .registers .tick < tick-of (k .before)
+    → TicksBegin (table-of (k .before)) (nums (k .before)) (state-of k) (k .loop .registers .tick + 1)
+ticks-begin k l =
+    let x = entry-from-places (k .before) in
+    record { fit = x .pre .0; numbers = own (k .before) .numbers; refines = counting-of k .follows; within = omega arith; early = omega (arith, l, x .pre .2) }
+
+stepped : (g : tie.After-run-on Inv-loop μ-loop)
+    → tickStateOf (g .run-on .result .registers) (g .run-on .last .1 .1 .1 .1 .0) ≡ nextTickState (nums (loop-from-run-on g .before)) (state-of (loop-from-run-on g))
+stepped g =
+    let k = loop-from-run-on g in
+    let p = k .before in
+    let x = entry-from-places p in
+    let l = then1 g .if1 .taken in
+    one-tick (table-of p) (nums p) (state-of k) _ _ (ticks-begin k l)
+    (met-here (table-of p) (x .pre .0) (tick-of p) (place-of p) (x .pre .1) (state-of k) (k .loop .ran) (counting-of k) l) (g .run-on .ensures)
+
+-- .. as a tick of table t
+ticked : (g : tie.After-run-on Inv-loop μ-loop) (t : Loaded) → Of (loop-from-run-on g .before) t
+    → tickStateOf (g .run-on .result .registers) (g .run-on .last .1 .1 .1 .1 .0) ≡ nextTickState (loadedNumbers t) (state-of (loop-from-run-on g))
+ticked g t b = stepped g ∙ ap (λ (n : Numbers). nextTickState n (state-of (loop-from-run-on g))) (b .numbers)
+
+on : (g : tie.After-run-on Inv-loop μ-loop) → g .run-on .result .registers .tick ≡ loop-from-run-on g .loop .registers .tick + 1
+on g = tick-on _ _ _ (stepped g)
 
 -- at the end: the tick is that of the miss, and what is left of the late job
 at-tick : (e : tie.Else1 Inv-loop μ-loop) → e .before .before .loop .registers .tick ≡ tick-of (places-from-else1 e)
@@ -187,15 +212,15 @@ loop-holds : tie.Need-loop-holds Inv-loop μ-loop
 loop-holds c =
     λ t b f r. subst (λ (y : TickState). Counting t (tick-of c) (place-of c) y (replicate 32 0)) (sym (b .state-start)) (counting-start t (b .fit) (tick-of c) (place-of c) f)
 
-step-requires : tie.Need-step-requires Inv-loop μ-loop
-step-requires c κs =
-    let k = loop-from-places2 c in
-    let p = k .before in
-    let x = entry-from-places p in
-    subst (λ (n : Numbers). Steppable n (tickStateOf (k .loop .registers) (k .loop .places))) (sym (own p .numbers))
-    (steppable (table-of p) (x .pre .0) (tickStateOf (k .loop .registers) (k .loop .places)) (counting-of k .follows)
-    (met-here (table-of p) (x .pre .0) (tick-of p) (place-of p) (x .pre .1) (tickStateOf (k .loop .registers) (k .loop .places)) (k .loop .ran) (counting-of k) (then1 c .if1 .taken))
-    (omega (arith, then1 c .if1 .taken, x .pre .2, x .pre .0 .limit)))
+add-run-on : tie.Need-add-run-on Inv-loop μ-loop
+add-run-on c =
+    let e = c .before .before .before in
+    omega (arith, e .if1 .taken, entry-from-places (e .before .before .before) .fits .tick)
+
+run-on-requires : tie.Need-run-on-requires Inv-loop μ-loop
+run-on-requires c κs =
+    let e = c .before .before .before in
+    (table-of (e .before .before .before), ticks-begin (e .before .before) (e .if1 .taken))
 
 has-requires : tie.Need-has-requires Inv-loop μ-loop
 has-requires c κs = let x = entry-from-then2 c in inside (x .args .table) (x .pre .0) (x .args .tick) (x .args .place) (x .pre .1) .1
@@ -207,42 +232,42 @@ add-requires c κs =
     omega (arith, counted-small _ _ _ _ _ (counting-of k .counted) q, counting-of k .within, entry-from-places (k .before) .fits .tick)
 
 loop-less : tie.Need-loop-less Inv-loop μ-loop
-loop-less c = let g = has c .before .before in omega (arith, on g, then1 (g .before) .if1 .taken)
+loop-less c = let g = has c .before .before .before in omega (arith, on g, then1 g .if1 .taken)
 
 loop-again : tie.Need-loop-again Inv-loop μ-loop
 loop-again c =
     let has-state = has c in
     λ t b f r.
-    let g = has-state .before .before in
-    let k = loop-from-places2 (g .before) in
+    let g = has-state .before .before .before in
+    let k = loop-from-run-on g in
     let p = k .before in
-    subst (λ (l : List ℕ). Counting t (tick-of p) (place-of p) (tickStateOf (g .step .result) (g .step .last .1 .1 .1 .1 .0)) l) (sym (c .add .ensures))
-    (counting-waits t (b .fit) (tick-of p) (place-of p) f (tickStateOf (k .loop .registers) (k .loop .places)) (k .loop .ran) (k .loop .inv t b f r) (then1 (g .before) .if1 .taken) _
-    (stepped g t b) (omega (arith, r, has-state .before .if2 .taken)) (sym (has-state .has .ensures) ∙ not-true _ (c .before .before .if3 .taken)))
+    subst (λ (l : List ℕ). Counting t (tick-of p) (place-of p) (tickStateOf (g .run-on .result .registers) (g .run-on .last .1 .1 .1 .1 .0)) l) (sym (c .add .ensures))
+    (counting-waits t (b .fit) (tick-of p) (place-of p) f (tickStateOf (k .loop .registers) (k .loop .places)) (k .loop .ran) (k .loop .inv t b f r) (then1 g .if1 .taken) _
+    (ticked g t b) (omega (arith, r, has-state .before .if2 .taken)) (sym (has-state .has .ensures) ∙ not-true _ (c .before .before .if3 .taken)))
 
 loop-less-2 : tie.Need-loop-less-2 Inv-loop μ-loop
-loop-less-2 c = let g = step c in omega (arith, on g, then1 (g .before) .if1 .taken)
+loop-less-2 c = let g = run-on c in omega (arith, on g, then1 g .if1 .taken)
 
 loop-again-2 : tie.Need-loop-again-2 Inv-loop μ-loop
 loop-again-2 c =
     λ t b f r.
-    let g = step c in
-    let k = loop-from-places2 (g .before) in
+    let g = run-on c in
+    let k = loop-from-run-on g in
     let p = k .before in
     counting-runs t (b .fit) (tick-of p) (place-of p) f (tickStateOf (k .loop .registers) (k .loop .places)) (k .loop .ran) (k .loop .inv t b f r)
-    (then1 (g .before) .if1 .taken) _ (stepped g t b) (omega (arith, r, c .before .before .if2 .taken)) (sym (c .before .has .ensures) ∙ not-false _ (c .if3 .left))
+    (then1 g .if1 .taken) _ (ticked g t b) (omega (arith, r, c .before .before .if2 .taken)) (sym (c .before .has .ensures) ∙ not-false _ (c .if3 .left))
 
 loop-less-3 : tie.Need-loop-less-3 Inv-loop μ-loop
-loop-less-3 c = let g = c .before in omega (arith, on g, then1 (g .before) .if1 .taken)
+loop-less-3 c = let g = c .before .before in omega (arith, on g, then1 g .if1 .taken)
 
 loop-again-3 : tie.Need-loop-again-3 Inv-loop μ-loop
 loop-again-3 c =
     λ t b f r.
-    let g = c .before in
-    let k = loop-from-places2 (g .before) in
+    let g = c .before .before in
+    let k = loop-from-run-on g in
     let p = k .before in
     counting-early t (b .fit) (tick-of p) (place-of p) f (tickStateOf (k .loop .registers) (k .loop .places)) (k .loop .ran)
-    (k .loop .inv t b f r) (then1 (g .before) .if1 .taken) _ (stepped g t b) (omega (arith, r, c .if2 .left))
+    (k .loop .inv t b f r) (then1 g .if1 .taken) _ (ticked g t b) (omega (arith, r, c .if2 .left))
 
 cast-position : tie.Need-cast-position Inv-loop μ-loop
 cast-position c = let x = entry-from-else1 c in omega (arith, inside (x .args .table) (x .pre .0) (x .args .tick) (x .args .place) (x .pre .1) .1)
@@ -266,11 +291,11 @@ counts-above-requires c κs =
     let l = inside (x .args .table) (x .pre .0) (x .args .tick) (x .args .place) (x .pre .1) .1 in
     (omega arith, counting-of k .counted .size)
 
-cast-t37 : tie.Need-cast-t37 Inv-loop μ-loop
-cast-t37 c = search needs
+cast-t39 : tie.Need-cast-t39 Inv-loop μ-loop
+cast-t39 c = search needs
 
-cast-t38 : tie.Need-cast-t38 Inv-loop μ-loop
-cast-t38 c = search needs
+cast-t40 : tie.Need-cast-t40 Inv-loop μ-loop
+cast-t40 c = search needs
 
 returns : tie.Need-returns Inv-loop μ-loop
 returns c =
@@ -304,7 +329,8 @@ count-spec =
     columns-of-requires
     start-requires
     loop-holds
-    step-requires
+    add-run-on
+    run-on-requires
     has-requires
     add-requires
     loop-less
@@ -319,6 +345,6 @@ count-spec =
     array-read-had
     sub-had
     counts-above-requires
-    cast-t37
-    cast-t38
+    cast-t39
+    cast-t40
     returns)

@@ -1,12 +1,9 @@
 -- `session::Session::is_over` meets its contract: each arm is the clause of its stage. Assumes nothing.
 use borrow.Author.Needs.{needs}
-use mathlib.Core.Path.{sym, ap, _∙_}
+use mathlib.Core.Path.{sym, ap}
 use Rattle.session.specs.Session.{isOver}
 use Rattle.session.proofs.Session.is_over.Statement.{statement}
 use Rattle.session.proofs.Session.is_over.Tie as tie
-
-stage-of-requires : tie.Need-stage-of-requires
-stage-of-requires c κs = search needs
 
 enum-told : tie.Need-enum-told
 enum-told c = search needs
@@ -18,15 +15,15 @@ enum-told-3 : tie.Need-enum-told-3
 enum-told-3 c = search needs
 
 returns : tie.Need-returns
-returns c = sym (ap isOver (sym (c .before .before .stage-of .ensures) ∙ c .enum-told .given .1))
+returns c = sym (ap isOver (c .enum-told .given .1))
 
 returns-2 : tie.Need-returns-2
-returns-2 c = sym (ap isOver (sym (c .before .before .stage-of .ensures) ∙ c .enum-told2 .given .1))
+returns-2 c = sym (ap isOver (c .enum-told2 .given .1))
 
 returns-3 : tie.Need-returns-3
-returns-3 c = sym (ap isOver (sym (c .before .before .stage-of .ensures) ∙ c .enum-told3 .given .1))
+returns-3 c = sym (ap isOver (c .enum-told3 .given .1))
 
 pub is-over-spec : {M : Type 1} → statement M
 is-over-spec =
     tie.close
-    (tie.spec stage-of-requires enum-told enum-told-2 enum-told-3 returns returns-2 returns-3)
+    (tie.spec enum-told enum-told-2 enum-told-3 returns returns-2 returns-3)

@@ -4,7 +4,7 @@ use borrow.Author.Needs.{needs}
 use mathlib.Core.Path.{_≡_, _∙_, ap}
 use lib.ListN.{getD}
 use Rattle.session.specs.Operation.{operationBy, operationOf}
-use Rattle.session.proofs.Asking.{by-advance, by-row, by-sets, by-withdraw, by-withdraw-all, by-none, asked-empty, asked-by}
+use Rattle.session.proofs.Asking.{by-advance, by-row, by-sets, by-working, by-withdraw, by-withdraw-all, by-none, asked-empty, asked-by}
 use Rattle.session.proofs.operations.operation_of.Statement.{statement}
 use Rattle.session.proofs.operations.operation_of.Tie as tie
 
@@ -35,6 +35,13 @@ else5-from-else6 c = c .before .before
 
 abbrev else5-from-sets-by : tie.After-sets-by → tie.Else5
 else5-from-sets-by c = c .before .before .before
+
+-- the state where the test `if6` fails
+abbrev else6-from-else7 : tie.Else7 → tie.Else6
+else6-from-else7 c = c .before .before
+
+abbrev else6-from-working-by : tie.After-working-by → tie.Else6
+else6-from-working-by c = c .before .before .before
 
 -- the state after `after`
 abbrev after-from-advance-by : tie.After-advance-by → tie.After-after
@@ -120,11 +127,23 @@ returns-6 : tie.Need-returns-6
 returns-6 c =
     c .sets-by .ensures ∙ by-sets _ _ (c .before .if6 .taken) ∙ by-first (after-from-else4 (else4-from-else5 (else5-from-sets-by c)))
 
+shared-slice-read-if7 : tie.Need-shared-slice-read-if7
+shared-slice-read-if7 c = search needs
+
+working-by-requires : tie.Need-working-by-requires
+working-by-requires c κs = search needs
+
 returns-7 : tie.Need-returns-7
 returns-7 c =
-    let f = else5-from-else6 c in
+    c .working-by .ensures ∙ by-working _ _ (c .before .if7 .taken)
+    ∙ by-first (after-from-else4 (else4-from-else5 (else5-from-else6 (else6-from-working-by c))))
+
+returns-8 : tie.Need-returns-8
+returns-8 c =
+    let g = else6-from-else7 c in
+    let f = else5-from-else6 g in
     let e = else4-from-else5 f in
-    by-none _ _ (else2-from-else4 e .if2 .left) (e .before .before .if3 .left) (e .if4 .left) (f .if5 .left) (c .if6 .left)
+    by-none _ _ (else2-from-else4 e .if2 .left) (e .before .before .if3 .left) (e .if4 .left) (f .if5 .left) (g .if6 .left) (c .if7 .left)
     ∙ by-first (after-from-else4 e)
 
 pub operation-of-spec : {M : Type 1} → statement M
@@ -151,4 +170,7 @@ operation-of-spec =
     shared-slice-read-if6
     sets-by-requires
     returns-6
-    returns-7)
+    shared-slice-read-if7
+    working-by-requires
+    returns-7
+    returns-8)

@@ -5,12 +5,14 @@ use mathlib.Core.Path.{ap, _∙_}
 use Rattle.run.specs.declared.Advanced.{Advanced}
 use Rattle.run.specs.declared.Row as rows
 use Rattle.run.specs.declared.Sets as sets
+use Rattle.run.specs.declared.WorkingPositions.{WorkingPositions}
 use Rattle.text.specs.Output.{letters}
-use Rattle.session.specs.Operation.{answerLine, setsLine, shownLine}
+use Rattle.session.specs.Operation.{answerLine, setsLine, shownLine, workingLine}
 use Rattle.session.proofs.TextWritten.{text-of}
 use Rattle.session.proofs.Replying.{reply-advance, run-advance, last-advance, reply-withdraw, run-withdraw, last-withdraw}
 use Rattle.session.proofs.Replying.{reply-withdraw-all, run-withdraw-all, last-withdraw-all}
 use Rattle.session.proofs.Replying.{reply-row, run-row, last-row, reply-sets, run-sets, last-sets, reply-none, run-none, last-none}
+use Rattle.session.proofs.Replying.{reply-working, run-working, last-working}
 use Rattle.session.proofs.replies.answer.Statement.{statement}
 use Rattle.session.proofs.replies.answer.Tie as tie
 
@@ -33,6 +35,10 @@ operation4 c = c .before .before .before .before
 -- the state after `operation5`
 abbrev operation5 : tie.After-write-sets → tie.After-operation5
 operation5 c = c .before .before .before .before
+
+-- the state after `operation6`
+abbrev operation6 : tie.After-write-working → tie.After-operation6
+operation6 c = c .before .before .before .before
 
 -- the state after `enum-told`
 abbrev enum-told-from-write-word : tie.After-write-word → tie.After-enum-told
@@ -82,6 +88,15 @@ sets-requires c κs = search needs
 
 write-sets-requires : tie.Need-write-sets-requires
 write-sets-requires c κs = search needs
+
+enum-known-operation-6 : tie.Need-enum-known-operation-6
+enum-known-operation-6 c = search needs
+
+working-requires : tie.Need-working-requires
+working-requires c κs = search needs
+
+write-working-requires : tie.Need-write-working-requires
+write-working-requires c κs = search needs
 
 enum-told : tie.Need-enum-told
 enum-told c = search needs
@@ -147,6 +162,16 @@ returns-5 c =
 
 returns-6 : tie.Need-returns-6
 returns-6 c =
+    let a = operation6 c .before .before .args in
+    let o = operation6 c .operation6 .given .1 in (
+      text-of (ap (λ (x : WorkingPositions). workingLine (x .answer) (x .set)) (c .before .before .working .ensures .value) ∙ reply-working (a .operation) (a .run) _ o)
+          (c .write-working .ensures),
+      run-working (a .operation) (a .run) _ o,
+      last-working (a .operation) _ o,
+    )
+
+returns-7 : tie.Need-returns-7
+returns-7 c =
     let a = enum-told-from-write-word c .before .before .args in
     let o = enum-told-from-write-word c .enum-told .given .1 in (
       text-of (reply-none (a .operation) (a .run) o) (c .write-word .ensures),
@@ -173,6 +198,9 @@ answer-spec =
     enum-known-operation-5
     sets-requires
     write-sets-requires
+    enum-known-operation-6
+    working-requires
+    write-working-requires
     enum-told
     slice-aggregate-write-word
     write-word-requires
@@ -181,4 +209,5 @@ answer-spec =
     returns-3
     returns-4
     returns-5
-    returns-6)
+    returns-6
+    returns-7)

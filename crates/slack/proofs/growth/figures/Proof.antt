@@ -5,7 +5,7 @@ use native.Mathlib.Omega.{arith}
 use lib.ListN.{length, set}
 use Rattle.table.proofs.Places.{tasks-length}
 use Rattle.table.specs.declared.Loaded.{Loaded}
-use Rattle.judge.specs.Judged.{Fit, loadedTable}
+use Rattle.table.specs.Fit.{Fit, loadedTable}
 use Rattle.slack.proofs.Listed.{Filled, filled-end, filled-more, filled-start}
 use Rattle.slack.proofs.growth.figures.Statement.{statement}
 use Rattle.slack.proofs.growth.figures.Tie as tie

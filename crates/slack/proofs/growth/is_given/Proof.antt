@@ -2,7 +2,7 @@
 use mathlib.Core.Bool.{not}
 use mathlib.Core.Path.{ap, sym, _∙_}
 use borrow.Author.Needs.{needs}
-use Rattle.judge.specs.Judged.{loadedTable}
+use Rattle.table.specs.Fit.{loadedTable}
 use Rattle.slack.proofs.Ordered.{gives-accepted, gives-never}
 use Rattle.slack.proofs.growth.is_given.Statement.{statement}
 use Rattle.slack.proofs.growth.is_given.Tie as tie

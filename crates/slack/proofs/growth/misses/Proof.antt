@@ -1,9 +1,9 @@
 -- `slack::growth::misses` meets its contract: the first miss up to and including the horizon is found, or there is none. Assumes nothing.
 use mathlib.Core.Path.{_≡_}
 use borrow.Author.Needs.{needs}
-use Rattle.judge.specs.declared.misses.Missed.{Missed}
-use Rattle.judge.specs.declared.misses.Missed.the-variants.{Never, At}
-use Rattle.judge.specs.Judged.{loadedTable}
+use Rattle.judge.specs.declared.Missed.{Missed}
+use Rattle.judge.specs.declared.Missed.the-variants.{Never, At}
+use Rattle.table.specs.Fit.{loadedTable}
 use Rattle.slack.specs.Slack.{misses}
 use Rattle.slack.proofs.Judging.{found-misses, isFound}
 use Rattle.slack.proofs.growth.misses.Statement.{statement}

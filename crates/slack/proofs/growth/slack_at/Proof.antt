@@ -7,7 +7,7 @@ use lib.ListN.{length}
 use Rattle.model.specs.Task as model
 use Rattle.model.specs.Task.{Table, task}
 use Rattle.table.specs.Limits.{mostTime}
-use Rattle.judge.specs.Judged.{loadedTable}
+use Rattle.table.specs.Fit.{loadedTable}
 use Rattle.slack.proofs.Bisection.{Between, between-end, between-start, length-short}
 use Rattle.slack.proofs.LongerIn.{in-table, own-deadline, own-task}
 use Rattle.slack.proofs.growth.slack_at.Statement.{statement}
