@@ -1,7 +1,6 @@
 //! Times the library's two judges and the baseline (bench/baseline.rs) in one process and by turns, on tables that are not refused: `judges RUNS TABLE..`.
 //! For each table a line: its name, the ticks up to the horizon or the miss, the events among them, and in nanoseconds of processor time, best of RUNS,
-//! the faster of the two judges, the tick judge, which does not run again once it has taken some seconds, the event-driven baseline, the response times, and
-//! the sentence of the miss.
+//! the faster of the two judges, the tick judge, which does not run again once it has taken some seconds, the event-driven baseline, and the response times.
 #[path = "baseline.rs"]
 #[allow(dead_code)]
 mod baseline;
@@ -16,7 +15,6 @@ extern "C" {
     fn sivorandra_judge(words: *const u32, words_len: usize, answer: *mut u32, answer_len: usize) -> u32;
     fn sivorandra_judge_ticks(words: *const u32, words_len: usize, answer: *mut u32, answer_len: usize) -> u32;
     fn sivorandra_response_times(words: *const u32, words_len: usize, figures: *mut u32, figures_len: usize, answer: *mut u32, answer_len: usize) -> u32;
-    fn sivorandra_sentence(words: *const u32, words_len: usize, buffer: *mut u8, buffer_len: usize, answer: *mut u32, answer_len: usize) -> u32;
     fn clock_gettime(clock: i32, time: *mut [i64; 2]) -> i32;
 }
 
@@ -39,21 +37,6 @@ fn response_times(words: &[u32], verdict: &str) -> String {
     let (mut figures, mut answer) = ([0; 32], [0; 3]);
     let value = unsafe { sivorandra_response_times(words.as_ptr(), words.len(), figures.as_mut_ptr(), figures.len(), answer.as_mut_ptr(), answer.len()) };
     assert_eq!((value, answer), (0, if verdict.starts_with("miss") { [3, 13, 0] } else { [0; 3] }), "the call is answered as the verdict says");
-    verdict.into()
-}
-
-/// The sentence of the miss, which begins with its tick and position; 17 where there is none.
-fn sentence(words: &[u32], verdict: &str) -> String {
-    let (mut buffer, mut answer) = ([0; 700], [0; 3]);
-    let value = unsafe { sivorandra_sentence(words.as_ptr(), words.len(), buffer.as_mut_ptr(), buffer.len(), answer.as_mut_ptr(), answer.len()) };
-    assert_eq!(value, 0, "the call is answered");
-    match verdict.split(' ').collect::<Vec<_>>()[..] {
-        ["miss", tick, position] => {
-            let text = String::from_utf8_lossy(&buffer[..answer[1] as usize]);
-            assert!(text.starts_with(&format!("task {position} misses at tick {tick} ")), "the sentence is that of the verdict: {text}");
-        }
-        _ => assert_eq!(answer, [3, 17, 0], "no miss, no sentence"),
-    }
     verdict.into()
 }
 
@@ -101,14 +84,13 @@ fn main() {
         let words = baseline::numbers(&text).expect("a table's text");
         let table = baseline::load(&text).unwrap_or_else(|refusal| panic!("{path} is refused: {refusal:?}"));
         let expected = baseline::verdict(&table, true);
-        let judges: [(bool, &dyn Fn() -> String); 5] = [
+        let judges: [(bool, &dyn Fn() -> String); 4] = [
             (false, &|| library(sivorandra_judge, &words)),
             (true, &|| library(sivorandra_judge_ticks, &words)),
             (false, &|| baseline::verdict(&table, true)),
             (false, &|| response_times(&words, &expected)),
-            (false, &|| sentence(&words, &expected)),
         ];
-        let (mut least, mut spent) = ([u64::MAX; 5], [0; 5]);
+        let (mut least, mut spent) = ([u64::MAX; 4], [0; 4]);
         for _ in 0..runs {
             for (at, (by_ticks, judge)) in judges.iter().enumerate() {
                 if *by_ticks && spent[at] > ENOUGH {
@@ -126,6 +108,6 @@ fn main() {
             ("miss", rest) => rest.split(' ').next().and_then(|tick| tick.parse().ok()).expect("a tick"),
             _ => (table.s + table.p) as u32,
         };
-        println!("{path} {end} {} {} {} {} {} {}", events(&table, end), least[0], least[1], least[2], least[3], least[4]);
+        println!("{path} {end} {} {} {} {} {}", events(&table, end), least[0], least[1], least[2], least[3]);
     }
 }

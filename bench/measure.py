@@ -52,14 +52,6 @@ def six(path):
     return path.parent / "six" / path.name
 
 
-def asked(path):
-    """The same table after the line of the question `verdict`, as `query` reads it."""
-    made = path.parent / "asked" / path.name
-    made.parent.mkdir(exist_ok=True)
-    made.write_bytes(b"verdict\n" + path.read_bytes())
-    return made
-
-
 def spent():
     """The processor time of the programs that have ended, user and system."""
     children = resource.getrusage(resource.RUSAGE_CHILDREN)

@@ -1,7 +1,7 @@
 #!/usr/bin/env python3
-"""Tables for measuring, all accepted but those that miss late.
+"""Tables for measuring, all accepted.
 
-    bench/tables.py DIR GANGSIM BASELINE [pairs box longer more late tight]
+    bench/tables.py DIR GANGSIM BASELINE [pairs box longer more]
 
 DIR/RULE-KIND.txt: heavy ones of 32 tasks, 64 cores and a horizon of up to 10,000,000, for each rule with short, long and mixed periods and with slow ones, of 10,000 ticks and more. 'early' in a name:
 deadlines come before the period's end. 'fenced': 10 of the cores are. Their tasks have one width. The reference simulator picks one that fits. It reads tables of three header words and records of six,
@@ -9,8 +9,6 @@ from before there was a fence: it has the same tasks on just the unfenced cores,
 
 The other folders are made if they are named. DIR/pairs/: the same with a second width for every third task, so with twice the horizon, which the baseline picks. DIR/box/: 30 tasks with periods of 500 to 20,000 ticks and a horizon near 1,000,000,000, which the baseline picks.
 DIR/longer/: one table, and the same with all its numbers of ticks times 10 and times 100. DIR/more/: 27 tasks, and up to three more of which each multiplies P.
-DIR/tight/: 30 tasks on 8 and on 16 cores under rule 2, with periods of 500 to 20,000 that load the cores to 60, 70 and 80 percent, which the baseline picks.
-DIR/late/: two tasks on one core, which miss at tick 481,911,070, and ten tables of 32 tasks that miss at tick 1,000,000 or later. 'meeting' in a name: the last task is late where many jobs meet. 'waiting': its job waits from tick 1,000,000 on, for as long.
 """
 import math
 import pathlib
@@ -28,11 +26,7 @@ SLOW = [period for period in LONG if period >= 10_000]
 POOLS = {"short": (SHORT, [128, 78125]), "long": (LONG, [128, 78125]), "mixed": (SHORT + LONG, [128, 78125]), "slow": (SLOW, [16000, 78125])}
 BOX = 980_179_200  # 2^8 3^2 5^2 7 11 13 17
 LIMIT = 1_000_000_000
-TIGHT = {"short": 720_720, "long": 36_756_720}  # the hyperperiods of the tight tables
 LOAD = 0.55  # of the cores' time, at most
-LATE = 1_000_000  # a miss from this tick on is late; no offset and no period is longer
-# One core: the second task is late where a job of the first meets one of its own.
-TWO_TASKS = [(575, 1, 4, 33194, 33194, 1), (782, 1, 7, 8, 38156, 1)]
 
 
 def divisors(whole, least, most):
@@ -98,38 +92,6 @@ def more(seed):
     return {f"{count} tasks": made[:count] for count in range(27, 31)}
 
 
-def meeting(kind, early, seed):
-    """The heavy tasks with any offsets; the last is wide, with short jobs that seldom have to wait long."""
-    rng = random.Random(seed)
-    made = [(rng.randint(0, one[4]), *one[1:]) for one in heavy(kind, early, seed)]
-    offset, period = made[-1][0], made[-1][4]
-    width, length = rng.randint(CORES // 3, CORES - 4), rng.randint(5, 40)
-    return made[:-1] + [(offset, width, length, rng.randint(length, 3 * length), period, width)]
-
-
-def waiting(kind, early, seed):
-    """The heavy tasks; the last has the latest offset, the longest period and jobs as long, as wide as the cores."""
-    return heavy(kind, early, seed)[:-1] + [(LATE, CORES, LATE, LATE, LATE, CORES)]
-
-
-def tight(cores, load, whole, seed):
-    """30 tasks that load the cores to this share, with periods of 500 to 20,000 that divide a hyperperiod; a third with early deadlines, half with an offset. None where a job does not fit its deadline."""
-    rng = random.Random(f"{cores} {load} {seed}")
-    found = divisors(whole, 500, 20_000)
-    while True:
-        periods = sorted(rng.choice(found) for _ in range(30))
-        if math.lcm(*periods) == whole:
-            break
-    shares = [rng.expovariate(1) + 0.2 for _ in periods]
-    made = []
-    for period, share in zip(periods, shares):
-        width = rng.randint(1, cores // 4)
-        length = max(1, min(period, round(share / sum(shares) * load * cores * period / width)))
-        deadline = rng.randint(period - period // 4, period) if rng.random() < 0.3 else period
-        made.append((rng.choice([0, rng.randint(0, period)]), width, length, deadline, period, width))
-    return made if all(C <= D for _, _, C, D, _, _ in made) else None
-
-
 def words(made, *header, record=7):
     """The text of a table of these tasks: the head, the rest of its header, the records of a given length."""
     numbers = [1, *header]
@@ -141,11 +103,6 @@ def words(made, *header, record=7):
 def fits(command, text):
     said = subprocess.run(command, input=text.encode(), capture_output=True, check=True).stdout
     return said.startswith((b"firm", b"full"))
-
-
-def misses_late(command, text):
-    said = subprocess.run(command, input=text.encode(), capture_output=True, check=True).stdout.split()
-    return said[0] == b"miss" and int(said[1]) >= LATE
 
 
 def first_that(found, seeds=300):
@@ -214,34 +171,6 @@ def write_family(folder, baseline, family):
         (folder / f"{at}-{name.replace(' ', '-')}.txt").write_text(text)
 
 
-def write_tight(folder, baseline):
-    folder.mkdir(parents=True, exist_ok=True)
-    for kind, whole in TIGHT.items():
-        for cores in (8, 16):
-            for load in (60, 70, 80) if kind == "short" else (70,):
-
-                def found(seed):
-                    made = tight(cores, load / 100, whole, seed)
-                    text = words(made, cores, 2, 0, 0) if made else ""
-                    return text if made and fits([baseline, "jump"], text) else None
-
-                (folder / f"2-{kind}-{cores:02}-{load}.txt").write_text(first_that(found))
-
-
-def write_late(folder, baseline):
-    folder.mkdir(parents=True, exist_ok=True)
-    (folder / "2-two-tasks.txt").write_text(words(TWO_TASKS, 1, 2, 0, 0))
-    for at, (kind, early) in enumerate((("short", False), ("short", True), ("mixed", True), ("mixed", False), ("long", False))):
-        for how in (meeting, waiting):
-            rule = at % 3 + 1
-
-            def found(seed):
-                text = words(how(kind, early, seed), CORES, rule, 0, 0)
-                return text if misses_late([baseline, "jump"], text) else None
-
-            (folder / f"{rule}-{kind}{'-early' if early else ''}-{how.__name__}.txt").write_text(first_that(found))
-
-
 def main():
     folder, gangsim, baseline, *parts = pathlib.Path(sys.argv[1]), *sys.argv[2:]
     write_heavy(folder, gangsim)
@@ -252,10 +181,6 @@ def main():
     for name, family in (("longer", longer), ("more", more)):
         if name in parts:
             write_family(folder / name, baseline, family)
-    if "tight" in parts:
-        write_tight(folder / "tight", baseline)
-    if "late" in parts:
-        write_late(folder / "late", baseline)
 
 
 if __name__ == "__main__":

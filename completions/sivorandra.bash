@@ -1,8 +1,8 @@
 # Completion of sivorandra for bash: the options that can still be added, and file names.
 _sivorandra() {
     local word=${COMP_WORDS[COMP_CWORD]} before=${COMP_WORDS[COMP_CWORD - 1]} given option other without=''
-    local options='--verdict --json --jobs --why --longest --bounds --spare --clash --order --picture --report --from --to --replay --check --compare --words --sheet-of --help --version --strict --sheet --names'
-    local alone='--verdict --json --why --longest --bounds --spare --order --check --words --sheet-of --help --version'
+    local options='--verdict --json --jobs --why --longest --bounds --spare --clash --picture --report --from --to --replay --check --compare --words --sheet-of --help --version --strict --sheet --names'
+    local alone='--verdict --json --why --longest --bounds --spare --check --words --sheet-of --help --version'
     local main=${options%% --strict*}
     COMPREPLY=()
     case $before in
@@ -21,9 +21,7 @@ _sivorandra() {
         without+=" $alone $option --jobs"
         case $option in
         --why | --longest | --bounds | --spare | --check) without+=" $main" ;;
-        --order) without+=" ${main/--words /}"; continue ;;
-        --words) without+=" ${main/--order /}"; continue ;;
-        --sheet-of) without+=" ${options/ --strict/}" ;;
+        --words | --sheet-of) without+=" ${options/ --strict/}" ;;
         --clash) without+=' --report --replay --compare' ;;
         --picture) without+=' --report --compare' ;;
         --report) without+=' --picture --clash' ;;

@@ -21,8 +21,7 @@
    - start takes a table that is firm or full (sivorandra_table_judge says which). In a firm one no
      job is ever late. In a full one a job that ends early or is empty can make another late. Then
      15 names it, answer.second, and the run stays in this tick for good.
-   - A refused call leaves the run in its tick and writes zeros. If it is overlooked, the cores
-     stay idle.
+   - A refused call leaves the run in its tick and writes zeros: overlooked, the cores stay idle.
    - A set of positions has bit 0 for position 1, the highest priority. A set of cores has bit 0 for
      core 0, and sets[0] is that of position 1. A `p` in the text of a number is answer.second.
    - `empties` is the same in all calls of a tick. A job may be empty only in the tick in which it
@@ -37,8 +36,8 @@
      examples/judge.c judges a file, sivorandra.hpp is the same for C++. In this file come: costs,
      version and limits, words, answers and numbers, the plain calls, the typed calls.
 
-   WHERE IT RUNS. x86-64 Linux today, since the toolchain writes no other archive. Nothing in the
-   sources is known to need this machine, but no other was tried. */
+   WHERE IT RUNS. x86-64 Linux today, since the toolchain writes no other archive. Nothing known in
+   the sources stands against another machine, and it was not tried. */
 #ifndef SIVORANDRA_H
 #define SIVORANDRA_H
 
@@ -51,14 +50,14 @@ extern "C" {
 
 /* ================================================================ WHAT A CALL COSTS
 
-   - Memory: none from the heap. Of the stack less than SIVORANDRA_STACK_BYTES (measured, and
-     rounded up: check_row 15,600, check_begin 14,600, replay 14,100, order 13,700, slack
-     12,900, advance 12,800, start 12,200, conflict 11,800, withdraw 11,300, withdraw_all 11,300,
-     sentence 10,000, plan 8,700, judge 7,300, judge_events 7,200, response_times 6,600,
-     judge_ticks 6,200, bounds 5,600, row 5,400, sets 5,300, working 5,000, facts 700 bytes).
+   - Memory: none from the heap. Of the stack less than SIVORANDRA_STACK_BYTES (measured:
+     check_row 15,600 bytes, check_begin 14,600, replay 14,100, sentence 13,700, advance
+     12,800, start 12,200, slack 12,100, conflict 11,800, plan 11,400, withdraw and
+     withdraw_all 11,300, judge 7,300, judge_events 7,200, response_times 6,600, judge_ticks
+     5,700, bounds 5,600, row 5,400, sets 5,300, working 5,000, facts 700).
    - Threads: the library has no state and no data that is written to, so any number of
      threads may call at once, each with slices of its own to be written to; slices that are
-     only read may be shared. Of the C library it calls memcpy, memmove and memset alone.
+     only read may be shared. Of the C library it calls memcpy and memset alone.
    - Time: row, sets, working, advance, the withdrawals and check_row take some microseconds
      at most, bounded by the 32 tasks and 64 cores. judge first tries the interference test,
      which takes some 100 microseconds at most and accepts most tables that are not nearly
@@ -69,14 +68,12 @@ extern "C" {
      where the periods are long, and two minutes where all 32 tasks change in every tick. No
      call can be stopped from outside: where that is too long, judge in a process of its own.
      judge_ticks simulates every tick, judge_events every event; start takes as long as judge;
-     sentence judges, and where there is a miss simulates event by event up to it;
-     response_times always simulates, event by event, up to the horizon or the first miss; plan
-     always simulates, by events or by ticks as judge does, once to a and twice from a to b;
-     replay takes a start, and an advance or a withdrawal for each entry; facts reads its bytes
-     once; conflict judges the table and sub-tables of it, 529 times at most; slack judges the
-     table, and at most 20 times for each task the table with it longer; order judges as often
-     as its caller allows, and after each order that it repairs simulates event by event up to
-     the miss; check_begin judges nothing.
+     sentence judges, and where there is a miss simulates every tick up to it; response_times
+     always simulates, event by event, up to the horizon or the first miss; plan judges up to
+     b, and simulates every tick up to b; replay takes a start, and an advance or a withdrawal
+     for each entry; facts reads its bytes once; conflict judges the table and sub-tables of
+     it, 529 times at most; slack judges the table, and at most 20 times for each task the
+     table with it longer; check_begin judges nothing.
 
    A run in words, and a plan in words, belong to the version that wrote them: the words may
    change with the version. Keep SIVORANDRA_VERSION beside what is stored, and start or
@@ -88,11 +85,11 @@ extern "C" {
 /* The version of this header; sivorandra_version returns that of the library that is linked.
    One number, which grows with the version: major * 10000 + minor * 100 + patch. */
 #define SIVORANDRA_VERSION_MAJOR 0
-#define SIVORANDRA_VERSION_MINOR 29
+#define SIVORANDRA_VERSION_MINOR 27
 #define SIVORANDRA_VERSION_PATCH 0
 #define SIVORANDRA_VERSION \
     (SIVORANDRA_VERSION_MAJOR * 10000 + SIVORANDRA_VERSION_MINOR * 100 + SIVORANDRA_VERSION_PATCH)
-#define SIVORANDRA_VERSION_TEXT "0.29.0"
+#define SIVORANDRA_VERSION_TEXT "0.27.0"
 
 /* No call uses more bytes of the stack. */
 #define SIVORANDRA_STACK_BYTES 20480
@@ -188,7 +185,7 @@ extern "C" {
    numbers. Words behind them stay. */
 #define SIVORANDRA_ANSWER_WORDS 3
 #define SIVORANDRA_DONE 0u        /* rows written, last row shown, begun, or taken: 0 and 0 */
-#define SIVORANDRA_FIRM 0u        /* from sivorandra_judge, judge_ticks, judge_events, order: S P */
+#define SIVORANDRA_FIRM 0u        /* from sivorandra_judge, judge_ticks, judge_events: S, P */
 #define SIVORANDRA_FULL 1u        /* S and P */
 #define SIVORANDRA_MISS 2u        /* tick and position */
 #define SIVORANDRA_LENGTH 0u      /* from sivorandra_sentence: the sentence's length, and 0 */
@@ -198,7 +195,6 @@ extern "C" {
 #define SIVORANDRA_ROW_REFUSED 4u /* the last row of a replay: number and position */
 #define SIVORANDRA_NO_SENTENCE 5u /* from sivorandra_facts: 0 and 0 */
 #define SIVORANDRA_ACCEPTED 6u    /* from sivorandra_check_row: the plan is accepted: 0, 0 */
-#define SIVORANDRA_NO_ORDER 7u    /* from sivorandra_order: the number of orders tried, and 0 */
 
 /* The number of a refusal: the first that applies, where 19 comes between 3 and 4, and 20
    between 15 and 16; check_row's order is 14, 9, 10, 11, 25, 24 and, after the last row, 25
@@ -227,8 +223,8 @@ enum sivorandra_number {
         /* row, sets, working, advance, withdraw, withdraw_all: the words are no run; check_row:
            they are no plan's */
     SIVORANDRA_LATE = 15,
-        /* row, sets, working, advance: the position has not ended its job at its deadline; of
-           several the one of highest priority */
+        /* row, sets, working, advance: the position, the lowest that is late, has not ended its
+           job at its deadline */
     SIVORANDRA_BAD_REPORT = 16,
         /* advance: for a position past the count, or a task that is not working or has no cores,
            its own or lent, in this tick */
@@ -272,9 +268,8 @@ enum sivorandra_number {
 /* The version of the library that is linked, as SIVORANDRA_VERSION has that of the header. */
 uint32_t sivorandra_version(void);
 
-/* The verdict on the table in `words`: firm, full, miss or refused. A table that does
-   not pass the interference test is simulated event by event or tick by tick, whichever is faster
-   for its periods. */
+/* The verdict on the table in `words`: firm, full, miss or refused. It simulates event by
+   event or tick by tick, whichever is faster for the table's periods. */
 uint32_t sivorandra_judge(const uint32_t *words, size_t words_len, uint32_t *answer, size_t
                           answer_len);
 
@@ -389,7 +384,7 @@ uint32_t sivorandra_facts(const uint8_t *bytes, size_t bytes_len, uint64_t *fact
    firm a job can take longer where others end early. Words past the last task are 0, and so
    are all 32 where it is refused; words behind them stay. It always simulates, event by
    event: at most twice the time that sivorandra_judge takes where that simulates.
-   sivorandra_bounds gives bounds without simulation. */
+   sivorandra_bounds gives bounds without simulation. It takes 6,600 bytes of the stack. */
 uint32_t sivorandra_response_times(const uint32_t *words, size_t words_len, uint32_t *figures,
                                    size_t figures_len, uint32_t *answer, size_t answer_len);
 
@@ -402,7 +397,8 @@ uint32_t sivorandra_response_times(const uint32_t *words, size_t words_len, uint
    the remaining tasks, up to their first miss or else up to their horizon, which is no later
    than the whole table's. So it can take much longer than sivorandra_judge, which ends at the
    first miss: where all 32 tasks are kept, as long as 32 judgings without a miss. Every pass
-   but the last drops a task: with the whole table it judges 529 times at most. */
+   but the last drops a task: with the whole table it judges 529 times at most. It takes
+   14,000 bytes of the stack. */
 uint32_t sivorandra_conflict(const uint32_t *words, size_t words_len, uint32_t *answer, size_t
                              answer_len);
 
@@ -414,10 +410,10 @@ uint32_t sivorandra_conflict(const uint32_t *words, size_t words_len, uint32_t *
    refused; words behind them stay. Slack is given for tables that are accepted under limited,
    or under greedy with no width of a task above one of the next: under idling and lending,
    and under greedy out of this order, a table can miss with a shorter job and be accepted
-   with a longer one. It judges the table, and then for each task, between a growth that is
-   accepted and one that misses, at most 51 times the table with this task longer, each up to
-   the horizon or the first miss: 1,633 judgings at most. Growths that the interference test
-   accepts are not judged. */
+   with a longer one. It judges the table, and then for each task, by bisection between a
+   growth that is accepted and one that misses, at most 20 times the table with this task
+   longer, each up to the horizon or the first miss: 641 judgings at most. It takes 11,300
+   bytes of the stack. */
 uint32_t sivorandra_slack(const uint32_t *words, size_t words_len, uint32_t *figures, size_t
                           figures_len, uint32_t *answer, size_t answer_len);
 
@@ -431,23 +427,6 @@ uint32_t sivorandra_slack(const uint32_t *words, size_t words_len, uint32_t *fig
    words behind them stay. At most 41 windows are tried for each task. */
 uint32_t sivorandra_bounds(const uint32_t *words, size_t words_len, uint32_t *figures, size_t
                            figures_len, uint32_t *answer, size_t answer_len);
-
-/* The judgings that ./sivorandra --order allows. */
-#define SIVORANDRA_JUDGINGS 200u
-
-/* An order of priorities under which the table in `words` is accepted, searched for in at most
-   `judgings` judgings. Firm or full, with S and P: its positions, those of the table, highest
-   priority first, are in the first SIVORANDRA_MOST_TASKS words of `figures`, and the table
-   with its chain in this order has this verdict. SIVORANDRA_NO_ORDER: none of the orders
-   tried fits; nothing is claimed of any other. Or refused by the table's numbers. These are
-   tried: the own order, by deadline, by D - C with C above D first, by rising width, by
-   falling width; then, where none of them is accepted, the one with the latest first miss is
-   repaired: the late task goes directly above the task that ran most while it waited, again
-   and again. The first that is firm is given, else the first that is full. Words past the
-   last task are 0, and so are all 32 where no order is given; words behind them stay. */
-uint32_t sivorandra_order(const uint32_t *words, size_t words_len, uint32_t judgings,
-                          uint32_t *figures, size_t figures_len, uint32_t *answer, size_t
-                          answer_len);
 
 /* Begins a plan that another planner makes for the table in `words`, whatever the table's
    verdict: done, or refused by the table's numbers, 1 to 9 and 19. Its rows are then lent to
@@ -505,8 +484,7 @@ enum sivorandra_kind {
     SIVORANDRA_IS_REFUSED = 7,     /* enum sivorandra_number, and position; 24 to 26: tick */
     SIVORANDRA_IS_ROW_REFUSED = 8, /* the last row of a replay: the same */
     SIVORANDRA_IS_NO_SENTENCE = 9, /* facts: the bytes are no sentence */
-    SIVORANDRA_IS_SHORT = 10,      /* a lent slice is too short, or entries are none: 0 and 0 */
-    SIVORANDRA_IS_NO_ORDER = 11    /* order: none of the orders tried fits: their number, and 0 */
+    SIVORANDRA_IS_SHORT = 10       /* a lent slice is too short, or entries are none: 0 and 0 */
 };
 
 struct sivorandra_answer {
@@ -607,7 +585,6 @@ static inline int sivorandra_told(uint32_t value, const uint32_t *words, enum si
         case SIVORANDRA_ROW_REFUSED: told.kind = SIVORANDRA_IS_ROW_REFUSED; break;
         case SIVORANDRA_NO_SENTENCE: told.kind = SIVORANDRA_IS_NO_SENTENCE; break;
         case SIVORANDRA_ACCEPTED: told.kind = SIVORANDRA_IS_ACCEPTED; break;
-        case SIVORANDRA_NO_ORDER: told.kind = SIVORANDRA_IS_NO_ORDER; break;
         default: told.kind = SIVORANDRA_IS_REFUSED; break;
         }
     }
@@ -769,18 +746,6 @@ SIVORANDRA_TYPED int sivorandra_table_bounds(const uint32_t *words, size_t words
                                        SIVORANDRA_ANSWER_WORDS);
     return sivorandra_told(value, told,
                            told[1] == 1 ? SIVORANDRA_IS_DONE : SIVORANDRA_IS_NOT_PASSED, answer);
-}
-
-/* An order that fits, its positions highest priority first. Success: firm or full in this order. */
-SIVORANDRA_TYPED int sivorandra_table_order(const uint32_t *words, size_t words_len,
-                                            uint32_t judgings,
-                                            uint32_t positions[SIVORANDRA_MOST_TASKS],
-                                            struct sivorandra_answer *answer)
-{
-    uint32_t told[SIVORANDRA_ANSWER_WORDS] = { 0 };
-    uint32_t value = sivorandra_order(words, words_len, judgings, positions,
-                                      SIVORANDRA_MOST_TASKS, told, SIVORANDRA_ANSWER_WORDS);
-    return sivorandra_told(value, told, SIVORANDRA_IS_FIRM, answer);
 }
 
 /* A minimal set of positions that misses, into *kept; 0 in a refusal. */

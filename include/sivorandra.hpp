@@ -316,28 +316,6 @@ inline Result<Bounds> bounds(Words words)
                           Bounds{passes, figures});
 }
 
-/* Whether an order that fits was found; its verdict and its positions, highest priority first; or
-   the number of orders tried, and zeros. */
-struct Order {
-    bool fits;
-    Verdict verdict;
-    Figures positions;
-    std::uint32_t tried;
-};
-
-inline Result<Order> order(Words words, std::uint32_t judgings = SIVORANDRA_JUDGINGS)
-{
-    Figures positions{};
-    sivorandra_answer answer;
-    int status = sivorandra_table_order(words.data(), words.size(), judgings, positions.data(),
-                                        &answer);
-    bool fits = status == 0, none = answer.kind == SIVORANDRA_IS_NO_ORDER;
-    auto is = answer.kind == SIVORANDRA_IS_FIRM ? Verdict::Case::firm : Verdict::Case::full;
-    return detail::result(none ? 0 : status, answer,
-                          Order{fits, Verdict{is, fits ? answer.first : 0, answer.second},
-                                positions, none ? answer.first : 0});
-}
-
 /* A minimal set of positions that misses. */
 inline Result<std::uint32_t> conflict(Words words)
 {

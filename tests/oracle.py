@@ -1,11 +1,8 @@
 """What the outside tests share: paths, the simulator by another hand, the vectors, and the count that is the last line of each."""
 import contextlib
-import importlib.util
 import os
 import pathlib
-import random
 import re
-import resource
 import subprocess
 import sys
 import tempfile
@@ -36,46 +33,6 @@ def first_line(command, text):
         process.stdin.write(text)
         process.stdin.close()
         return process.stdout.readline()
-
-
-def verdict_line(text):
-    """The verdict's line on a table's text, by the question `verdict`."""
-    return stdout_of([program("query")], b"verdict\n" + text)
-
-
-def in_place_of_query(script):
-    """A shell script in place of `query`: the question `verdict` is the program's own, the others are answered by a script that has the word as $question."""
-    return f'#!/bin/sh\nread question\nif [ "$question" = verdict ]; then {{ echo verdict; cat; }} | {program("query")}; exit; fi\n{script}\n'
-
-
-def early_ends(text, ticks):
-    """A list of so many ticks of a table in which some jobs that work end early, each with the program's own answer on who works."""
-    rng, lines = random.Random(1), []
-    with subprocess.Popen([program("replay")], stdin=subprocess.PIPE, stdout=subprocess.PIPE, bufsize=0) as process:
-        process.stdin.write(text + b"--\n")
-        assert process.stdout.readline() == b"ok\n"
-        for _ in range(ticks):
-            process.stdin.write(b"j\n")
-            working = int(process.stdout.readline().split()[-1])
-            lines.append(b"a %d\n" % sum(1 << place for place in range(32) if working >> place & 1 and rng.random() < 0.003))
-            process.stdin.write(lines[-1])
-            assert process.stdout.readline() == b"taken\n"
-    return b"".join(lines)
-
-
-def bench(name):
-    """A module of bench/."""
-    spec = importlib.util.spec_from_file_location(f"bench_{name}", ROOT / "bench" / f"{name}.py")
-    module = importlib.util.module_from_spec(spec)
-    spec.loader.exec_module(module)
-    return module
-
-
-def spent(action):
-    """What an action gives, and the processor time of the programs that it has started and that have ended."""
-    times = lambda: sum(resource.getrusage(resource.RUSAGE_CHILDREN)[:2])
-    before = times()
-    return action(), times() - before
 
 
 def text_of(words):

@@ -168,21 +168,6 @@ def long_periods(rng, hyperperiods):
     return linked(rng, cores, fenced, [long_task(rng, cores - fenced.bit_count(), whole, periods, load / count * rng.uniform(0.5, 1.5), early) for _ in range(count)])
 
 
-def real_scale(rng, load, count=30):
-    """The words of 30 tasks, or so many, with periods of 500 to 20,000 ticks on 16 cores, short ones first, with this share of the cores' time; rule 1, or where widths rise with the periods firm."""
-    tasks = []
-    for _ in range(count):
-        period = rng.choice([500, 625, 800, 1000, 1250, 2000, 2500, 4000, 5000, 10_000, 20_000])
-        width = rng.choice([1, 1, 1, 2, 2, 3, 4, 6, 8])
-        length = max(1, min(period, int(period * load * rng.uniform(0.3, 1.7) * 16 / count / width)))
-        tasks.append([rng.choice([0, 0, rng.randrange(1, 400)]), width, length, period, period, width])
-    tasks.sort(key=lambda task: task[4] if load > 0.5 else (task[1], task[4]))
-    words = [1, 16, 1, 0, 0]
-    for place, task in enumerate(tasks, 2):
-        words += [place if place <= count else 0, *task]
-    return words
-
-
 def late_miss(rng):
     """The words of a table of two tasks that cannot run together and have no slack; their periods share no factor, so they are active together late, if at all before the horizon.
     Where the first has two widths they can, with every second job of it."""

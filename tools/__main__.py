@@ -11,7 +11,7 @@ import sys
 import system
 
 MODES = {  # module and function
-    **{mode: ("question", "answer") for mode in ("rows", "window", "verdict", "why", "longest", "bounds", "spare", "clash", "order", "order words")},  # of a sheet
+    **{mode: ("question", "answer") for mode in ("rows", "verdict", "why", "longest", "bounds", "spare", "clash")},  # of a sheet
     "words": ("question", "words"),
     "sheet-of": ("question", "sheet_of"),
     "picture": ("picture", "answer"),

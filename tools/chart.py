@@ -1,16 +1,25 @@
 """The chart of rows: cores over ticks, with a strip for each task below. It is given what to draw, and decides nothing."""
 import collections
-import functools
 from typing import Any, Collection, Dict, Iterable, Iterator, List, Optional, Sequence, Tuple
 
-from chart_marks import LOOKS, Marks
 from named import breadth
-from svg import RED, colour
+from svg import RED, Sheet, colour
 from table import Rows, Table, Task
-from texts import STRIP
-from window import JOB, SINGLE, Block, Job, Window, blocks_of
 
 Cells_by_position = Dict[int, List[Tuple[int, int, int]]]  # first cell, core and length of each run
+
+LOOKS = {
+    "fenced": {"fill": "url(#hatch)", "stroke": "#888"},
+    "ends": {"fill": "#e2e2e2"},
+    "empty": {"fill": "#fff"},
+    "out": {"fill": "#fff"},
+    "unused": {"fill": "#fff", "stroke": "#555", "stroke_width": 1.2, "stroke_dasharray": "3 2"},
+    "held": {"fill": "url(#light)", "stroke": "#888"},
+    "blank": {"fill": "#f6c8c8"},
+    "longest": {"fill": "#d8d8d8"},
+    "differs": {"fill": RED},
+    "refusal": {"fill": "#fff"},
+}
 
 
 def runs(line: List[int], start: int, tasks: Sequence[Task]) -> Iterator[Tuple[int, int, int]]:
@@ -31,32 +40,17 @@ def moments(task: Task, after: int, start: int, end: int) -> range:
     return range(first + max(0, -(-(start - first) // task.T)) * task.T, end + 1, task.T)
 
 
-def merged(blocks: Sequence[Block], core: int) -> Iterator[Tuple[int, int, int]]:
-    """The runs of equal positions of a core in blocks, as position, first cell, length."""
-    begin = 0
-    for at in range(1, len(blocks) + 1):
-        position = blocks[begin].row[core]
-        if at < len(blocks) and blocks[at].row[core] == position:
-            continue
-        if position:
-            yield position, blocks[begin].start - blocks[0].start, blocks[at - 1].end - blocks[begin].start
-        begin = at
-
-
-class Cells(Marks):
-    """The chart of the rows from a tick on: cores over ticks, below it a strip for each position that is drawn. More than 100 ticks are drawn to scale: a block of equal rows is one cell."""
+class Cells(Sheet):
+    """The chart of the rows from a tick on: cores over ticks, below it a strip for each position that is drawn."""
 
     HREF = "xlink:href"
-    ARROWS = 150, 400_000  # jobs of a task that have arrows at most, and bytes that all of them have in a picture to scale
 
-    def __init__(self, table: Table, start: int, rows: Rows, own: str = "", window: Optional[Window] = None):
+    def __init__(self, table: Table, start: int, rows: Rows, own: str = ""):
         super().__init__(own)
-        self.scaled, self.window = len(rows) > SINGLE, window or Window.of(rows, start)
         self.table, self.start, self.end, self.rows, self.drawn = table, start, start + len(rows), rows, table.drawn
         self.cores, self.tasks, self.fenced = table.cores, table.tasks, sorted(table.fenced)
         self.high = next(size for most, size in ((8, 28), (16, 20), (32, 15), (64, 12)) if self.cores <= most)
         self.strip = 24 if len(self.drawn) <= 12 else 18
-        self.ended: Optional[Dict[Tuple[int, int], int]] = None  # of a list: the ends of jobs, by position and release
         self.pairs = any(self.tasks[position - 1].v != self.tasks[position - 1].w for position in self.drawn)
 
     def lay_out(self, wide: float, left: float, top: float) -> None:
@@ -72,16 +66,14 @@ class Cells(Marks):
     def base(self, position: int) -> float:
         return self.under + 46 + (self.drawn.index(position) + 1) * self.strip - 4
 
-    def bar(self, since: int, until: int, base: float, high: float = 8, **words: Any) -> None:
-        least = 0.7 if self.scaled else 0  # so that it is seen
-        self.add("rect", x=self.x(since), y=base - high, width=round(max(least, (until - since) * self.wide), 2), height=high, **words)
+    def bar(self, since: int, until: int, base: float, **words: Any) -> None:
+        self.add("rect", x=self.x(since), y=base - 8, width=round((until - since) * self.wide, 2), height=8, **words)
 
-    def cells(self, held: Collection[Tuple[int, int]] = (), lent: Collection[Tuple[int, int]] = ()) -> None:
-        """The cells. In the group `rows` x is the tick since the first, y the core. `held` has for a tick the positions whose job has ended and that keep their cores, `lent` the cores that another lends."""
+    def cells(self, held: Collection[Tuple[int, int]] = ()) -> None:
+        """The cells. In the group `rows` x is the tick since the first, y the core. `held` has for a tick the positions whose job has ended and that keep their cores."""
         ticks, found = self.end - self.start, collections.defaultdict(list)
-        blocks = blocks_of(self.rows, self.start) if self.scaled else []
         for core in sorted(set(range(self.cores)) - set(self.fenced)):
-            for position, at, length in merged(blocks, core) if self.scaled else runs([row[core] for row in self.rows], self.start, self.tasks):
+            for position, at, length in runs([row[core] for row in self.rows], self.start, self.tasks):
                 found[position].append((at, core, length))
         with self.group(id="rows", transform=f"translate({self.left} {self.top}) scale({self.wide} {self.high})"):
             self.add("title", f"from tick {self.start}, {self.amount(ticks, 'tick')}, {self.amount(self.cores, 'core')}")
@@ -95,9 +87,8 @@ class Cells(Marks):
                     for core in self.fenced:
                         self.add("rect", x=0, y=core, width=ticks, height=1)
         self.pale(held)
-        self.dotted(lent)
         with self.group(stroke="#fff", stroke_width=0.6):
-            for tick in range(self.start + 1, self.end) if not self.scaled else ():
+            for tick in range(self.start + 1, self.end):
                 self.add("line", x1=self.x(tick), x2=self.x(tick), y1=self.top, y2=self.under)
         with self.group(stroke="#fff", stroke_width=1.2):
             for core in range(1, self.cores):
@@ -116,9 +107,7 @@ class Cells(Marks):
                 self.text(right, self.top + core * self.high + self.high / 2 + 4, f"core {core}", 11, text_anchor="end")
 
     def numbers(self, found: "Cells_by_position", held: Collection[Tuple[int, int]]) -> None:
-        """The number in each cell, or where cells are small in one of a run and in every tenth of a long one; to scale in the middle of a run, where there is room."""
-        if self.scaled:
-            return self.numbers_to_scale(found, held)
+        """The number in each cell, or where cells are small in one of a run and in every tenth of a long one."""
         size = min(14, self.high - 2, self.wide * 0.75)
         for position in sorted(found):
             fill = colour(position)[1]
@@ -128,15 +117,17 @@ class Cells(Marks):
                         pale = {"fill": "#000"} if fill != "#000" and (self.start + cell, position) in held else {}
                         self.add("text", str(position), x=round(self.x(self.start + cell) + self.wide / 2, 2), y=round(self.top + (core + 0.5) * self.high + size * 0.36, 2), **pale)
 
-    def numbers_to_scale(self, found: "Cells_by_position", held: Collection[Tuple[int, int]]) -> None:
-        size = min(12, self.high - 2)
-        for position in sorted(found):
-            fill = colour(position)[1]
-            with self.group(fill=fill, text_anchor="middle", font_size=size):
-                for at, core, length in [part for run in found[position] for part in self.parted(position, run, held)]:
-                    if length * self.wide >= 8 + 0.6 * size * len(str(position)):
-                        pale = {"fill": "#000"} if fill != "#000" and (self.start + at + length // 2, position) in held else {}
-                        self.add("text", str(position), x=self.x(self.start + at + length // 2), y=round(self.top + (core + 0.5) * self.high + size * 0.36, 2), **pale)
+    def pale(self, held: Collection[Tuple[int, int]]) -> None:
+        """The cells that are held, made pale and hatched."""
+        if not held:
+            return
+        self.hatching("light")
+        with self.group(id="held"):
+            for tick, position in sorted(held):
+                for core, having in enumerate(self.rows[tick - self.start]):
+                    if having == position:
+                        for fill in ({"fill": "#fff", "fill_opacity": 0.55}, {"fill": "url(#light)"}):
+                            self.add("rect", x=self.x(tick), y=self.top + core * self.high, width=round(self.wide, 2), height=self.high, **fill)
 
     def strips(self, late: Optional[Tuple[int, ...]], held: Collection[Tuple[int, int]] = (), unused: Iterable[Tuple[int, int, int]] = ()) -> None:
         """The strips: for each task its name, the time from release to deadline, the ticks in which it runs, its releases and deadlines.
@@ -147,15 +138,12 @@ class Cells(Marks):
             task, base, (fill, ink) = self.tasks[position - 1], self.base(position), colour(position)
             with self.group(id=f"task{position}"):
                 self.label(position, base, fill, ink)
-                if self.scaled:
-                    self.strip_to_scale(position, base, late[0] if late and late[1] == position else None)
-                else:
-                    for due in moments(task, task.D, self.start + 1, self.end + task.D - 1):
-                        self.bar(max(self.start, due - task.D), min(self.end, due), base, fill="#d8d8d8")
-                    self.worked([(at, length) for _, at, length in runs([position if position in row else 0 for row in self.rows], self.start, self.tasks)], base, fill)
-                for since, until, _ in self.stretches(sorted((tick, holder) for tick, holder in held if holder == position)):
-                    self.bar(since, until, base, fill="#fff", fill_opacity=0.55)
-                    self.bar(since, until, base, fill="url(#light)")
+                for due in moments(task, task.D, self.start + 1, self.end + task.D - 1):
+                    self.bar(max(self.start, due - task.D), min(self.end, due), base, fill="#d8d8d8")
+                self.worked([(at, length) for _, at, length in runs([position if position in row else 0 for row in self.rows], self.start, self.tasks)], base, fill)
+                for tick in sorted(tick for tick, holder in held if holder == position):
+                    self.bar(tick, tick + 1, base, fill="#fff", fill_opacity=0.55)
+                    self.bar(tick, tick + 1, base, fill="url(#light)")
                 for since, until in [(max(self.start, since), min(self.end, until)) for whose, since, until in unused if whose == position]:
                     if since < until:
                         self.bar(since, until, base, id=f"unused{position}-{since}", **LOOKS["unused"])
@@ -164,53 +152,8 @@ class Cells(Marks):
                 self.add("line", x1=self.x(self.start), x2=self.x(self.end), y1=base, y2=base, stroke="#888")
                 for name, arrow, after in (("releases", "up", 0), ("deadlines", "down", task.D)):
                     with self.group(id=f"{name}{position}"):
-                        for tick in moments(task, after, self.start, self.end) if self.sparse(task) else ():
+                        for tick in moments(task, after, self.start, self.end):
                             self.arrow(arrow, self.x(tick), base)
-
-    def sparse(self, task: Task) -> bool:
-        """Whether the jobs of a task have room for their arrows."""
-        most, room = self.ARROWS
-        return not self.scaled or (self.end - self.start) / task.T <= min(most, room / JOB / len(self.drawn))
-
-    def meeting(self) -> bool:
-        """Whether arrows of a deadline and of the next release are in one place."""
-        return any(self.sparse(task) and task.D == task.T < self.end - self.start for task in (self.tasks[position - 1] for position in self.drawn))
-
-    def jobs(self, position: int) -> List[Job]:
-        """The jobs of a position, those that are under way at the first tick too."""
-        return self.window.jobs(self.tasks[position - 1], self.running[position])
-
-    @functools.cached_property
-    def running(self) -> Dict[int, List[Tuple[int, int]]]:
-        """The ticks in which each position runs, in one walk over the rows."""
-        return self.window.running(self.table)
-
-    def strip_to_scale(self, position: int, base: float, late: Optional[int]) -> None:
-        """A strip to scale: where the task runs, where its job waits, and thin from the end of a job to its deadline. Of jobs that are too many to be told apart only where they run."""
-        task, within = self.tasks[position - 1], lambda since, until: (max(self.start, since), min(self.end, until))
-        jobs = self.jobs(position)
-        for job in jobs if self.sparse(task) else ():
-            over = (job.ended or self.end) if self.ended is None else self.ended.get((position, job.release), self.end)
-            for since, until in [within(since, min(until, over)) for since, until in job.waits(self.start, self.end)]:
-                if since < until:
-                    self.bar(since, until, base, fill=LOOKS["late" if job.due == late else "waits"]["fill"])
-            since, until = within(over, job.due)
-            if since < until:
-                self.bar(since, until, base, 2, fill="#d8d8d8")
-        found = [within(*part) for part in self.running[position]]
-        self.worked([(since - self.start, until - since) for since, until in found if since < until], base, colour(position)[0])
-
-    def strip_key(self) -> Tuple[str, str]:
-        """The fill of the legend's sample of a strip, and its words."""
-        return (colour(self.drawn[0])[0], "coloured where the task runs") if self.scaled else ("#d8d8d8", STRIP)
-
-    def to_scale(self, late: bool) -> List[Tuple[str, str]]:
-        """What the legend of a chart to scale has more."""
-        keys = [("waits", "waits: released, not ended, and without cores"), ("rest", "thin: the job has ended; the time left to its deadline")]
-        keys += [("late", "where the late job waits")] if late else []
-        crowded = [str(position) for position in self.drawn if not self.sparse(self.tasks[position - 1])]
-        keys += [("crowded", f"of position{'s' if len(crowded) > 1 else ''} {', '.join(crowded)} only where it runs: too many jobs for arrows")] if crowded else []
-        return keys if self.scaled else []
 
     def worked(self, found: Iterable[Tuple[int, int]], base: float, fill: str) -> None:
         """The ticks in which a task runs, in its strip."""
@@ -232,6 +175,34 @@ class Cells(Marks):
     def arrow(self, name: str, x: float, y: float) -> None:
         self.parts.append(f'<use {self.HREF}="#{self.own}{name}" x="{x}" y="{y}"/>')
 
+    def ends(self, tick: int, position: int) -> None:
+        """Where a job ends by a report: a bar at the right end of its cells and in its strip."""
+        thick, at = 3 if self.wide >= 24 else 2, self.x(tick + 1)
+        with self.group(id=f"end{position}-{tick}"):
+            self.add("title", f"position {self.table.names.at(position)} ends in tick {tick}")
+            for core, having in enumerate(self.rows[tick - self.start]):
+                if having == position:
+                    self.stop(at, self.top + core * self.high + 1, self.high - 2, thick)
+            self.stop(at, self.base(position) - 11, 12, thick)
+
+    def empty(self, tick: int, position: int) -> None:
+        """Where an empty job is released: a ring in its strip."""
+        with self.group(id=f"empty{position}-{tick}"):
+            self.add("title", f"the job that position {self.table.names.at(position)} releases in tick {tick} is empty")
+            self.ring(self.x(tick) + min(8, self.wide / 2), self.base(position) - 4)
+
+    def withdrawn(self, tick: int, position: int) -> None:
+        """Where a position is withdrawn: a bar with a foot over the beginning of the tick, in its strip."""
+        with self.group(id=f"out{position}-{tick}"):
+            self.add("title", f"position {self.table.names.at(position)} is withdrawn in tick {tick}")
+            self.gate(self.x(tick) + 1.5, self.base(position))
+
+    def gate(self, x: float, y: float) -> None:
+        self.add("path", d=f"M{round(x, 2)} {round(y - 14, 2)}v14m0 -14h7m-7 14h7", stroke="#000", stroke_width=2, fill="none")
+
+    def ring(self, x: float, y: float) -> None:
+        self.add("circle", cx=round(x, 2), cy=round(y, 2), r=4 if self.wide >= 12 else 3, fill="#fff", stroke="#000", stroke_width=1.5)
+
     def longest(self, position: int, figure: int, release: Optional[int]) -> None:
         """The worst-case response time of a task beside its strip, against its D; a bracket over a job with this response time."""
         base = self.base(position)
@@ -252,6 +223,10 @@ class Cells(Marks):
 
     def bracket(self, since: float, until: float, y: float) -> None:
         self.add("path", d=f"M{since} {y + 3}V{y}H{until}V{y + 3}", stroke="#000", fill="none")
+
+    def stop(self, x: float, y: float, high: float, thick: float) -> None:
+        self.add("rect", x=round(x - thick - 2, 2), y=y, width=thick + 2, height=high, fill="#fff")
+        self.add("rect", x=round(x - thick - 1, 2), y=y, width=thick, height=high, fill="#000")
 
     def mark(self, name: str, tick: int, words: str, y: float, ink: str, dashes: str) -> None:
         """A mark across chart and strips, if its tick is in the picture."""
@@ -277,6 +252,21 @@ class Cells(Marks):
     def miss_words(self, what: str, tick: int, position: int, more: str = "") -> str:
         """The text at the line of a miss."""
         return f"{what} at tick {self.table.names.tick(tick)}{more}, position {self.table.names.at(position)}"
+
+    def refused(self, tick: int, number: int) -> None:
+        """A tick at which something is refused: its number over the column."""
+        self.number = number
+        self.text(self.x(tick) + self.wide / 2, self.top - 8, str(number), 11 if self.wide >= 24 else 9, fill=RED, font_weight="bold", text_anchor="middle", id=f"refused-{tick}")
+
+    def differ(self, ticks: Iterable[int]) -> None:
+        """Ticks whose row is another than that of the full-length run: a band over them."""
+        with self.group(id="differs"):
+            for tick in ticks:
+                self.add("rect", x=self.x(tick), y=self.top - 5, width=round(self.wide, 2), height=4, **LOOKS["differs"])
+
+    def blank(self, tick: int) -> None:
+        """A tick without a row."""
+        self.add("rect", id="blank", x=self.x(tick), y=self.top, width=round(self.wide, 2), height=self.cores * self.high, fill_opacity=0.8, **LOOKS["blank"])
 
     def ticks(self) -> None:
         """The ticks' numbers, over the marks."""
@@ -304,8 +294,6 @@ class Cells(Marks):
             self.ring(x + 14, y + 6)
         if name == "out":
             self.gate(x + 10, y + 13)
-        if name == "rest":
-            self.add("rect", x=x, y=y + 8, width=28, height=2, fill="#d8d8d8")
         if name == "longest":
             self.bracket(x, x + 28, y + 1)
         if name == "refusal":

@@ -1,13 +1,13 @@
 """The two kinds of a chart: a picture of its own, and a drawing in a page, which has the rest in its own words."""
 import contextlib
 import re
-from typing import Any, Callable, Iterable, Iterator, List, Optional, Sequence, Tuple
+from typing import Any, Callable, Iterable, Iterator, List, Sequence, Tuple
 
 from chart import Cells
 from named import breadth
 from svg import RED
 from table import Rows, Table, Task
-from window import Window
+from texts import STRIP
 
 MONO = {"font_size": 10, "font_family": "DejaVu Sans Mono, Menlo, Consolas, monospace", "xml:space": "preserve", "fill": "#333"}
 
@@ -22,14 +22,14 @@ class Chart(Cells):
 
     LABEL = 24  # letters of a name beside a strip
 
-    def __init__(self, table: Table, start: int, rows: Rows, head: Sequence[str], red: Sequence[str] = (), window: Optional[Window] = None):
-        super().__init__(table, start, rows, window=window)
+    def __init__(self, table: Table, start: int, rows: Rows, head: Sequence[str], red: Sequence[str] = ()):
+        super().__init__(table, start, rows)
         self.names = {position: f"{position} {table.names.name(position, self.LABEL)}" if table.names else f"{position} (record {table.records[position - 1]})" for position in self.drawn}
         self.box = 12 + 6 * max(map(breadth, self.names.values()))
         self.over_fields = "O", "v/w" if self.pairs else "v", "C", "D", "T"
         self.fields = {position: fields_of(self.tasks[position - 1]) for position in self.drawn}
         self.columns = [max(len(field) for field in column) + 2 for column in zip(self.over_fields, *self.fields.values())]
-        self.lay_out(960 / len(rows) if self.scaled else min(80, max(12, 960 / len(rows))), 16 + max(40, self.box + 14 + 6.1 * sum(self.columns)), 69 + 19 * (len(head) - 3 + len(red)) + 57)
+        self.lay_out(min(80, max(12, 960 / len(rows))), 16 + max(40, self.box + 14 + 6.1 * sum(self.columns)), 69 + 19 * (len(head) - 3 + len(red)) + 57)
         self.text(16, 28, head[0], 17, font_weight="bold")
         for k, line in enumerate([*head[1:], *red]):
             self.text(16, 50 + 19 * k, line, 13, **({"fill": RED} if k >= len(head) - 1 else {}))
@@ -53,9 +53,8 @@ class Chart(Cells):
         self.text(30, y, "release")
         self.arrow("down", 84, y + 2)
         self.text(92, y, "deadline")
-        fill, words = self.strip_key()
-        self.add("rect", x=150, y=y - 8, width=20, height=8, fill=fill)
-        self.text(175, y, words)
+        self.add("rect", x=150, y=y - 8, width=20, height=8, fill="#d8d8d8")
+        self.text(175, y, STRIP)
         self.text(16, y + 18, "The number in a cell is the position of the task that has the core; an empty cell is an idle core.")
         if self.pairs:
             y += 18
@@ -71,15 +70,14 @@ class Inset(Cells):
 
     HREF = "href"
     WIDE, MOST, ROOM, NAMES, PHONE = 26, 48, 900, 58, 318  # of a tick at least and at most, of all ticks where they are few, of the names, of what a phone shows
-    ACROSS = 958  # of a chart to scale with its names: what a page shows of it
-    LABEL = 20  # letters of a name beside a strip; a phone shows none
+    LABEL = 15  # letters of a name beside a strip
 
-    def __init__(self, own: str, table: Table, start: int, rows: Rows, window: Optional[Window] = None):
-        super().__init__(table, start, rows, own, window)
+    def __init__(self, own: str, table: Table, start: int, rows: Rows):
+        super().__init__(table, start, rows, own)
         self.pad = max(10, 4 * len(self.figure(self.end)))  # for a number under the first tick and the last
         self.side: List[str] = []
         self.NAMES = Inset.NAMES + (round(6.4 * max(breadth(table.names.name(position, self.LABEL)) for position in self.drawn)) if table.names else 0)
-        self.lay_out((self.ACROSS - self.NAMES - 2 * self.pad - 12) / len(rows) if self.scaled else round(min(self.MOST, max(self.WIDE, self.ROOM / len(rows))), 2), self.NAMES + self.pad, 42)
+        self.lay_out(round(min(self.MOST, max(self.WIDE, self.ROOM / len(rows))), 2), self.NAMES + self.pad, 42)
 
     @contextlib.contextmanager
     def aside(self) -> Iterator[None]:
@@ -107,16 +105,16 @@ class Inset(Cells):
             self.add("rect", x=self.NAMES - 36, y=base - 12, width=28, height=14, fill=fill)
             self.add("text", str(position), x=self.NAMES - 22, y=base - 1, font_size=11, fill=ink, text_anchor="middle")
             if self.table.names:
-                self.add("text", self.table.names.name(position, self.LABEL), x=self.NAMES - 41, y=base - 1, font_size=11, fill="#333", text_anchor="end", **{"class": "who"})
+                self.add("text", self.table.names.name(position, self.LABEL), x=self.NAMES - 41, y=base - 1, font_size=11, fill="#333", text_anchor="end")
 
     def worked(self, found: Iterable[Tuple[int, int]], base: float, fill: str) -> None:
         """With an edge: some colours are as light as what is behind them."""
-        with self.group(stroke="#555", **({"stroke_width": 0.4} if self.scaled else {})):
+        with self.group(stroke="#555"):
             super().worked(found, base, fill)
 
     def miss_words(self, what: str, tick: int, position: int, more: str = "") -> str:
-        """Short, so that a phone shows it whole; names beside the strips take room, and one of them is beside the cross."""
-        return f"{what} at tick {tick}{more}" + ("" if self.table.names else f", position {position}")
+        """Short, so that a phone shows it whole; the name is beside the strip."""
+        return f"{what} at tick {tick}{more}, position {position}"
 
     def figure(self, number: int) -> str:
         """Thousands apart, as in the page's words."""

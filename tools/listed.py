@@ -1,6 +1,5 @@
 """What a list of operations does, from the answers of the program `replay`: it is fed the table and the operations, with a row asked at each tick.
 A list is read on after the ticks that are drawn, to show how many there are and whether something is refused, but no more than a million lines."""
-import copy
 import functools
 import re
 import subprocess
@@ -13,7 +12,6 @@ from span import Asked
 from system import Declined, REFUSED, Trouble
 from table import FENCED, Rows, Table, places
 from texts import EXPECTED, MISTAKES, RULES, stands
-from window import SINGLE, Window, blocks_of, under_way
 
 LINE = 60  # bytes that are read of a line of a list, and more than an operation has
 PART = 200  # lines of a list that are sent at once: with a row asked after each they are fewer bytes than any pipe holds
@@ -71,11 +69,7 @@ class Listed:
         self.tick, self.advances, self.withdrawals, self.more = 0, 0, 0, ""
         self.jobs: Dict[int, Job] = {}  # by position
         self.positions: Set[int] = set()  # those of the tick's row
-        scaled = asked.end - asked.start > SINGLE
-        self.begin = min(under_way(task, asked.start) for task in table.tasks) if scaled else asked.start
-        self.before: Rows = []  # to scale those in which jobs that are under way were released
         self.rows: Rows = []
-        self.over: Dict[Tuple[int, int], int] = {}  # of each job that has ended, by position and release, the tick at which it has
         self.held: Set[Tuple[int, int]] = set()  # tick and position
         self.ended: List[Tuple[int, int, int]] = []  # tick, position and the ticks that the job had
         self.empty: List[Tuple[int, int]] = []  # tick and position
@@ -90,35 +84,6 @@ class Listed:
 
     def drawn(self) -> bool:
         return self.asked.start <= self.tick < self.asked.end
-
-    @property
-    def window(self) -> Window:
-        """The rows that are drawn, and those before them."""
-        begin = self.asked.start - len(self.before)
-        return Window(begin, self.asked.start, blocks_of(self.before + self.rows, begin))
-
-    def first(self, end: int) -> "Listed":
-        """The same, drawn up to a tick."""
-        other = copy.copy(self)
-        other.rows = self.rows[:end - self.asked.start]
-        other.held = {one for one in self.held if one[0] < end}
-        other.ended, other.empty, other.out = [one for one in self.ended if one[0] < end], [one for one in self.empty if one[0] < end], [one for one in self.out if one[0] < end]
-        other.unused = [one for one in self.unused if one[1] < end]
-        other.marks = {tick: number for tick, number in self.marks.items() if tick < end}
-        return other
-
-    def ends(self, position: int, tick: int) -> None:
-        """The job of a position has ended, at a tick."""
-        task, job = self.table.tasks[position - 1], self.job(position)
-        job.ended = True
-        release = task.O + job.number * task.T
-        if release + task.D > self.asked.start and tick <= self.asked.end:
-            self.over.setdefault((position, release), tick)
-
-    def keep(self, row: List[int]) -> None:
-        """The row of a tick that is reached, where it is drawn or one of those before."""
-        if self.begin <= self.tick < self.asked.end:
-            (self.rows if self.tick >= self.asked.start else self.before).append(row)
 
     def job(self, position: int) -> Job:
         task = self.table.tasks[position - 1]
@@ -136,7 +101,7 @@ class Listed:
         for position in positions:
             task = self.table.tasks[position - 1]
             if self.tick >= task.O and (self.tick - task.O) % task.T == 0 and not self.job(position).ended:
-                self.ends(position, self.tick)
+                self.job(position).ended = True
                 self.rest(position, self.tick)
                 if self.drawn():
                     self.empty.append((self.tick, position))
@@ -147,9 +112,8 @@ class Listed:
             row = self.parsed(line)
             self.positions = set(row) - {0, FENCED}
             self.end_empty(positions)
-            if self.begin <= self.tick < self.asked.end:
-                (self.rows if self.tick >= self.asked.start else self.before)[-1] = row
             if self.drawn():
+                self.rows[-1] = row
                 self.hold()
 
     def withdraw(self, positions: List[int], line: bytes) -> None:
@@ -172,8 +136,8 @@ class Listed:
             row = self.parsed(line)
             self.positions = set(row) - {0, FENCED}
             self.end_empty(sorted(self.withdrawn))
-            self.keep(row)
             if self.drawn():
+                self.rows.append(row)
                 self.hold()
             return
         number, position = numbers_in(line)
@@ -192,15 +156,15 @@ class Listed:
         for position in self.positions:
             job = self.job(position)
             job.had += 1
-            if job.had == self.table.tasks[position - 1].C:
-                self.ends(position, self.tick + 1)
+            job.ended |= job.had == self.table.tasks[position - 1].C
         for position in places(reports):
             if position not in self.positions:
                 raise Trouble(f"the program took a report for position {position} at tick {self.tick}")
-            self.ends(position, self.tick + 1)
+            job = self.job(position)
+            job.ended = True
             self.rest(position, self.tick + 1)
             if self.drawn():
-                self.ended.append((self.tick, position, self.job(position).had))
+                self.ended.append((self.tick, position, job.had))
         self.tick += 1
         self.row(line)
 

@@ -147,9 +147,6 @@ class Table:
         start, period = self.horizon()
         return f"S is {start:,}, P is {period:,} and S + P is {start + period:,}; {HORIZON:,} is the most"
 
-    def window_fault(self) -> Optional[str]:
-        return f"--from lies after --to, or --to after the horizon, {sum(self.horizon()):,}" if all(self.word(record, "T") for record in self.chain) else None
-
     def no_slack(self) -> str:
         """Why no slack is given for a table that passes."""
         order = "1 (greedy) where no width is above one of the next"
@@ -188,8 +185,6 @@ def notes(text: bytes, answer: str, verdict: str = "") -> List[str]:
         fault = table.task_fault(number, position)
     elif number == 9:
         fault = table.horizon_fault()
-    elif number == 10:
-        fault = table.window_fault()
     elif number == 13:
         fault = "a table that misses a deadline is not started, and has no worst-case response times; --why says more"
     elif number == 17:

@@ -8,6 +8,7 @@ from xml.sax.saxutils import escape, quoteattr
 from chart_kinds import Inset
 from svg import colour
 from system import Trouble
+from texts import STRIP
 
 HERE = os.path.dirname(os.path.abspath(__file__))
 POLICY = "default-src 'none'; style-src 'unsafe-inline'"  # whatever opens it fetches nothing
@@ -99,7 +100,7 @@ def reach(sheet: Inset) -> float:
 def drawing(sheet: Inset, title: str, farthest: float) -> Tuple[Html, List[Html]]:
     """A chart: its names stay, its ticks are scrolled; on paper it is cut into lines. `title` is its description for screen readers."""
     high, right = sheet.bottom + 10, reach(sheet)
-    names = view("".join(sheet.side), 0, sheet.NAMES, high, width=sheet.NAMES, height=high, preserveAspectRatio="xMaxYMin slice", class_="names", aria_hidden="true")  # on a phone without its left part
+    names = view("".join(sheet.side), 0, sheet.NAMES, high, width=sheet.NAMES, height=high, class_="names", aria_hidden="true")
     all_ticks = element("g", Html("".join(sheet.parts)), id=f"{sheet.own}all")
     wide = right - sheet.NAMES
     ticks = view(all_ticks, sheet.NAMES, wide, high, width=round(wide, 2), height=high, class_="ticks", role="img", aria_label=title)
@@ -108,12 +109,12 @@ def drawing(sheet: Inset, title: str, farthest: float) -> Tuple[Html, List[Html]
 
 def panes(sheet: Inset, right: float, high: float) -> List[Html]:
     """The same drawing in lines for paper, each as long as the sheet is wide; where it is higher than the sheet it is made smaller, and lines are longer.
-    A line goes from a numbered tick to a numbered tick, so that no number is cut; the last is as long as the others, so that nothing that ends there is. A chart to scale is one line, made smaller."""
+    A line goes from a numbered tick to a numbered tick, so that no number is cut; the last is as long as the others, so that nothing that ends there is."""
     across, down = PAPER
     room, step = across * max(1, high / down) - sheet.NAMES, sheet.step
     length = max(1, int((room - 2 * sheet.pad) / sheet.wide / step)) * step
     lines, tick = [], sheet.start
-    while right - sheet.x(tick) + sheet.pad > room and tick < sheet.end and not sheet.scaled:
+    while right - sheet.x(tick) + sheet.pad > room and tick < sheet.end:
         stop = (tick + length) // step * step
         lines.append((tick, sheet.x(stop) + sheet.pad))
         tick = stop
@@ -154,8 +155,7 @@ def legend(sheet: Inset, more: Sequence[Tuple[str, str]]) -> List[Html]:
     items = [
         (lambda: sheet.arrow("up", 14, 13), "release of a job"),
         (lambda: sheet.arrow("down", 14, 13), "its deadline"),
-        *([(lambda: [sheet.arrow(name, 14, 13) for name in ("up", "down")], "a deadline, and the next release in the same tick")] if sheet.meeting() else []),
-        (lambda: sheet.add("rect", x=0, y=2, width=28, height=8, fill=sheet.strip_key()[0]), sheet.strip_key()[1]),
+        (lambda: sheet.add("rect", x=0, y=2, width=28, height=8, fill="#d8d8d8"), STRIP),
         *((lambda name=name: sheet.sample(name, 0, 0), words) for name, words in sheet.named(more)),
     ]
     pairs = "Odd jobs of a task (the first, the third) may have another width than even ones." if sheet.pairs else None

@@ -2,35 +2,31 @@
 
 It decides nothing. The cells are the program's rows and the words are the program's verdict; releases, deadlines, the fence and the
 numbers beside each task are the table's; the response times are what the program `query` beside it prints, and the job
-that is marked is found by its cells. Only the rows that are drawn are kept, and of those before them what jobs had that
-are under way. Of a list the rows of the list are drawn. Of a conflict only its tasks are
+that is marked is found by its cells. The program's output is read as a stream: only the rows that are drawn are kept, and
+after the last of them the program is stopped. Of a list the rows of the list are drawn. Of a conflict only its tasks are
 drawn: the program is handed the table with its chain linked over the others.
 The status is 0 where nothing is refused or missed, or for a conflict, 1 for a miss, 2 for a refusal."""
-import contextlib
 import dataclasses
 import io
 import os
 import subprocess
-from typing import TYPE_CHECKING, BinaryIO, Callable, ContextManager, Dict, List, Optional, Sequence, Set, Tuple
+from typing import TYPE_CHECKING, BinaryIO, ContextManager, Dict, List, Optional, Sequence, Tuple
 
 import named
 import system
-from chart import Cells
+from chart import Cells, moments
 from chart_kinds import Chart
 from listed import LATE, Listed, begun
-from printed import Verdict, clash_in, figures_of, numbers_in
-from span import LISTED, Asked, Span, eventful, stretch
+from printed import Verdict, clash_in, figures_of, numbers_in, rows_of, verdict_in
+from span import MOST, Asked, Span, stretch
 from svg import BLUE, Sheet
 from system import Call, FINE, MISSED, Made, REFUSED, Trouble, running
 from table import Rows, Table, relinked, table_of
 from texts import REFUSALS, RULES, SHEET_REFUSALS, VERDICTS, number_of
-from window import SINGLE, Opened, Window, blocks_of, fitting, intervals, jobs_of
 
 if TYPE_CHECKING:
     from sheet import Sheet as TaskSheet
 
-ROOM = 700_000  # bytes of the cells of a picture
-SENTENCES = 1000  # on what a list marks
 Keys = List[Tuple[str, str]]  # what a legend has: a sample's name, and its words
 
 
@@ -74,11 +70,13 @@ def refusal(number: int, position: int, names: named.Names = named.NONE) -> Made
 
 def longest_jobs(figures: Sequence[int], table: Table, start: int, rows: Rows) -> Dict[int, int]:
     """Of each position the release of the first drawn job that takes just its figure from release to end, by its cells; where all of such a job is drawn."""
-    found, running, end = {}, intervals(blocks_of(rows, start)), start + len(rows)
+    found = {}
     for position, (figure, task) in enumerate(zip(figures, table.tasks), 1):
-        release = next((job.release for job in jobs_of(task, running[position], start, end) if job.ended == job.release + figure), None)
-        if release is not None:
-            found[position] = release
+        for release in moments(task, 0, start, start + len(rows) - figure):
+            cells = [position in row for row in rows[release - start:release - start + figure]]
+            if sum(cells) == task.C and cells[-1]:
+                found[position] = release
+                break
     return found
 
 
@@ -97,33 +95,21 @@ def draw_rows(sheet: Cells, verdict: Verdict, figures: Sequence[int] = (), had: 
         sheet.mark("S", first, f"S, tick {tick(first)}", sheet.top - 26, BLUE, "6 3")
         sheet.mark("repeat", first + second, f"first repeat, S + P, tick {tick(first + second)}", sheet.top - 10, BLUE, "2 3")
     sheet.ticks()
-    return sheet.to_scale(seen) + ([("longest", "worst case: the most ticks that a job takes from its release to its end, of its D; a bracket marks the first such job drawn")] if figures else [])
+    return [("longest", "worst case: the most ticks that a job takes from its release to its end, of its D; a bracket marks the first such job drawn")] if figures else []
 
 
-def shown_window(verdict: Verdict, table: Table, asked: Asked, rows: Callable[[int, int], Window], room: int = ROOM) -> Tuple[Span, Window]:
-    """The ticks that a picture of so many bytes shows, and their rows: those asked for, or those of the verdict, and of too many changes the last before a miss, else the first."""
-    span = asked.within(verdict.rows, "there are those of") if asked else stretch(verdict, table)
-    window = rows(span.start, span.end)
-    last = verdict.word == "miss" and not asked
-    start, end = fitting(window.since(span.start), table, room, last) if span.end - span.start > SINGLE else (span.start, span.end)
-    if (start, end) != (span.start, span.end):
-        length = end - start
-        span = asked.cut(end) if asked else Span(start, end, f"the last {length} ticks before the miss" if last else f"the first {length} ticks from S on; the first repeat, at tick {verdict.rows}, is further on")
-    return span, window.part(span.start, span.end)
-
-
-def chart(verdict: Verdict, table: Table, rows: Callable[[int, int], Window], asked: Asked, answers: BinaryIO) -> Made:
-    """The picture of a verdict that is no refusal, and of the rows that it needs of the program; `answers` is `query`'s answer to `longest`."""
+def chart(verdict: Verdict, table: Table, source: io.BufferedReader, asked: Asked, answers: BinaryIO) -> Made:
+    """The picture of a verdict that is no refusal, and of the rows that it needs from the program's output; `answers` is `query`'s answer to `longest`."""
     word, names = verdict.word, table.names
     verdict = dataclasses.replace(verdict, second=table.drawn[verdict.second - 1]) if word == "miss" else verdict
-    span, window = shown_window(verdict, table, asked, rows)
+    span = asked.within(verdict.rows, "there are those of") if asked else stretch(verdict)
     seen = word == "miss" and span.end == verdict.first
     late = table.tasks[verdict.second - 1] if seen else None
-    had = window.had(verdict.second, verdict.first - late.D) if late else 0
+    rows, had = rows_of(source, span.start, span.end, table, (verdict.first - late.D, verdict.second) if late else None)
     repeats = "" if word == "miss" else f"; S is {names.tick(verdict.first)}, P is {names.tick(verdict.second)}"
     head = head_lines(table, verdict_words(verdict, table), about(table) + repeats, f"{span.shown(verdict.rows)}: {span.what}.")
     figures = figures_of(answers.read(), table) if word != "miss" else []
-    sheet = Chart(table, span.start, window.rows, head, window=window)
+    sheet = Chart(table, span.start, rows, head)
     sheet.legend(*draw_rows(sheet, verdict, figures, had))
     tell = [f"The late job had {had} of {late.C}{names.time(had, late.C)}."] if late else []
     tell += [f"Worst-case response times: {', '.join(f'position {names.at(position)} {figure} of {task.D}' for position, (figure, task) in enumerate(zip(figures, table.tasks), 1))}."] if figures else []
@@ -152,23 +138,14 @@ def list_words(listed: Listed, ticks: str) -> Tuple[List[str], List[str]]:
     return head_lines(listed.table, title, about(listed.table), ticks, "These are the rows of the list, not of the full-length run."), red
 
 
-def lent_cells(listed: Listed, full: Rows, start: int) -> Set[Tuple[int, int]]:
-    """The cells of a list's rows, as tick and core, that are lent: under rule 4 cores are reserved as in the full-length run, and a row shows who borrows them."""
-    if RULES[listed.table.rule] != "lending" or listed.late:
-        return set()
-    return {(start + at, core) for at, (row, other) in enumerate(zip(listed.rows, full)) for core, (one, holder) in enumerate(zip(row, other)) if one != holder}
-
-
-def draw_listed(sheet: Cells, listed: Listed, lent: Set[Tuple[int, int]]) -> Keys:
+def draw_listed(sheet: Cells, listed: Listed) -> Keys:
     """Draws the rows of a list and what is marked in them. What the legend has more."""
     late = listed.late if listed.late and sheet.start <= listed.late[0] <= sheet.end else None
     blank = late and late[0] < sheet.end
-    sheet.ended = listed.over
-    sheet.cells(listed.held, lent)
+    sheet.cells(listed.held)
     if blank:
         sheet.blank(late[0])
     sheet.strips(late, listed.held, listed.unused)
-    sheet.borrowing(lent)
     for tick, position, _ in listed.ended:
         sheet.ends(tick, position)
     for tick, position in listed.empty:
@@ -180,13 +157,12 @@ def draw_listed(sheet: Cells, listed: Listed, lent: Set[Tuple[int, int]]) -> Key
     for tick, number in sorted(listed.marks.items()):
         sheet.refused(tick, number)
     sheet.ticks()
-    return sheet.to_scale(late is not None) + [(name, words) for name, words, there in (
+    return [(name, words) for name, words, there in (
         ("ends", "ends here: the list reports that the job ends in this tick", listed.ended),
         ("empty", "empty: the job is released in this tick and has nothing to do", listed.empty),
         ("out", "withdrawn: a job under way goes on, those released from then on are empty", listed.out),
         ("unused", "the rest of the job's length, which it does not take", listed.unused),
         ("held", "the job has ended: its cores are held and not used", listed.held),
-        ("lent", "lent: the task works on cores that another, whose job has ended, still reserves", lent),
         ("blank", "a tick whose row is refused", blank)) if there]
 
 
@@ -195,29 +171,17 @@ def told(listed: Listed) -> List[Tuple[int, str]]:
     at = listed.table.names.at
     ends = [(tick, f"Position {at(position)} ends in tick {tick} with {had} of {listed.table.tasks[position - 1].C}.") for tick, position, had in listed.ended]
     ends += [(tick, f"The job that position {at(position)} releases in tick {tick} is empty.") for tick, position in listed.empty]
-    ends += [(tick, f"Position {at(position)} is withdrawn in tick {tick}.") for tick, position in listed.out]
-    return ends if len(ends) <= SENTENCES else [*ends[:SENTENCES], (listed.asked.end, f"And {len(ends) - SENTENCES:,} more.")]
+    return ends + [(tick, f"Position {at(position)} is withdrawn in tick {tick}.") for tick, position in listed.out]
 
 
-def list_span(listed: Listed, end: int) -> Span:
-    """The ticks that are drawn of a list, at most up to one."""
-    count, asked = listed.tick + 1, listed.asked
-    if asked:
-        span = asked.within(count, "the list reaches")
-        return span if end >= span.end else asked.cut(end)
-    end = min(end, asked.end, count)
-    return Span(0, end, "what the list reaches" if end == count else f"the first {end} ticks that the list reaches")
-
-
-def list_chart(listed: Listed, full: Rows, end: int = LISTED) -> Made:
-    """The picture of the rows of a list; `full` are those of the full-length run. What is marked too often for one picture is cut."""
-    span = list_span(listed, listed.asked.start + end)
-    head, red = list_words(listed, f"{span.shown(listed.tick + 1, listed.more)}: {span.what}.")
-    sheet = Chart(listed.table, span.start, listed.rows, head, red, listed.window)
-    sheet.legend(*draw_listed(sheet, listed, lent_cells(listed, full, span.start)))
-    length = span.end - span.start
-    if sheet.scaled and sum(map(len, sheet.parts)) > ROOM:
-        return list_chart(listed.first(span.start + length // 2), full, length // 2)
+def list_chart(listed: Listed) -> Made:
+    """The picture of the rows of a list."""
+    count = listed.tick + 1
+    reached = "what the list reaches" if count <= MOST else f"the first {MOST} ticks that the list reaches"
+    span = listed.asked.within(count, "the list reaches") if listed.asked else Span(0, min(MOST, count), reached)
+    head, red = list_words(listed, f"{span.shown(count, listed.more)}: {span.what}.")
+    sheet = Chart(listed.table, span.start, listed.rows, head, red)
+    sheet.legend(*draw_listed(sheet, listed))
     return Made(sheet.out(head[0], head[1:] + red + [words for _, words in told(listed)]), REFUSED if listed.late or listed.refusals or listed.questions else FINE, "ok")
 
 
@@ -227,17 +191,14 @@ def answering(program: List[str], question: str, text: bytes) -> ContextManager[
 
 
 def draw(program: List[str], text: bytes, asked: Asked = Asked(), table: Optional[Table] = None, sheet: "Optional[TaskSheet]" = None) -> Made:
-    """The picture of a table; of the conflict in it, if `table` has one. The response times are asked for while the rows are."""
-    with contextlib.ExitStack() as stack:
-        rows = Opened(lambda command, given: stack.enter_context(running(command, given)), os.path.dirname(program[-1]), text, asked, table, sheet)
-        answers = stack.enter_context(answering(program, "longest", text))
-        verdict = rows.verdict()
+    """The picture of a table; of the conflict in it, if `table` has one."""
+    with running(program, text) as process, answering(program, "longest", text) as answers:
+        verdict = verdict_in(system.first_line(process))
         if verdict.word == "refused":
             return refusal(verdict.first, verdict.second, named.Names(sheet))
         if table and verdict.word != "miss":
             raise Trouble(f"the program's verdict is {verdict.word!r}")
-        table = table or table_of(text, sheet)
-        return chart(verdict, table, lambda start, end: rows.window((start, end), table), asked, answers.stdout)
+        return chart(verdict, table or table_of(text, sheet), process.stdout, asked, answers.stdout)
 
 
 def draw_clash(program: List[str], text: bytes, answer: str, asked: Asked = Asked(), sheet: "Optional[TaskSheet]" = None) -> Made:
@@ -248,25 +209,15 @@ def draw_clash(program: List[str], text: bytes, answer: str, asked: Asked = Aske
     return draw(program, relinked(text, table.records, table.clash), asked, table)._replace(status=FINE, first=answer)
 
 
-def full_rows(program: List[str], text: bytes, listed: Listed) -> Rows:
-    """The rows of the full-length run in the drawn ticks of a list: nothing ends early in them."""
-    with running(program) as process:
-        begun(process, text)
-        full = Listed(listed.table, listed.asked)
-        full.follow("the full-length run", io.BytesIO(b"a 0\n" * min(listed.tick, listed.asked.end)), process)
-        return full.rows
-
-
 def draw_list(program: List[str], text: bytes, source: system.Source, asked: Asked = Asked(), sheet: "Optional[TaskSheet]" = None) -> Made:
-    """The picture of a list of operations of a table, tick by tick."""
+    """The picture of a list of operations of a table."""
     with running(program) as process:
         started = begun(process, text)
         if started != b"ok":
             return refusal(*numbers_in(started), named.Names(sheet))
-        table = table_of(text, sheet)
-        listed = Listed(table, Asked(asked.since, asked.until, LISTED, eventful(table)))
+        listed = Listed(table_of(text, sheet), asked)
         listed.follow(source.name, source, process)
-    return list_chart(listed, full_rows(program, text, listed) if RULES[listed.table.rule] == "lending" else [])
+        return list_chart(listed)
 
 
 # ---- The modes

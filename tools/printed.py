@@ -6,7 +6,7 @@ from dataclasses import dataclass
 from typing import BinaryIO, Iterator, List, Optional, Sequence, Tuple, Union
 
 from system import Trouble
-from table import FENCED, Table
+from table import FENCED, Rows, Table
 from texts import VERDICTS
 
 BLOCK = 1 << 18  # bytes of rows that are passed over at once
@@ -72,32 +72,37 @@ def lines_after(source: io.BufferedReader, count: int, until: float = math.inf) 
     *lines, rest = rest.split(b"\n")
     yield from lines
     for line in source:
-        if time.monotonic() > until:
-            raise TooLong
         yield rest + line
         rest = b""
 
 
-def lists_of_lines(source: io.BufferedReader, until: float = math.inf) -> Iterator[List[bytes]]:
-    """The program's lines, as many at once as have come, up to a time."""
-    rest = b""
-    while True:
-        if time.monotonic() > until:
-            raise TooLong
-        block = source.read1(BLOCK)
-        if not block:
-            return
-        *lines, rest = (rest + block).split(b"\n")
-        yield lines
-
-
 def row_in(fields: Sequence[bytes], tick: int, table: Table) -> List[int]:
     """The positions of a row, core by core, from the fields of a line."""
-    row, most = list(map(int, fields)), len(table.drawn)
-    above = {core for core, number in enumerate(row) if number > most}
-    if len(row) != table.cores or above != table.fenced or any(row[core] != FENCED for core in above):
+    row = [int(field) for field in fields]
+    strange = lambda core, number: number != FENCED if core in table.fenced else number > len(table.drawn)
+    if len(row) != table.cores or any(strange(core, number) for core, number in enumerate(row)):
         raise Trouble(f"the program's row of tick {tick} is {row}")
     return [table.drawn[number - 1] if number not in (0, FENCED) else number for number in row] if table.clash else row
+
+
+def rows_of(source: io.BufferedReader, start: int, end: int, table: Table, late: Optional[Tuple[int, int]] = None, until: float = math.inf) -> Tuple[Rows, int]:
+    """The rows of a stretch of ticks, from the program's lines. Where `late` has a tick and a position: how many rows from this tick on have it, those before the stretch too."""
+    since, position = late or (end, table.drawn[0])
+    rows, had, begin = [], 0, min(start, since)
+    printed = table.drawn.index(position) + 1
+    inside, last = b" %d " % printed, b" %d" % printed
+    for tick, line in zip(range(begin, end), lines_after(source, begin, until)):
+        if tick < start:
+            had += inside in line or line.rstrip().endswith(last)
+            continue
+        fields = line.split()
+        if fields[:1] != [b"%d" % tick]:
+            raise Trouble(f"the program's row of tick {tick} is {line!r}")
+        rows.append(row_in(fields[1:], tick, table))
+        had += tick >= since and position in rows[-1]
+    if len(rows) != end - start:
+        raise Trouble(f"the program's rows end before tick {end}")
+    return rows, had
 
 
 def figures_of(said: bytes, table: Table) -> List[int]:

@@ -5,18 +5,15 @@ import os
 import subprocess
 import time
 from dataclasses import dataclass, field
-from typing import TYPE_CHECKING, Dict, List, Optional
+from typing import TYPE_CHECKING, List, Optional
 
 import system
 from printed import Verdict, verdict_in
 from span import Asked
 from table import Table
-from window import Opened
 
 if TYPE_CHECKING:
-    from identity import Identity
     from page import Html
-    from sheet import Sheet
 
 PATIENCE = 20  # seconds that an answer is waited for, once the verdict is there; where that took long, twice as long
 
@@ -28,21 +25,11 @@ class Programs:
         self.program, self.text, self.stack = program, text, contextlib.ExitStack()
         self.notes: List[str] = []  # lines for standard error
         self.begun, self.patience, self.until = time.monotonic(), PATIENCE, math.inf
-        self.rows: Optional[Opened] = None  # the rows of the table's picture
-        self.early: Dict[str, subprocess.Popen] = {}  # questions that are asked already
 
     def judged(self) -> None:
         """The verdict is there: what is asked next has this many seconds."""
         self.patience = max(PATIENCE, round(2 * (time.monotonic() - self.begun)))
         self.wait()
-
-    def judge(self, asked: Asked, sheet: "Optional[Sheet]") -> Verdict:
-        """The verdict, by the program that prints the rows of the picture; the response times are asked for at the same time."""
-        self.rows = Opened(self.start, self.folder, self.text, asked, sheet=sheet)
-        self.early["longest"] = self.asking("longest")
-        verdict = self.rows.verdict()
-        self.judged()
-        return verdict
 
     def wait(self) -> None:
         """From now on what is asked has all its time."""
@@ -79,8 +66,6 @@ class Programs:
 
     def asking(self, question: str, text: Optional[bytes] = None) -> subprocess.Popen:
         """The program that a question is for, on the table or another text, started."""
-        if text is None and question in self.early:
-            return self.early.pop(question)
         return self.start(*system.asked(self.folder, question, self.text if text is None else text))
 
     def verdict(self, text: bytes) -> Optional[Verdict]:
@@ -102,16 +87,12 @@ class ListRead:
 class Judged:
     """A table that was judged and is no refusal: what the parts of a page on it are made from."""
     programs: Programs
-    identity: "Identity"
+    name: str
     verdict: Verdict
     table: Table
     asked: Asked = field(default_factory=Asked)
     listed: Optional[ListRead] = None
     compared: "Optional[Html]" = None
-
-    @property
-    def name(self) -> str:
-        return self.identity.name
 
     @property
     def word(self) -> str:

@@ -13,7 +13,7 @@ from sheet_names import behind
 from system import Call, FINE, MISSED, REFUSED, Trouble
 
 TWO = r" [0-9]+ [0-9]+"
-STATUSES = {rf"(firm|full){TWO}|task .*\.|none|[1-9][0-9]*( [0-9]+)*": FINE, rf"miss{TWO}|none [0-9]+": MISSED, rf"refused{TWO}": REFUSED}
+STATUSES = {rf"(firm|full){TWO}|task .*\.|none|[1-9][0-9]*( [0-9]+)*": FINE, rf"miss{TWO}": MISSED, rf"refused{TWO}": REFUSED}
 
 
 def status_of(first: str, name: str) -> int:
@@ -29,15 +29,15 @@ def with_names(call: Call, process: subprocess.Popen) -> bytes:
     first = system.first_line(process)
     lines = (first + process.stdout.read()).decode("ascii", "replace").splitlines()
     names, tick = call.sheet.names(), call.sheet.settings.tick
-    system.write("".join(f"{behind(line, names, tick, call.mode not in ('clash', 'order'))}\n" for line in lines).encode())
+    system.write("".join(f"{behind(line, names, tick, call.mode != 'clash')}\n" for line in lines).encode())
     return first.removesuffix(b"\n")
 
 
 def answer(call: Call) -> Tuple[int, str]:
-    command, given = call.asking(call.mode.replace("order words", "ordered"))
+    command, given = call.asking(call.mode)
     name = os.path.basename(command[0])
     with system.running(command, given) as process:
-        said = with_names(call, process) if call.names else progress.hand_on(call.mode in ("rows", "window") and not os.isatty(1), process.stdout.fileno())
+        said = with_names(call, process) if call.names else progress.hand_on(call.mode == "rows" and not os.isatty(1), process.stdout.fileno())
         first = said.decode("ascii", "replace")
         status = status_of(first, name)
         if process.wait():

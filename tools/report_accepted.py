@@ -52,7 +52,7 @@ def answers_section(judged: Judged, longest: Optional[List[int]] = None, spare: 
         inner.insert(1, paragraph("The slack is the number of ticks by which the length of one task alone can grow with the table still accepted.", class_="soft"))
     else:
         inner.append(paragraph(element("b", "Slack cannot be given for this table (number 23). "), f"{spare} Slack is given under rule 2, and under rule 1 where every job of a task takes at most as many cores as every job of the task next below it. "
-                               "Elsewhere a longer job can turn a miss into an accepted table, so that no one figure would hold. What was judged instead is under ", element("a", "What could be changed, in numbers", href="#trials"), ".", class_="note", id="no-spare"))
+                               "Elsewhere a longer job can turn a miss into an accepted table, so that no one figure would hold.", class_="note", id="no-spare"))
     return section("The tasks, and how close they come", *inner, id="tasks")
 
 

@@ -11,8 +11,8 @@ from chart_kinds import Inset
 from listed import LATE, LINE, Lines, Listed, begun, operation_in
 from page import Html, element, listing, number, paragraph, section
 from programs import Judged, ListRead
-from report_parts import ROOM, WIDE, caption, core_heads, head_cell, row_cells, rows_look, ticks
-from span import LISTED, Asked, Span, eventful
+from report_parts import NARROW, caption, core_heads, head_cell, most, row_cells, rows_look, ticks
+from span import Asked, Span
 from system import Declined, FINE, REFUSED, Trouble
 from table import Table
 from texts import LISTS, REMEDIES, number_of
@@ -97,7 +97,7 @@ def difference(run: Followed, full: Followed) -> Tuple[List[int], Html]:
 
 
 def both_rows(run: Followed, full: Followed, tick: int) -> List[Html]:
-    """The rows of both around a tick: beside each other, or where that is wide under each other."""
+    """The rows of both around a tick: beside each other, or where that is too wide for paper under each other."""
     table = run.table
 
     def listed(at: int) -> List[Html]:
@@ -108,7 +108,7 @@ def both_rows(run: Followed, full: Followed, tick: int) -> List[Html]:
     shown = range(max(0, tick - BEFORE), min(run.tick, tick + AFTER) + 1)
     line = lambda at, *cells: element("tr", element("td", number(at)), *cells, class_="differs" if run.lines[at] != full.lines[at] else None)
     name = "the rows around the first difference, "
-    if 2 * table.cores > WIDE:
+    if 2 * table.cores > NARROW:
         tables = [(called, [element("tr", head_cell("tick"), *core_heads(table)), *(line(at, *cells(at)) for at in shown)]) for called, cells in (("at full length", at_full), ("with the list", listed))]
         return [element("h3", "Rows around it"), *(part for called, rows in tables for part in (paragraph(called.capitalize(), class_="soft"), page.wide_table(rows, name + called, class_=rows_look(table.cores))))]
     head = element("tr", head_cell("tick", rowspan=2), head_cell("at full length", colspan=table.cores, scope="colgroup"), gap, head_cell("with the list", colspan=table.cores, scope="colgroup"))
@@ -130,9 +130,9 @@ def list_title(run: Followed) -> str:
 
 
 def list_runs(judged: Judged, size: int) -> Played:
-    """Plays the list, and nothing that ends early as far as it reaches; n ticks are shown at most."""
+    """Plays the list, and nothing that ends early as far as it reaches."""
     listed, asked = judged.listed, judged.asked
-    window = Asked(asked.since, asked.until, size, size)
+    window = Asked(asked.since, asked.until, size)
     run, wrong = play(judged, listed.lines, window)
     zeros = [b"a 0\n"] * run.tick
     full = play(judged, zeros, window)[0]
@@ -147,11 +147,11 @@ def list_runs(judged: Judged, size: int) -> Played:
     return Played(run, full, span, differs, named, wrong or listed.unknown)
 
 
-def list_charts(judged: Judged, played: Played) -> Tuple[int, List[Any]]:
-    """Both over each other, and their bytes."""
+def list_charts(judged: Judged, played: Played) -> List[Any]:
+    """Both over each other."""
     run, span, count, title = played.run, played.span, played.run.tick + 1, list_title(played.run)
-    sheets = [Inset("f-", judged.table, span.start, played.full.rows, played.full.window), Inset("l-", judged.table, span.start, run.rows, run.window)]
-    keys = picture.draw_rows(sheets[0], judged.verdict) + picture.draw_listed(sheets[1], run, picture.lent_cells(run, played.full.rows, span.start))
+    sheets = [Inset("f-", judged.table, span.start, played.full.rows), Inset("l-", judged.table, span.start, run.rows)]
+    keys = picture.draw_rows(sheets[0], judged.verdict) + picture.draw_listed(sheets[1], run)
     seen = [tick for tick in played.differs if span.start <= tick < span.end]
     if seen:
         sheets[1].differ(seen)
@@ -159,35 +159,21 @@ def list_charts(judged: Judged, played: Played) -> Tuple[int, List[Any]]:
     if run.marks:
         keys.append(("refusal", "a red number over a tick: the number of a refusal there"))
     titles = [f"The full-length run. {span.shown(count)}.", f"{title} {span.shown(count)}."]
-    scale = " Time is drawn to scale." if sheets[0].scaled else ""
-    return sum(len(part) for sheet in sheets for part in sheet.parts), [
-        caption(span, count, after=[f"{scale} Above the full-length run, below the list's."], id="ticks"), *page.charts(sheets, titles, ["At full length", "With the list"]), *page.legend(sheets[1], list(dict.fromkeys(keys)))]
-
-
-def shown_list(judged: Judged) -> Tuple[Played, List[Any]]:
-    """The list as far as it is shown: what is marked too often for a page is cut."""
-    size = LISTED if judged.asked else min(LISTED, eventful(judged.table))
-    while True:
-        played = list_runs(judged, size)
-        used, drawn = list_charts(judged, played)
-        if used <= ROOM or size == 1:
-            return played, drawn
-        size = min(size, played.span.end - played.span.start) // 2
+    return [caption(span, count, after=[" Above the full-length run, below the list's."], id="ticks"), *page.charts(sheets, titles, ["At full length", "With the list"]), *page.legend(sheets[1], keys)]
 
 
 def list_section(judged: Judged) -> Tuple[Html, str, int]:
     """What the list does, the list in a line, and the status."""
-    listed, (played, drawn) = judged.listed, shown_list(judged)
+    listed, played = judged.listed, list_runs(judged, most(judged.table, 2))
     run, wrong = played.run, played.wrong
     title, red = list_title(run), picture.list_words(run, "")[1]
-    spoken = [re.sub(r" with (\d+) of (\d+)\.$", lambda found: f" with {found[1]} of its {ticks(int(found[2]))}.", words) for _, words in sorted(picture.told(run), key=lambda one: one[0])]
-    events = [re.sub(r"\b\d{4,}\b", lambda found: number(int(found[0])), words) for words in spoken]
+    events = [re.sub(r" with (\d+) of (\d+)\.$", lambda found: f" with {found[1]} of its {ticks(int(found[2]))}.", words) for _, words in sorted(picture.told(run), key=lambda one: one[0])]
     numbers = sorted({*run.marks.values(), *([LATE] if run.late else [])} & set(REMEDIES))
     inner = [paragraph(LISTS, class_="soft"), paragraph(element("b", title), f" Only the first {number(len(listed.lines))} lines of it were read." if listed.more else None), played.named]
     inner += [paragraph(line, class_="bad") for line in [*red, *([wrong[0].upper() + wrong[1:] + "."] if wrong else [])]]
     judged.programs.notes.extend([wrong] if wrong else [])
     inner += [paragraph(f"Number {refused}: {REMEDIES[refused]}") for refused in numbers]
-    inner += drawn
+    inner += list_charts(judged, played)
     inner += both_rows(run, played.full, played.differs[0]) if played.differs else []
     inner += [element("h3", "What it says of these ticks"), listing(events[:SAID] + ([f"And {number(len(events) - SAID)} more."] if len(events) > SAID else []))] if events else []
     return section("What the list does", *inner, id="list"), title, REFUSED if run.late or run.refusals or run.questions or wrong else FINE

@@ -6,7 +6,6 @@ from typing import Any, List, Optional, Sequence
 import named
 import notes
 import page
-from identity import Identity, again, which_section
 from notes import HEAD, RECORD
 from page import Html, chip, element, listing, number, paragraph, section
 from picture import refusal_lines
@@ -15,7 +14,8 @@ from span import Span
 from table import FENCED, Table, Task
 from texts import FITS, PROMISES, RULES, RULE_WORDS, WORDS
 
-ROOM = 1_000_000  # bytes of the cells of all pictures to scale together
+SHOWN = 200  # ticks in one picture of a page, where they are not too many bytes
+CELL, STRIP, JOB, BYTES = 85, 40, 190, 1_400_000  # what a tick of a core, one of a strip and a job may take, and all pictures together
 GREEDY, LIMITED = 1, 2  # rules
 WIDE, NARROW = 8, 40  # cores whose columns are called in full, and columns that are not very narrow on paper
 LEADS = {
@@ -26,6 +26,12 @@ LEADS = {
 
 def ticks(count: int) -> str:
     return f"{number(count)} tick{'' if count == 1 else 's'}"
+
+
+def most(table: Table, pictures: int) -> int:
+    """How many ticks a picture of a page shows, where there are n pictures."""
+    tick = CELL * table.cores + sum(STRIP + JOB / task.T for task in table.tasks)
+    return min(SHOWN, int(BYTES / pictures / tick))
 
 
 def head_cell(*inner: Any, **words: Any) -> Html:
@@ -62,24 +68,9 @@ def task_words(task: Task, names: named.Names = named.NONE) -> str:
     return f"{width_words(task)} for {ticks(task.C)}{names.time(task.C)}, {every}{names.time(task.T)} from tick {names.tick(task.O, number)}, due {ticks(task.D)}{names.time(task.D)} after release"
 
 
-def headline(word: str, text: bytes) -> str:
-    """A verdict in a few words; where records are on no chain it says how many are."""
-    table = None if word == "refused" else notes.Table(text)
-    if not table or not table.loose():
-        return FITS[word]
-    return f"{'It does not fit' if word == 'miss' else 'It fits'}; of {table.records} records {len(table.chain)} {'is' if len(table.chain) == 1 else 'are'} on the chain"
-
-
-def banner(text: bytes) -> Optional[Html]:
-    """The warning beside a verdict on a table with records on no chain: where the chain ends."""
-    said = notes.strict_note(text)
-    return element("div", element("b", "Was a record left out? "), said[0].upper() + said[1:].removesuffix(" (--strict)") + ". What is on no chain is not judged. A mistyped number can do that.", class_="amber", id="off-chain") if said else None
-
-
-def verdict_header(word: str, of: Identity, lead: Sequence[Any], more: Optional[str] = None, look: str = "lead", text: bytes = b"") -> Html:
-    return element("header", paragraph("Timing report on ", element("b", of.name), element("span", f", made {of.short}", class_="made"), class_="over"),
-                   element("div", page.icon(word), element("h1", headline(word, text)), class_="top"), paragraph(*lead, class_="lead"), paragraph(more, class_=look) if more else None,
-                   None if word == "refused" else banner(text), class_=word, id="verdict")
+def verdict_header(word: str, name: str, lead: Sequence[Any], more: Optional[str] = None, look: str = "lead") -> Html:
+    return element("header", paragraph("Timing report on ", element("b", name), class_="over"),
+                   element("div", page.icon(word), element("h1", FITS[word]), class_="top"), paragraph(*lead, class_="lead"), paragraph(more, class_=look) if more else None, class_=word, id="verdict")
 
 
 # Where the verdict on an accepted table comes from: the test looks at no tick.
@@ -101,17 +92,6 @@ def facts(judged: Judged, bounds: Optional[List[int]] = None) -> Html:
     promises = [(element("b", f"{known.capitalize()}: ", class_="good" if known == "firm" else "fair"), words, element("b", f" This table is {word}.") if known == word else None) for known, words in PROMISES.items()] + ([element("b", "This table is neither.")] if word == "miss" else [])
     return section("In short", paragraph(WORDS, class_="soft") if word != "miss" else None, element("dl", *(element("div", element("dt", what), element("dd", figure, element("small", words))) for what, figure, words in found), class_="facts"),
                    listing(promises, class_="promises"), id="short")
-
-
-def order_words(order: Sequence[int]) -> str:
-    """Numbers one after the other; three or more that follow each other as a stretch."""
-    found: List[List[int]] = []
-    for position in order:
-        if found and found[-1][-1] + 1 == position:
-            found[-1].append(position)
-        else:
-            found.append([position])
-    return ", ".join(f"{part[0]} to {part[-1]}" if len(part) > 2 else ", ".join(map(str, part)) for part in found)
 
 
 def off_chain(text: bytes, answer: str) -> Optional[Html]:
@@ -138,14 +118,8 @@ def sheet_page() -> Any:
     return importlib.import_module("sheet_page")
 
 
-def which_table(judged: Judged) -> Html:
-    """Which table was judged."""
-    table = notes.Table(judged.text)
-    return which_section(judged.identity, ("Tasks", len(table.chain)), ("Records", table.records), ("Cores", table.cores))
-
-
-def footer(of: Identity, answer: str) -> Html:
-    return element("footer", again(of, answer), paragraph(f"Made by sivorandra {page.version()}. Every figure is what its proved programs print for this table or for the changed tables it names, the table's own, or a sum, a count or a share of these; the page decides nothing."))
+def footer() -> Html:
+    return element("footer", f"Made by sivorandra {page.version()}. Every figure is what its proved programs print for this table or for the changed tables it names, the table's own, or a sum, a count or a share of these; the page decides nothing.")
 
 
 def caption(span: Span, count: int, before: str = "", after: Sequence[Any] = (), **words: Any) -> Html:

@@ -1,6 +1,5 @@
 """A question on a sheet: the sheet is read once, its words become the table that the programs are asked about, and notes name its cells."""
 import dataclasses
-import hashlib
 from typing import List, Tuple
 
 import sheet
@@ -29,11 +28,11 @@ def bytes_of(file: str) -> bytes:
     return data
 
 
-def read(file: str) -> Tuple[sheet.Sheet, str]:
-    """A sheet, and the SHA-256 of its bytes; where it has faults they are raised."""
+def read(file: str) -> sheet.Sheet:
+    """A sheet; where it has faults they are raised."""
     data = bytes_of(file)
     try:
-        return sheet.read(data), hashlib.sha256(data).hexdigest()
+        return sheet.read(data)
     except Faulty as faulty:
         raise Declined(faulty.lines[0], REFUSED, faulty.lines[1:])
 
@@ -41,9 +40,9 @@ def read(file: str) -> Tuple[sheet.Sheet, str]:
 def reading(mode: Mode) -> Mode:
     """A mode that reads a sheet first, and prints the notes on it."""
     def answer(call: Call) -> Tuple[int, str]:
-        found, digest = read(call.file)
+        found = read(call.file)
         say_all(found.notes)
-        asked = dataclasses.replace(call, table=found.text()[:TABLE], sheet=found, digest=digest)
+        asked = dataclasses.replace(call, table=found.text()[:TABLE], sheet=found)
         status, first = mode(asked)
         system.LINE.clear()
         say_all(sheet_notes.notes_on(found, first, system.verdict_of(asked, first)) if first else [])

@@ -29,11 +29,10 @@ def cell_words(value: Value, sheet: Sheet, is_time: bool) -> str:
     return f"{said} ({cut(written, MOST_SHOWN)})" if is_time and written not in ("", value.digits) else said
 
 
-def row_of(task: Task, position: int, sheet: Sheet, marked: Optional[int], column: Optional[str]) -> page.Html:
+def row_of(task: Task, position: int, sheet: Sheet, marked: Optional[int]) -> page.Html:
     values = {"offset": task.offset, "width": task.width, "second width": task.second, "length": task.length, "deadline": task.deadline, "period": task.period}
     cells = [cell_words(values[name], sheet, name in TIMES) for name in COLUMNS[3:]]
-    faulty = lambda name: "cell" if task.line == marked and name == column else None
-    return element("tr", *(element("td", cell, class_=faulty(name)) for name, cell in zip(COLUMNS, (task.line, position, cut(task.name, 40), *cells))), class_="here" if task.line == marked else None)
+    return element("tr", *(element("td", cell) for cell in (task.line, position, cut(task.name, 40), *cells)), class_="here" if task.line == marked else None)
 
 
 def shown_tasks(sheet: Sheet, marked: Optional[int]) -> Tuple[List[Tuple[int, Task]], int]:
@@ -45,11 +44,11 @@ def shown_tasks(sheet: Sheet, marked: Optional[int]) -> Tuple[List[Tuple[int, Ta
     return shown, len(sheet.tasks) - len(shown)
 
 
-def sheet_parts(sheet: Sheet, marked: Optional[int] = None, column: Optional[str] = None) -> List[Optional[page.Html]]:
-    """The sheet as it was read: its settings, its tasks, and what was ignored; a line and a cell of it may be marked."""
+def sheet_parts(sheet: Sheet, marked: Optional[int] = None) -> List[Optional[page.Html]]:
+    """The sheet as it was read: its settings, its tasks, and what was ignored."""
     shown, left = shown_tasks(sheet, marked)
     head = element("tr", *(element("th", name, scope="col") for name in COLUMNS))
     return [paragraph(f"The sheet as it was read: {settings_words(sheet)}. Times are in ticks, and behind them as they were written."),
-            page.wide_table([head, *(row_of(task, position, sheet, marked, column) for position, task in shown)], "the sheet", class_="words sheet"),
+            page.wide_table([head, *(row_of(task, position, sheet, marked) for position, task in shown)], "the sheet", class_="words sheet"),
             paragraph(f"{left:,} more tasks are not shown.", class_="soft") if left else None,
             listing([f"Note: {note}." for note in sheet.notes]) if sheet.notes else None]

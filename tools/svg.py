@@ -8,7 +8,6 @@ from named import breadth
 
 RED, BLUE = "#c00000", "#00459c"
 HATCHES = {
-    "dots": '<path d="M2 2h.01M6 6h.01" stroke="#000" stroke-width="2.2" stroke-linecap="round" fill="none"/><path d="M2 2h.01M6 6h.01" stroke="#fff" stroke-width="1" stroke-linecap="round" fill="none"/>',
     "hatch": '<path d="M-2 2L2 -2M0 8L8 0M6 10L10 6" stroke="#777" stroke-width="1.4" fill="none"/>',
     "light": '<path d="M-2 6L2 10M0 0L8 8M6 -2L10 2" stroke="#555" stroke-width="0.7" fill="none"/>',
 }

@@ -25,7 +25,7 @@ ANSWERED = 100  # is added to a status, so that the end of a Python that could n
 SIGNALS = signal.SIGHUP, signal.SIGINT, signal.SIGTERM
 QUIET = 2.0  # seconds before the first word on a terminal
 EVERY = 0.5  # seconds between two words
-PROGRAMS = {"rows": "sivorandra", "replay": "replay", "check": "plan_checker", "window": "window"}  # of another question it is `query`, which reads the question before the table
+PROGRAMS = {"rows": "sivorandra", "verdict": "verdict", "replay": "replay", "check": "plan_checker"}  # of another question it is `query`, which reads the question before the table
 
 
 class Trouble(Exception):
@@ -51,7 +51,7 @@ class Stopped(BaseException):
 @dataclasses.dataclass(frozen=True)
 class Call:
     """What was asked for: the folder of the programs, the table and its file, the list and the ticks; the mode, the sheet that the table was written as, and whether names go behind lines.
-    Of several files: their names, whether all of them are sheets, whether a record on no chain is no success, and how many are asked at once. Of a sheet: the SHA-256 of its bytes."""
+    Of several files: their names, whether all of them are sheets, whether a record on no chain is no success, and how many are asked at once."""
     programs: str = ""
     table: bytes = b""
     file: str = ""
@@ -65,18 +65,12 @@ class Call:
     sheets: bool = False
     strict: bool = False
     jobs: int = 1
-    digest: Optional[str] = None
 
     def program(self, question: str) -> List[str]:
         return asked(self.programs, question)[0]
 
     def asking(self, question: str) -> "Tuple[List[str], bytes]":
-        return asked(self.programs, question, (window(self.since, self.until) if question == "window" else b"") + self.table)
-
-
-def window(since: Optional[int], until: Optional[int] = None) -> bytes:
-    """The line before a table whose rows are asked for: from a tick on, up to and without another or else up to the horizon. A tick of more than 32 bits is after every horizon, as the largest is."""
-    return b"%s\n" % b" ".join(b"%d" % min(tick, 2**32 - 1) for tick in [since or 0, *([] if until is None else [until])])
+        return asked(self.programs, question, self.table)
 
 
 def asked(folder: str, question: str, table: bytes = b"") -> "Tuple[List[str], bytes]":
@@ -280,7 +274,7 @@ def verdict_of(call: Call, first: str) -> str:
     """The verdict on a table that has no miss to explain (number 17), for the note on it."""
     if not first.startswith("refused 17 "):
         return ""
-    with running(*call.asking("verdict")) as process:
+    with running(call.program("verdict"), call.table) as process:
         return first_line(process).decode("ascii", "replace").removesuffix("\n")
 
 

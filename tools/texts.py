@@ -49,7 +49,6 @@ PROMISES = {
 }
 WORDS = "A tick is the unit of time, and the cores are the processor's. A task releases a job in every period. A job must have its cores, all of them together, in each of its C ticks before its deadline. Positions count by priority: position 1 is the highest."
 FITS = {"firm": "It fits, for ever", "full": "It fits as long as no job ends early", "miss": "It does not fit", "refused": "It was not judged"}
-FITTING = "Two verdicts fit: firm, also when jobs end early, and full, as long as no job ends early. From tick S on everything repeats, every P ticks."
 STRIP = "from release to deadline; coloured where the task runs"  # of a legend
 LISTS = "The list says what happened in the cab: which jobs ended early, which had nothing to do, which tasks were withdrawn."
 NOT_OF_THE_LIST = " These are figures of the table, not of the list."

@@ -8,7 +8,7 @@ static uint32_t answer[3];
 /* The case of an answer by name, where case 0 has this one. */
 static void tell(uint32_t value, const char *done)
 {
-    static const char *const names[] = { "", "full", "miss", "refused", "row-refused", "none", "accepted", "no-order" };
+    static const char *const names[] = { "", "full", "miss", "refused", "row-refused", "none", "accepted" };
     if (value != 0)
         printf("short 0 0");
     else
@@ -69,8 +69,6 @@ int main(void)
         tell(value, "done");
         printf(" %u\n", (unsigned)set);
         tell(sivorandra_slack(words, len, figures, 32, answer, 3), "done");
-        list32(figures, 32);
-        tell(sivorandra_order(words, len, 20, figures, 32, answer, 3), "firm");
         list32(figures, 32);
         uint8_t rows[TICKS * 64] = { 0 };
         uint32_t plan[SIVORANDRA_PLAN_WORDS];

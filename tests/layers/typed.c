@@ -6,7 +6,7 @@ static struct sivorandra_answer answer;
 
 static void tell(int status)
 {
-    static const char *const names[] = { "nothing", "done", "firm", "full", "accepted", "miss", "not-passed", "refused", "row-refused", "none", "short", "no-order" };
+    static const char *const names[] = { "nothing", "done", "firm", "full", "accepted", "miss", "not-passed", "refused", "row-refused", "none", "short" };
     if ((status == 0) != (answer.kind <= SIVORANDRA_IS_ACCEPTED) || (status != 0 && status != (int)answer.kind))
         exit(1);
     printf("%s %u %u", names[answer.kind], (unsigned)answer.first, (unsigned)answer.second);
@@ -60,8 +60,6 @@ int main(void)
         tell(sivorandra_table_conflict(words, len, &set, &answer));
         printf(" %u\n", (unsigned)set);
         tell(sivorandra_table_slack(words, len, figures, &answer));
-        list32(figures, 32);
-        tell(sivorandra_table_order(words, len, 20, figures, &answer));
         list32(figures, 32);
         uint8_t rows[TICKS * 64] = { 0 };
         struct sivorandra_supplied plan;

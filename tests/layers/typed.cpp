@@ -70,14 +70,6 @@ void ask(const question &asked)
     }
     auto slack = sivorandra::slack(words);
     list(tell(slack) ? *slack : sivorandra::Figures{});
-    auto order = sivorandra::order(words, 20);
-    if (!order)
-        tell(order);
-    else if (order->fits)
-        std::printf("%s %u %u", order->verdict.is == sivorandra::Verdict::Case::firm ? "firm" : "full", static_cast<unsigned>(order->verdict.first), static_cast<unsigned>(order->verdict.second));
-    else
-        std::printf("no-order %u 0", static_cast<unsigned>(order->tried));
-    list(order ? order->positions : sivorandra::Figures{});
     std::array<std::uint8_t, TICKS * 64> rows{};
     tell(sivorandra::plan(words, 0, TICKS, rows.data(), rows.size()));
     list(rows);

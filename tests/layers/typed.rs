@@ -1,8 +1,5 @@
 //! The functions of Rust for tests/outside/layers, printed as plain.c prints the plain calls.
-use sivorandra::{
-    bounds, conflict, judge, judge_events, judge_ticks, order, plan, replay, response_times, sentence, slack, Entry, Order, Refusal, RowAnswer, Run, SuppliedPlan, Verdict,
-    PLAN_WORDS, RUN_WORDS,
-};
+use sivorandra::{bounds, conflict, judge, judge_events, judge_ticks, plan, replay, response_times, sentence, slack, Entry, Refusal, RowAnswer, Run, SuppliedPlan, Verdict, PLAN_WORDS, RUN_WORDS};
 use std::fmt::Display;
 use std::io::{stdin, BufRead};
 
@@ -61,13 +58,6 @@ fn ask(words: &[u32], operations: &str) {
     let kept = conflict(words);
     println!("{} {}", told(kept, |kept| format!("done {kept} 0")), kept.unwrap_or(0));
     println!("{}", figures(slack(words)));
-    let found = order(words, 20);
-    let positions = if let Ok(Order::Fits { positions, .. }) = found { positions } else { [0; 32] };
-    let case = told(found, |found| match found {
-        Order::Fits { verdict, .. } => verdict.to_string(),
-        Order::None { tried } => format!("no-order {tried} 0"),
-    });
-    println!("{case}{}", list(&positions));
     let mut rows = [0; TICKS * 64];
     println!("{}{}", told(plan(words, 0, TICKS as u32, &mut rows), |()| "done 0 0".into()), list(&rows));
     let begun = SuppliedPlan::begin(words);

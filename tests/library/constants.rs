@@ -20,7 +20,7 @@ fn in_capitals(refusal: Refusal) -> String {
 
 fn main() {
     print!(VERSION MOST_TASKS MOST_CORES MOST_OFFSET MOST_LENGTH MOST_PERIOD MOST_HORIZON GREEDY LIMITED IDLING LENDING);
-    print!(TABLE_HEAD_WORDS TABLE_RECORD_WORDS TABLE_WORDS RUN_HEAD_WORDS RUN_PLACE_WORDS RUN_WORDS NOTE_WORDS PLAN_WORDS ROW_BYTES FENCED SETS SENTENCE_BYTES JUDGINGS);
+    print!(TABLE_HEAD_WORDS TABLE_RECORD_WORDS TABLE_WORDS RUN_HEAD_WORDS RUN_PLACE_WORDS RUN_WORDS NOTE_WORDS PLAN_WORDS ROW_BYTES FENCED SETS SENTENCE_BYTES);
     for refusal in (0..=255).map(|number| Refusal::new(number, 0)).filter(|refusal| !matches!(refusal, Refusal::Other { .. })) {
         println!("{} {}", in_capitals(refusal), refusal.number());
     }

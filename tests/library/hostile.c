@@ -150,8 +150,6 @@ static uint32_t slack(const uint32_t *table, size_t len) { return sivorandra_sla
 
 static uint32_t bounded(const uint32_t *table, size_t len) { return sivorandra_bounds(table, len, words_at(&numbers), numbers.len, ANSWER); }
 
-static uint32_t order(const uint32_t *table, size_t len) { return sivorandra_order(table, len, SIVORANDRA_JUDGINGS, words_at(&numbers), numbers.len, ANSWER); }
-
 /* A slice of length 0 whose pointer is NULL. */
 #define NONE(slice) ((slice).len = 0, (slice).null = 1)
 
@@ -291,26 +289,6 @@ static void figures(void)
     figures_by(slack, limited, 0, slack_of_limited, full, 23); /* rule 1 out of the width order */
     figures_by(bounded, limited, 1, bounds_of_limited, miss, 0);
     figures_by(bounded, limited, 1, bounds_of_limited, full, 0); /* accepted, and does not pass */
-}
-
-/* An order: 32 words in front and no more, as the figures; whatever the judgings. */
-static void an_order(void)
-{
-    enum { FIGURES = SIVORANDRA_MOST_TASKS };
-    static const uint32_t judgings[] = { 0, 1, 4, 5, 6, 200, 0xffffffffu };
-    static const uint32_t late[TABLE] = { 1, 2, 2, 0, 0, 2, 0, 1, 3, 3, 4, 1, 3, 0, 2, 1, 4, 4, 2, 0, 0, 1, 2, 2, 4, 1 };
-    for (size_t i = 0; i < sizeof judgings / sizeof judgings[0]; i++) {
-        fresh(), numbers.len = FIGURES + 1;
-        if (judgings[i] < 2)
-            answered(SIVORANDRA_NO_ORDER, judgings[i], 0), figures_given(0, 0, 0);
-        else
-            answered(SIVORANDRA_FIRM, 0, 4), figures_given(3, 1, 2);
-        expect("order: judgings", 0, sivorandra_order(late, TABLE, judgings[i], words_at(&numbers), numbers.len, ANSWER));
-    }
-    fresh(), numbers.len = FIGURES - 1, expect("order: figures too short", 1, order(late, TABLE));
-    fresh(), numbers.len = FIGURES, answer.len = 2, expect("order: a short answer", 1, order(late, TABLE));
-    fresh(), numbers.len = FIGURES, refused(1), figures_given(0, 0, 0), expect("order: no words", 0, order(NULL, 0));
-    fresh(), NONE(numbers), NONE(answer), expect("order: nothing", 1, order(NULL, 0));
 }
 
 /* Every lent slice anew, and a plan of the table in `run`: the run at tick 0, and its phases noted, S being 0. */
@@ -948,7 +926,7 @@ static void lists(void)
 
 int main(void)
 {
-    nulls(), sentences(), tables(), horizons(), bounds(), lengths(), built(), fences(), parities(), empty_jobs(), lending(), as_sets(), who_works(), withdrawals(), together(), lists(), figures(), an_order(), supplied();
+    nulls(), sentences(), tables(), horizons(), bounds(), lengths(), built(), fences(), parities(), empty_jobs(), lending(), as_sets(), who_works(), withdrawals(), together(), lists(), figures(), supplied();
     printf("%u calls, %u wrong\n", calls, wrong);
     return wrong != 0;
 }

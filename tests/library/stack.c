@@ -35,7 +35,6 @@ static void response_times(void) { sivorandra_response_times(table, words, numbe
 static void slack(void) { sivorandra_slack(table, words, numbers, TASKS, answer, 3); }
 static void conflict(void) { sivorandra_conflict(table, words, answer, 3); }
 static void bounds(void) { sivorandra_bounds(table, words, numbers, TASKS, answer, 3); }
-static void order(void) { sivorandra_order(table, words, SIVORANDRA_JUDGINGS, numbers, TASKS, answer, 3); }
 static void begin(void) { sivorandra_check_begin(table, words, supplied, SIVORANDRA_PLAN_WORDS, answer, 3); }
 /* an idle row, at the beginning and as the last */
 static void take(void)
@@ -47,8 +46,8 @@ static void take(void)
 static struct { const char *name; void (*call)(void); size_t most; } calls[] = {
     { "version", version, 0 }, { "judge", judge, 0 }, { "judge_ticks", judge_ticks, 0 }, { "judge_events", judge_events, 0 }, { "plan", plan, 0 }, { "replay", replay, 0 },
     { "start", start, 0 }, { "row", row, 0 }, { "sets", row_as_sets, 0 }, { "working", working, 0 }, { "advance", advance, 0 }, { "withdraw", withdraw, 0 },
-    { "withdraw_all", withdraw_all, 0 }, { "sentence", explain, 0 }, { "facts", parse, 0 }, { "response_times", response_times, 0 }, { "conflict", conflict, 0 }, { "slack", slack, 0 }, { "bounds", bounds, 0 }, { "order", order, 0 },
-    { "check_begin", begin, 0 }, { "check_row", take, 0 },
+    { "withdraw_all", withdraw_all, 0 }, { "sentence", explain, 0 }, { "facts", parse, 0 }, { "response_times", response_times, 0 }, { "conflict", conflict, 0 }, { "slack", slack, 0 }, { "bounds", bounds, 0 },
+    { "begin", begin, 0 }, { "take", take, 0 },
 };
 enum { CALLS = sizeof calls / sizeof calls[0] };
 

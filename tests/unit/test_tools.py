@@ -1,10 +1,7 @@
 """Pictures and pages by their parts: tables, what programs print, the ticks that are shown, lists, texts, SVG, pages. python3 -m unittest tests/unit/test_tools.py"""
-import hashlib
 import io
-import os
 import pathlib
 import sys
-import types
 import unittest
 
 ROOT = pathlib.Path(__file__).resolve().parents[2]
@@ -12,7 +9,6 @@ sys.path.insert(0, str(ROOT / "tools"))
 import answers  # noqa: E402
 import as_json  # noqa: E402
 import chart  # noqa: E402
-import chart_kinds  # noqa: E402
 import compare  # noqa: E402
 import inputs  # noqa: E402
 import listed  # noqa: E402
@@ -20,17 +16,14 @@ import notes  # noqa: E402
 import page  # noqa: E402
 import picture  # noqa: E402
 import printed  # noqa: E402
-import identity  # noqa: E402
-import report_overview  # noqa: E402
+import report_changes  # noqa: E402
 import report_parts  # noqa: E402
 import report_refused  # noqa: E402
-import report_rows  # noqa: E402
 import span  # noqa: E402
 import svg  # noqa: E402
 import system  # noqa: E402
 import table as tables  # noqa: E402
 import texts  # noqa: E402
-import window  # noqa: E402
 from system import Declined, Trouble, USAGE  # noqa: E402
 
 A = (ROOT / "tables" / "a.txt").read_bytes()
@@ -77,6 +70,19 @@ class Printed(unittest.TestCase):
             with self.assertRaises(Trouble, msg=line):
                 printed.numbers_in(line)
 
+    def test_rows(self):
+        rows = b"0 1 1 3\n1 1 1 3\n2 2 2 3\n3 2 2 3\n4 2 2 0\n"
+        self.assertEqual(printed.rows_of(source(rows), 1, 3, TABLE), ([[1, 1, 3], [2, 2, 3]], 0))
+        self.assertEqual(printed.rows_of(source(rows), 3, 5, TABLE, (1, 2))[1], 3)  # those before the stretch too
+        for wrong in (b"0 1 1\n", b"1 1 1 3\n", b"0 1 1 4\n", b""):
+            with self.assertRaises(Trouble, msg=wrong):
+                printed.rows_of(source(wrong), 0, 1, TABLE)
+        with self.assertRaises(printed.TooLong):
+            printed.rows_of(source(rows), 3, 5, TABLE, until=0)
+
+    def test_rows_of_a_conflict_have_its_positions(self):
+        self.assertEqual(printed.rows_of(source(b"0 1 1 2\n"), 0, 1, TABLE.of_clash([2, 3]))[0], [[2, 2, 3]])
+
     def test_lines_after(self):
         text = b"".join(b"%d\n" % line for line in range(100_000))
         self.assertEqual(next(printed.lines_after(source(text), 99_990)).strip(), b"99990")
@@ -99,61 +105,14 @@ class Printed(unittest.TestCase):
                 printed.clash_in(said, TABLE)
 
 
-ROWS = b"full 0 5\n0 1 1 3\n1 1 1 3\n2 2 2 3\n3 2 2 3\n4 2 2 0\n"
-
-
-def window_in(text, start, end, table=TABLE, **more):
-    return window.window_of(lambda command, given: types.SimpleNamespace(stdout=source(text)), "bin", b"", (start, end), table, **more)
-
-
-class Windows(unittest.TestCase):
-    def test_rows(self):
-        found = window_in(ROWS, 1, 3)
-        self.assertEqual((found.begin, found.start, found.end, found.rows), (0, 1, 3, [[1, 1, 3], [2, 2, 3]]))
-        self.assertEqual(window_in(ROWS, 3, 5).had(2, 0), 3)  # those before the stretch too
-        self.assertEqual(found.blocks, [(0, 2, [1, 1, 3]), (2, 3, [2, 2, 3])])
-        for wrong in (b"full 0 5\n0 1 1\n", b"full 0 5\n1 1 1 3\n", b"full 0 5\n0 1 1 4\n", b"full 0 5\n", b"0 1 1 3\n", b""):
-            with self.assertRaises(Trouble, msg=wrong):
-                window_in(wrong, 0, 1)
-        with self.assertRaises(printed.TooLong):
-            window_in(b"full 0 5\n" * 9, 5, 9, until=0)
-
-    def test_rows_of_a_conflict_have_its_positions(self):
-        self.assertEqual(window_in(b"miss 1 1\n0 1 1 2\n", 0, 1, TABLE.of_clash([2, 3])).rows, [[2, 2, 3]])
-
-    def test_blocks(self):
-        blocks = window.blocks_of(window_in(ROWS, 0, 5).rows, 0)
-        self.assertEqual(blocks, window_in(ROWS, 0, 5).blocks)
-        self.assertEqual([(one.start, one.end) for one in blocks], [(0, 2), (2, 4), (4, 5)])
-        self.assertEqual([window.intervals(blocks)[position] for position in (1, 2, 3, 4)], [[(0, 2)], [(2, 5)], [(0, 4)], []])
-        self.assertEqual(list(chart.merged(blocks, 2)), [(3, 0, 4)])
-        self.assertEqual([window.fitting(blocks, TABLE, room, last) for room, last in ((1, False), (1, True), (10_000, False))], [(0, 2), (4, 5), (0, 5)])
-
-    def test_jobs(self):
-        task = tables.Task(1, 1, 3, 5, 6, 1)
-        first, second = window.jobs_of(task, [(2, 4), (5, 6), (8, 9)], 0, 10)
-        self.assertEqual((first.release, first.due, first.runs, first.ended), (1, 6, [(2, 4), (5, 6)], 6))
-        self.assertEqual((second.release, second.ended), (7, 0))
-        self.assertEqual([list(one.waits(0, 10)) for one in (first, second)], [[(1, 2), (4, 5)], [(7, 8), (9, 10)]])
-
-    def test_where_a_window_begins(self):
-        task = tables.Task(1, 1, 3, 5, 6, 1)
-        self.assertEqual([window.under_way(task, tick) for tick in (0, 1, 5, 6, 7, 12, 13)], [0, 1, 1, 6, 7, 12, 13])
-
-
 class Spans(unittest.TestCase):
     def test_where_none_are_asked(self):
-        found = [span.stretch(printed.Verdict(*one), TABLE) for one in (("miss", 7, 1), ("miss", 250, 1), ("full", 3, 5), ("full", 300, 50), ("firm", 2, 500), ("firm", 2, 30_000))]
-        self.assertEqual([(one.start, one.end) for one in found], [(0, 7), (150, 250), (0, 8), (300, 350), (2, 502), (2, 127)])
-        slow = tables.Table(1, 1, frozenset(), [tables.Task(0, 1, 1, 5000, 20_000, 1)], [1])
-        found = [span.stretch(printed.Verdict(*one), slow) for one in (("miss", 25_000, 1), ("full", 0, 20_000), ("firm", 0, 40_000_000))]
-        self.assertEqual([(one.start, one.end) for one in found], [(20_000, 25_000), (0, 20_000), (0, 1_000_000)])
+        found = [span.stretch(printed.Verdict(*one)) for one in (("miss", 7, 1), ("miss", 250, 1), ("full", 3, 5), ("full", 300, 50), ("firm", 2, 500))]
+        self.assertEqual([(one.start, one.end) for one in found], [(0, 7), (150, 250), (0, 8), (300, 350), (2, 102)])
 
     def test_asked(self):
         self.assertEqual([(one.start, one.end, bool(one)) for one in (span.Asked(), span.Asked(5), span.Asked(None, 150), span.Asked(3, 4))], [(0, 100, False), (5, 105, True), (51, 151, True), (3, 5, True)])
-        self.assertEqual(span.Asked(0, 499).within(500, "there are").what, "as asked for")
-        self.assertEqual(span.Asked(0, 499, 100).within(500, "there are").what, "the first 100 of the 500 ticks asked for")
-        self.assertEqual(span.Asked(5, 99).cut(50).what, "the first 45 of the 95 ticks asked for")
+        self.assertEqual(span.Asked(0, 499).within(500, "there are").what, "the first 100 of the 500 ticks asked for")
         for asked in (lambda: span.Asked(4, 3), lambda: span.Asked(5).within(5, "there are"), lambda: span.Asked(None, 1).within(1, "there are")):
             with self.assertRaises(Declined) as declined:
                 asked()
@@ -245,52 +204,20 @@ class Drawn(unittest.TestCase):
 
 class Pages(unittest.TestCase):
     def test_orders(self):
-        self.assertEqual([report_parts.order_words(order) for order in ([1, 2, 3, 4], [2, 1, 3], [4, 1, 2, 3])], ["1 to 4", "2, 1, 3", "4, 1 to 3"])
+        self.assertEqual([report_changes.order_words(order) for order in ([1, 2, 3, 4], [2, 1, 3], [4, 1, 2, 3])], ["1 to 4", "2, 1, 3", "4, 1 to 3"])
 
     def test_lines_of_a_table(self):
         self.assertEqual([report_refused.line_words(line) for line in (1, 3, 5, 6, 12, 13)], ["head: the first record", "rule", "fence, cores 32 to 63", "next of record 1", "w of record 1", "next of record 2"])
         self.assertEqual([report_refused.shown_line(line, 4) for line in (b"", b"12", b"\xff", b"12345")], ["(an empty line)", "12", "\\xff", "1234\u2026"])
-
-    def test_which_table(self):
-        os.environ["SOURCE_DATE_EPOCH"] = "0"
-        found = identity.identity_of("a.txt", A)
-        self.assertEqual((found.made, found.whole, found.digest), ("1970-01-01 00:00:00 UTC", True, hashlib.sha256(A).hexdigest()))
-        self.assertFalse(identity.identity_of("x", b"1" * 2520).whole)
-        self.assertIn("It fits; of 3 records 1 is on the chain", report_parts.headline("firm", A.replace(b"0\n0\n2\n", b"0\n0\n0\n", 1)))
-
-    def test_what_a_late_job_waits_for(self):
-        self.assertEqual([report_rows.left_to([1, 3, 0, 255], position) for position in (1, 2, 3, 4)], [3, 2, 2, 1])
-        self.assertEqual(report_rows.state([1, 3, 0], TABLE, 2, 3), "waits: it needs 3, and the tasks above it leave 2")
-        self.assertEqual(report_rows.state([1, 2, 2], TABLE, 2, 2), "runs on cores 1, 2")
-
-    def test_released_work(self):
-        task = tables.Task(2, 1, 3, 5, 5, 2)
-        self.assertEqual([report_overview.released(task, tick) for tick in (0, 2, 3, 7, 8, 13)], [0, 0, 3, 3, 9, 12])
 
     def test_a_task_in_words(self):
         self.assertEqual(report_parts.width_words(tables.Task(0, 1, 1, 1, 1, 2)), "1 core in odd jobs and 2 in even ones")
         self.assertEqual(report_parts.task_words(TABLE.tasks[2]), "1 core for 4 ticks, every 5 ticks from tick 0, due 5 ticks after release")
 
     def test_how_many_ticks_a_picture_has(self):
-        self.assertEqual(span.eventful(TABLE), 125)
-        self.assertEqual(span.eventful(tables.Table(3, 1, frozenset(), [tables.Task(0, 1, 1, 5, 1000, 1)], [1])), 75_000)
-        self.assertEqual([(asked.start, asked.end) for asked in (span.Asked(most=50, few=70), span.Asked(few=300), span.Asked(7, few=300), span.Asked(None, 299, few=300), span.Asked(3, 900, 500))],
-                         [(0, 50), (0, 300), (7, 107), (200, 300), (3, 503)])
-
-    def test_marks_to_scale_are_stretches(self):
-        marked = [(4, 0), (5, 0), (7, 0), (5, 2), (6, 2)]
-        few, many = (chart_kinds.Inset("x-", TABLE, 0, [[0, 0, 0]] * count) for count in (10, 200))
-        self.assertEqual(list(few.stretches(marked)), [(tick, tick + 1, core) for tick, core in marked])
-        self.assertEqual(list(many.stretches(marked)), [(4, 6, 0), (7, 8, 0), (5, 7, 2)])
-        self.assertEqual(list(many.stretches([])), [])
-        self.assertEqual(list(many.parted(1, (2, 0, 5), {(4, 1), (5, 1), (5, 2)})), [(2, 0, 2), (4, 0, 2), (6, 0, 1)])
-
-    def test_a_list_drawn_up_to_a_tick(self):
-        whole = listed.Listed(TABLE, span.Asked(0, 149))
-        whole.rows, whole.held, whole.ended, whole.marks = [[0, 0, 0]] * 150, {(3, 1), (90, 1)}, [(3, 1, 1), (75, 2, 1)], {2: 16, 80: 16}
-        first = whole.first(75)
-        self.assertEqual((len(first.rows), first.held, first.ended, first.marks), (75, {(3, 1)}, [(3, 1, 1)], {2: 16}))
-        self.assertEqual((len(whole.rows), len(whole.ended)), (150, 2))
+        self.assertEqual(report_parts.most(TABLE, 1), report_parts.SHOWN)
+        wide = tables.Table(64, 1, frozenset(), TABLE.tasks * 10, [1] * 30)
+        self.assertLess(report_parts.most(wide, 2), report_parts.most(wide, 1))
 
 
 class Objects(unittest.TestCase):

@@ -9,8 +9,8 @@ Every answer is the proved library's; a refusal is an exception with its number,
 from . import library
 from .refusals import Faulty, Number, Refusal
 from .run import Plan, Run
-from .table import Rule, Table, Task, Verdict, bounds, conflict, judge, of_sheet, of_words, order, read, response_times, rows, sentence, slack
+from .table import Rule, Table, Task, Verdict, bounds, conflict, judge, of_sheet, of_words, read, response_times, rows, sentence, slack
 
 VERSION = library.version()
 __version__ = f"{VERSION // 10000}.{VERSION // 100 % 100}.{VERSION % 100}"
-__all__ = ["Faulty", "Number", "Plan", "Refusal", "Rule", "Run", "Table", "Task", "VERSION", "Verdict", "bounds", "conflict", "judge", "of_sheet", "of_words", "order", "read", "response_times", "rows", "sentence", "slack"]
+__all__ = ["Faulty", "Number", "Plan", "Refusal", "Rule", "Run", "Table", "Task", "VERSION", "Verdict", "bounds", "conflict", "judge", "of_sheet", "of_words", "read", "response_times", "rows", "sentence", "slack"]

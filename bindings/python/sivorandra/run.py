@@ -64,7 +64,7 @@ class Run:
         return positions_in(found[0])
 
     def advance(self, ended: Iterable[int] = (), empty: Iterable[int] = ()) -> None:
-        """A tick goes by. The jobs of the positions in `ended` end after it. Those of the positions in `empty`, released in it, are empty."""
+        """A tick goes by: the jobs of these positions end after it, and those of the others were empty."""
         run = library.words_of(self.words)
         library.call("advance", run, set_of(ended), set_of(empty))
         self.words, self.tick = tuple(run), self.tick + 1

@@ -9,7 +9,6 @@ from typing import FrozenSet, Iterable, List, Optional, Sequence, Tuple, Union
 from . import library, sheets
 
 HEAD_WORDS, RECORD_WORDS = 5, 7
-JUDGINGS = 200  # of a search for an order, where nothing else is asked
 
 
 class Rule(enum.IntEnum):
@@ -168,10 +167,6 @@ class Table:
         """The response-time bounds of the interference test, or None."""
         return bounds(self)
 
-    def order(self, judgings: int = JUDGINGS) -> Optional[Tuple[Verdict, Tuple[int, ...]]]:
-        """The verdict in an order of priorities that fits, and its positions; or None."""
-        return order(self, judgings)
-
     def conflict(self) -> Tuple[int, ...]:
         """The positions of a minimal set of tasks that misses."""
         return conflict(self)
@@ -291,17 +286,6 @@ def bounds(table: AnyTable) -> Optional[Tuple[int, ...]]:
     (1,)
     """
     return figures("bounds", table)
-
-
-def order(table: AnyTable, judgings: int = JUDGINGS) -> Optional[Tuple[Verdict, Tuple[int, ...]]]:
-    """The verdict of the table in an order of priorities that fits, and its positions, highest first; None where none of the orders tried fits.
-
-    >>> order([1, 2, 2, 0, 0, 2, 0, 1, 3, 3, 4, 1, 3, 0, 2, 1, 4, 4, 2, 0, 0, 1, 2, 2, 4, 1])
-    (Verdict(word='firm', first=0, second=4), (3, 1, 2))
-    """
-    found = (ctypes.c_uint32 * library.MOST_TASKS)()
-    case, first, second = library.call("order", words_in(table), judgings, found)
-    return (Verdict(("firm", "full")[case], first, second), tuple(found[:count_of(table)])) if case < 2 else None
 
 
 def conflict(table: AnyTable) -> Tuple[int, ...]:

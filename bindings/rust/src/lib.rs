@@ -40,7 +40,7 @@
 //! With cargo the build script finds libsivorandra.a (`tools/archive` makes it; SIVORANDRA_LIB names the folder of another); with rustc alone:
 //! `rustc --edition 2021 --cfg 'feature="std"' --crate-type rlib --crate-name sivorandra -L native=target/staticlib bindings/rust/src/lib.rs`
 //!
-//! The library runs on x86-64 Linux today, since the toolchain writes no other archive. Nothing in the sources is known to need this machine, but no other was tried.
+//! The library runs on x86-64 Linux today, since the toolchain writes no other archive. Nothing known in the sources stands against another machine, and it was not tried.
 //!
 //! # Memory
 //!
@@ -64,7 +64,7 @@ use core::fmt;
 use std::{string::String, vec, vec::Vec};
 
 /// The version that these bindings are for: major * 10000 + minor * 100 + patch. `version` is that of the library that is linked.
-pub const VERSION: u32 = 2900;
+pub const VERSION: u32 = 2700;
 
 /// The most tasks on a chain, and the most records of a table.
 pub const MOST_TASKS: usize = 32;
@@ -335,9 +335,9 @@ pub struct Facts {
     pub position: u32,
     /// The tick of the miss.
     pub tick: u64,
-    /// The ticks that its job had.
+    /// The ticks that its job had ..
     pub had: u64,
-    /// Its C.
+    /// .. out of C.
     pub length: u64,
     /// In how many of its waiting ticks the task at position p + 1 ran; 0 for one that is not named.
     pub ran: [u64; MOST_TASKS],
@@ -376,7 +376,6 @@ extern "C" {
     fn sivorandra_conflict(words: *const u32, words_len: usize, answer: *mut u32, answer_len: usize) -> u32;
     fn sivorandra_slack(words: *const u32, words_len: usize, figures: *mut u32, figures_len: usize, answer: *mut u32, answer_len: usize) -> u32;
     fn sivorandra_bounds(words: *const u32, words_len: usize, figures: *mut u32, figures_len: usize, answer: *mut u32, answer_len: usize) -> u32;
-    fn sivorandra_order(words: *const u32, words_len: usize, judgings: u32, figures: *mut u32, figures_len: usize, answer: *mut u32, answer_len: usize) -> u32;
     fn sivorandra_check_begin(words: *const u32, words_len: usize, plan: *mut u32, plan_len: usize, answer: *mut u32, answer_len: usize) -> u32;
     fn sivorandra_check_row(plan: *mut u32, plan_len: usize, row: *const u8, row_len: usize, answer: *mut u32, answer_len: usize) -> u32;
 }
@@ -603,55 +602,6 @@ pub fn bounds(words: &[u32]) -> Result<Option<[u32; MOST_TASKS]>, Refusal> {
     let mut found = [0; MOST_TASKS];
     let passes = given(ask(|answer, len| unsafe { sivorandra_bounds(words.as_ptr(), words.len(), found.as_mut_ptr(), found.len(), answer, len) }))?;
     Ok((passes == 1).then_some(found))
-}
-
-/// What a search for an order of priorities finds.
-///
-/// ```
-/// use sivorandra::{order, Order, Refusal};
-///
-/// let table = [1, 1, 1, 0, 0, 0, 0, 1, 2, 1, 4, 1]; // one task, whose C of 2 is above its D of 1
-/// assert_eq!(order(&table, 1)?, Order::None { tried: 1 });
-/// # Ok::<(), Refusal>(())
-/// ```
-#[derive(Clone, Copy, Debug, PartialEq, Eq)]
-pub enum Order {
-    /// The table in this order is accepted.
-    Fits {
-        /// Its verdict, which is firm or full.
-        verdict: Verdict,
-        /// The positions of the given table, highest priority first, and 0 past the last task.
-        positions: [u32; MOST_TASKS],
-    },
-    /// None of the orders tried fits; nothing is claimed of any other.
-    None {
-        /// Their number.
-        tried: u32,
-    },
-}
-
-/// The judgings that `./sivorandra --order` allows.
-pub const JUDGINGS: u32 = 200;
-
-/// An order of priorities under which a table's words are accepted, searched for in at most this number of judgings: five sorted orders, and then repair of the one with the latest
-/// first miss. The first order tried that is firm, else the first that is full.
-///
-/// ```
-/// use sivorandra::{order, Order, Refusal, Verdict, JUDGINGS};
-///
-/// let table = [1, 2, 2, 0, 0, 2, 0, 1, 3, 3, 4, 1, 3, 0, 2, 1, 4, 4, 2, 0, 0, 1, 2, 2, 4, 1];
-/// let Order::Fits { verdict, positions } = order(&table, JUDGINGS)? else { panic!() };
-/// assert_eq!((verdict, &positions[..4]), (Verdict::Firm { start: 0, period: 4 }, &[3, 1, 2, 0][..]));
-/// assert_eq!(order(&table, 1)?, Order::None { tried: 1 }); // its own order misses
-/// # Ok::<(), Refusal>(())
-/// ```
-pub fn order(words: &[u32], judgings: u32) -> Result<Order, Refusal> {
-    let mut positions = [0; MOST_TASKS];
-    let answer = ask(|answer, len| unsafe { sivorandra_order(words.as_ptr(), words.len(), judgings, positions.as_mut_ptr(), positions.len(), answer, len) });
-    if answer[0] == 7 {
-        return Ok(Order::None { tried: answer[1] });
-    }
-    Ok(Order::Fits { verdict: verdict(answer)?, positions })
 }
 
 /// Starts a run, applies the entries of a list to it, and asks for its row with no empty job.
@@ -905,7 +855,7 @@ impl SuppliedPlan {
         Ok(SuppliedPlan { words: plan })
     }
 
-    /// A plan from any words: words that are no plan are refused with 14 by `check_row`. Words of a note that are no phase are kept, and agree with no phase (26).
+    /// A plan from any words: words that are no plan are refused with 14 by `take`. Words of a note that are no phase are kept, and agree with no phase (26).
     ///
     /// ```
     /// use sivorandra::{Refusal, SuppliedPlan, PLAN_WORDS};

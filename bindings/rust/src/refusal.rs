@@ -50,7 +50,7 @@ pub enum Refusal {
     TableMisses,
     /// 14, of a row, an advance or a withdrawal: the words are no run; of a row taken: they are no supplied plan's.
     NotARun,
-    /// 15, of a row or an advance: this position has not ended its job at its deadline; of several the one of highest priority.
+    /// 15, of a row or an advance: this position, the lowest that is late, has not ended its job at its deadline.
     Late {
         /// The position, from 1.
         position: u32,

@@ -12,10 +12,10 @@ use Rattle.phase.specs.declared.Phase.{Phase}
 use Rattle.phase.specs.declared.Phase.TheVariants.{Coming, Working, Holding, Resting}
 use Rattle.run.proofs.Written.{take_more}
 use Rattle.plan_check.specs.declared.Note.{Note}
-use Rattle.plan_check.specs.State.{note, pastNote}
+use Rattle.plan_check.specs.State.{note, past_note}
 use Rattle.buffers.specs.declared.run_buffer.PhaseWords.{PhaseWords}
-use Rattle.buffers.specs.Encoding.{phaseWords, ofPhase, phaseOf, isPhase}
-use Rattle.buffers.specs.Supplied.{notesAt, noteSize, noteAt, fourWords, noteWords, notesWords, put_at, phaseNoted, noteIn, notesIn, isNote, areNotes}
+use Rattle.buffers.specs.Encoding.{phase_words, of_phase, phase_of, is_phase}
+use Rattle.buffers.specs.Supplied.{notes_at, note_size, note_at, four_words, note_words, notes_words, put_at, phase_noted, note_in, notes_in, is_note, are_notes}
 use Rattle.buffers.proofs.Inverse.{phase-encode}
 
 -- WORDS PUT INTO A BUFFER
@@ -77,7 +77,7 @@ put_same ws vs n e h = split n vs ws h ∙ (ap (λ (l : List ℕ). take n ws ++ 
 
 -- the four stores of a note
 pub note-put :
-    (ws : List ℕ) (at a b c d : ℕ) → at + noteSize ≤ length ws
+    (ws : List ℕ) (at a b c d : ℕ) → at + note_size ≤ length ws
     → set (set (set (set ws at a) (at + 1) b) (at + 2) c) (at + 3) d ≡ put_at at (a ∷ (b ∷ (c ∷ (d ∷ [])))) ws
 note-put ws at a b c d h =
     let one : at + 1 ≡ suc at = omega arith in
@@ -88,99 +88,99 @@ note-put ws at a b c d h =
 
 -- NOTES, WRITTEN
 
-notes-more : (ns : List Note) (n : Note) → notesWords (ns ++ (n ∷ [])) ≡ notesWords ns ++ noteWords n
-unfolding notesWords
+notes-more : (ns : List Note) (n : Note) → notes_words (ns ++ (n ∷ [])) ≡ notes_words ns ++ note_words n
+unfolding notes_words
 notes-more [] n = refl
-notes-more (m ∷ ns) n = ap (λ (l : List ℕ). noteWords m ++ l) (notes-more ns n)
+notes-more (m ∷ ns) n = ap (λ (l : List ℕ). note_words m ++ l) (notes-more ns n)
 
-pub length-notes : (ns : List Note) → length (notesWords ns) ≡ noteSize * length ns
-unfolding notesWords
+pub length-notes : (ns : List Note) → length (notes_words ns) ≡ note_size * length ns
+unfolding notes_words
 length-notes [] = refl
 length-notes (n ∷ ns) = let e = length-notes ns in omega arith
 
 -- none
-pub no-notes : (ns : List Note) (ws : List ℕ) → notesAt ≤ length ws → ws ≡ put_at notesAt (notesWords (take 0 ns)) ws
-unfolding notesWords
+pub no-notes : (ns : List Note) (ws : List ℕ) → notes_at ≤ length ws → ws ≡ put_at notes_at (notes_words (take 0 ns)) ws
+unfolding notes_words
 no-notes ns ws h =
-    sym (ap (λ (l : List ℕ). l ++ drop notesAt ws) (append-nil (take notesAt ws)) ∙ take-append-drop notesAt ws)
+    sym (ap (λ (l : List ℕ). l ++ drop notes_at ws) (append-nil (take notes_at ws)) ∙ take-append-drop notes_at ws)
 
 -- one more
 pub one-note :
-    (ns : List Note) (i : ℕ) (ws vs : List ℕ) → i < length ns → noteAt (i + 1) ≤ length ws → vs ≡ put_at notesAt (notesWords (take i ns)) ws
-    → put_at (noteAt i) (noteWords (get_or ns i pastNote)) vs ≡ put_at notesAt (notesWords (take (i + 1) ns)) ws
+    (ns : List Note) (i : ℕ) (ws vs : List ℕ) → i < length ns → note_at (i + 1) ≤ length ws → vs ≡ put_at notes_at (notes_words (take i ns)) ws
+    → put_at (note_at i) (note_words (get_or ns i past_note)) vs ≡ put_at notes_at (notes_words (take (i + 1) ns)) ws
 one-note ns i ws vs l h e =
     let a = length-notes (take i ns) in
     let b = length-take-le i ns (omega arith) in
-    let at : noteAt i ≡ notesAt + length (notesWords (take i ns)) = omega (arith, a, b) in
-    let more : notesWords (take (i + 1) ns) ≡ notesWords (take i ns) ++ noteWords (get_or ns i pastNote) =
-    ap notesWords (take_more ns i pastNote l) ∙ notes-more (take i ns) (get_or ns i pastNote) in
-    ap (put_at (noteAt i) (noteWords (get_or ns i pastNote))) e
-    ∙ (put_next notesAt (notesWords (take i ns)) ws (noteWords (get_or ns i pastNote)) (noteAt i) at (omega (arith, a, b, h))
-    ∙ ap (λ (l : List ℕ). put_at notesAt l ws) (sym more))
+    let at : note_at i ≡ notes_at + length (notes_words (take i ns)) = omega (arith, a, b) in
+    let more : notes_words (take (i + 1) ns) ≡ notes_words (take i ns) ++ note_words (get_or ns i past_note) =
+    ap notes_words (take_more ns i past_note l) ∙ notes-more (take i ns) (get_or ns i past_note) in
+    ap (put_at (note_at i) (note_words (get_or ns i past_note))) e
+    ∙ (put_next notes_at (notes_words (take i ns)) ws (note_words (get_or ns i past_note)) (note_at i) at (omega (arith, a, b, h))
+    ∙ ap (λ (l : List ℕ). put_at notes_at l ws) (sym more))
 
 -- .. in a buffer that stays as long as it was
 pub next-note :
-    (ns : List Note) (i : ℕ) (ws vs : List ℕ) {ph : PhaseWords} {us : List ℕ} → i < length ns → noteAt (i + 1) ≤ length ws
-    → vs ≡ put_at notesAt (notesWords (take i ns)) ws → ph ≡ ofPhase (get_or ns i pastNote).phase → us ≡ put_at (noteAt i) (fourWords ph) vs
-    → (length us ≡ length ws) × (us ≡ put_at notesAt (notesWords (take (i + 1) ns)) ws)
+    (ns : List Note) (i : ℕ) (ws vs : List ℕ) {ph : PhaseWords} {us : List ℕ} → i < length ns → note_at (i + 1) ≤ length ws
+    → vs ≡ put_at notes_at (notes_words (take i ns)) ws → ph ≡ of_phase (get_or ns i past_note).phase → us ≡ put_at (note_at i) (four_words ph) vs
+    → (length us ≡ length ws) × (us ≡ put_at notes_at (notes_words (take (i + 1) ns)) ws)
 next-note ns i ws vs l h e p q =
     let a = length-notes (take (i + 1) ns) in
     let b = length-take-le (i + 1) ns (omega arith) in
-    let put = q ∙ (ap (λ (t : PhaseWords). put_at (noteAt i) (fourWords t) vs) p ∙ one-note ns i ws vs l h e) in
-    (ap length put ∙ length-put notesAt (notesWords (take (i + 1) ns)) ws (omega (arith, a, b, h)), put)
+    let put = q ∙ (ap (λ (t : PhaseWords). put_at (note_at i) (four_words t) vs) p ∙ one-note ns i ws vs l h e) in
+    (ap length put ∙ length-put notes_at (notes_words (take (i + 1) ns)) ws (omega (arith, a, b, h)), put)
 
 -- NOTES, READ
 
-pub read-note : (n : ℕ) (ws : List ℕ) → notesIn (suc n) ws ≡ notesIn n ws ++ (noteIn (drop (noteSize * n) ws) ∷ [])
-unfolding notesIn
+pub read-note : (n : ℕ) (ws : List ℕ) → notes_in (suc n) ws ≡ notes_in n ws ++ (note_in (drop (note_size * n) ws) ∷ [])
+unfolding notes_in
 read-note zero ws = refl
 read-note (suc n) ws =
-    let e : noteSize + noteSize * n ≡ noteSize * suc n = omega arith in
-    ap (λ (l : List Note). noteIn ws ∷ l) (read-note n (drop noteSize ws)
-    ∙ ap (λ (l : List ℕ). notesIn n (drop noteSize ws) ++ (noteIn l ∷ [])) (drop-drop (noteSize * n) noteSize ws ∙ ap (λ (k : ℕ). drop k ws) e))
+    let e : note_size + note_size * n ≡ note_size * suc n = omega arith in
+    ap (λ (l : List Note). note_in ws ∷ l) (read-note n (drop note_size ws)
+    ∙ ap (λ (l : List ℕ). notes_in n (drop note_size ws) ++ (note_in l ∷ [])) (drop-drop (note_size * n) note_size ws ∙ ap (λ (k : ℕ). drop k ws) e))
 
 -- the note that begins at a word
 note-at :
-    (ws : List ℕ) (at : ℕ) → noteIn (drop at ws) ≡ note (phaseNoted (get_or ws at 0) (get_or ws (at + 1) 0) (get_or ws (at + 2) 0) (get_or ws (at + 3) 0))
+    (ws : List ℕ) (at : ℕ) → note_in (drop at ws) ≡ note (phase_noted (get_or ws at 0) (get_or ws (at + 1) 0) (get_or ws (at + 2) 0) (get_or ws (at + 3) 0))
 note-at ws at = simp (get_or-drop, add-zero)
 
 module _ (ws : List ℕ) (at : ℕ) where
   pub note-read :
-      {ph : Phase} → isPhase (get_or ws at 0) (get_or ws (at + 2) 0) (get_or ws (at + 3) 0) ≡ true
-      → ph ≡ phaseOf (get_or ws at 0) (get_or ws (at + 1) 0) (get_or ws (at + 2) 0) (get_or ws (at + 3) 0) → note ph ≡ noteIn (drop at ws)
+      {ph : Phase} → is_phase (get_or ws at 0) (get_or ws (at + 2) 0) (get_or ws (at + 3) 0) ≡ true
+      → ph ≡ phase_of (get_or ws at 0) (get_or ws (at + 1) 0) (get_or ws (at + 2) 0) (get_or ws (at + 3) 0) → note ph ≡ note_in (drop at ws)
   note-read e p =
       ap note
-      (p ∙ sym (ap (λ (t : Bool). cond t (phaseOf (get_or ws at 0) (get_or ws (at + 1) 0) (get_or ws (at + 2) 0) (get_or ws (at + 3) 0)) (Resting 0)) e))
+      (p ∙ sym (ap (λ (t : Bool). cond t (phase_of (get_or ws at 0) (get_or ws (at + 1) 0) (get_or ws (at + 2) 0) (get_or ws (at + 3) 0)) (Resting 0)) e))
       ∙ sym (note-at ws at)
 
-  pub note-none : isPhase (get_or ws at 0) (get_or ws (at + 2) 0) (get_or ws (at + 3) 0) ≡ false → note (Resting 0) ≡ noteIn (drop at ws)
+  pub note-none : is_phase (get_or ws at 0) (get_or ws (at + 2) 0) (get_or ws (at + 3) 0) ≡ false → note (Resting 0) ≡ note_in (drop at ws)
   note-none e =
       sym
       (note-at ws at
-      ∙ ap (λ (t : Bool). note (cond t (phaseOf (get_or ws at 0) (get_or ws (at + 1) 0) (get_or ws (at + 2) 0) (get_or ws (at + 3) 0)) (Resting 0))) e)
+      ∙ ap (λ (t : Bool). note (cond t (phase_of (get_or ws at 0) (get_or ws (at + 1) 0) (get_or ws (at + 2) 0) (get_or ws (at + 3) 0)) (Resting 0))) e)
 
-pub length-noted : (n : ℕ) (ws : List ℕ) → length (notesIn n ws) ≡ n
-unfolding notesIn
+pub length-noted : (n : ℕ) (ws : List ℕ) → length (notes_in n ws) ≡ n
+unfolding notes_in
 length-noted zero ws = refl
-length-noted (suc n) ws = ap suc (length-noted n (drop noteSize ws))
+length-noted (suc n) ws = ap suc (length-noted n (drop note_size ws))
 
 -- the first of them
-pub take-noted : (n k : ℕ) (ws : List ℕ) → n ≤ k → take n (notesIn k ws) ≡ notesIn n ws
-unfolding notesIn
+pub take-noted : (n k : ℕ) (ws : List ℕ) → n ≤ k → take n (notes_in k ws) ≡ notes_in n ws
+unfolding notes_in
 take-noted zero k ws h = refl
 take-noted (suc n) zero ws h = absurd (not-suc-le-zero h)
-take-noted (suc n) (suc k) ws h = ap (λ (l : List Note). noteIn ws ∷ l) (take-noted n k (drop noteSize ws) (le_of_suc-le-suc h))
+take-noted (suc n) (suc k) ws h = ap (λ (l : List Note). note_in ws ∷ l) (take-noted n k (drop note_size ws) (le_of_suc-le-suc h))
 
 -- WHAT IS WRITTEN IS READ AGAIN
 
-phase-noted : (ph : Phase) → phaseNoted (ofPhase ph).kind (ofPhase ph).first (ofPhase ph).second (ofPhase ph).third ≡ ph
+phase-noted : (ph : Phase) → phase_noted (of_phase ph).kind (of_phase ph).first (of_phase ph).second (of_phase ph).third ≡ ph
 phase-noted (Coming left) = refl
 phase-noted (Working z had reserved) = refl
 phase-noted (Holding z reserved) = refl
 phase-noted (Resting z) = refl
 
-pub notes-back : (k : ℕ) (ns : List Note) (ws : List ℕ) → k ≤ length ns → notesIn k (notesWords ns ++ ws) ≡ take k ns
-unfolding notesIn notesWords
+pub notes-back : (k : ℕ) (ns : List Note) (ws : List ℕ) → k ≤ length ns → notes_in k (notes_words ns ++ ws) ≡ take k ns
+unfolding notes_in notes_words
 notes-back zero ns ws h = refl
 notes-back (suc k) [] ws h = absurd (not-suc-le-zero h)
 notes-back (suc k) (n ∷ ns) ws h = λ i. note (phase-noted n.phase i) ∷ notes-back k ns ws (le_of_suc-le-suc h) i
@@ -188,22 +188,21 @@ notes-back (suc k) (n ∷ ns) ws h = λ i. note (phase-noted n.phase i) ∷ note
 -- notes written over the first ones: those after them are read as before
 pub notes-over :
     (k : ℕ) (ns : List Note) (ws : List ℕ) → length ns ≤ k
-    → notesIn k (notesWords ns ++ drop (noteSize * length ns) ws) ≡ ns ++ drop (length ns) (notesIn k ws)
-unfolding notesIn notesWords
+    → notes_in k (notes_words ns ++ drop (note_size * length ns) ws) ≡ ns ++ drop (length ns) (notes_in k ws)
+unfolding notes_in notes_words
 notes-over k [] ws h = refl
 notes-over zero (n ∷ ns) ws h = absurd (not-suc-le-zero h)
 notes-over (suc k) (n ∷ ns) ws h =
-    let e : noteSize * suc (length ns) ≡ noteSize + noteSize * length ns = omega arith in
-    ap (λ (l : List Note). note (phaseNoted (ofPhase n.phase).kind (ofPhase n.phase).first (ofPhase n.phase).second (ofPhase n.phase).third)
-    ∷ l)
-    (ap (λ (m : ℕ). notesIn k (notesWords ns ++ drop m ws)) e
-    ∙ (ap (λ (l : List ℕ). notesIn k (notesWords ns ++ l)) (sym (drop-drop (noteSize * length ns) noteSize ws))
-    ∙ notes-over k ns (drop noteSize ws) (le_of_suc-le-suc h)))
-    ∙ ap (λ (ph : Phase). note ph ∷ (ns ++ drop (length ns) (notesIn k (drop noteSize ws)))) (phase-noted n.phase)
+    let e : note_size * suc (length ns) ≡ note_size + note_size * length ns = omega arith in
+    ap (λ (l : List Note). note (phase_noted (of_phase n.phase).kind (of_phase n.phase).first (of_phase n.phase).second (of_phase n.phase).third) ∷ l)
+    (ap (λ (m : ℕ). notes_in k (notes_words ns ++ drop m ws)) e
+    ∙ (ap (λ (l : List ℕ). notes_in k (notes_words ns ++ l)) (sym (drop-drop (note_size * length ns) note_size ws))
+    ∙ notes-over k ns (drop note_size ws) (le_of_suc-le-suc h)))
+    ∙ ap (λ (ph : Phase). note ph ∷ (ns ++ drop (length ns) (notes_in k (drop note_size ws)))) (phase-noted n.phase)
 
 -- WHAT IS READ IS WRITTEN AGAIN
 
-note-front : (ws : List ℕ) → noteSize ≤ length ws → fourWords (phaseWords (get_or ws 0 0) (get_or ws 1 0) (get_or ws 2 0) (get_or ws 3 0)) ++ drop noteSize ws ≡ ws
+note-front : (ws : List ℕ) → note_size ≤ length ws → four_words (phase_words (get_or ws 0 0) (get_or ws 1 0) (get_or ws 2 0) (get_or ws 3 0)) ++ drop note_size ws ≡ ws
 note-front ws h =
     sym
     (drop-cons ws 0 0 (omega arith)
@@ -211,25 +210,25 @@ note-front ws h =
     ∙ ap (λ (l : List ℕ). get_or ws 1 0 ∷ l) (drop-cons ws 2 0 (omega arith)
     ∙ ap (λ (l : List ℕ). get_or ws 2 0 ∷ l) (drop-cons ws 3 0 (omega arith)))))
 
-note-encode : (ws : List ℕ) → noteSize ≤ length ws → isNote ws ≡ true → noteWords (noteIn ws) ++ drop noteSize ws ≡ ws
+note-encode : (ws : List ℕ) → note_size ≤ length ws → is_note ws ≡ true → note_words (note_in ws) ++ drop note_size ws ≡ ws
 note-encode ws h e =
     let k = get_or ws 0 0 in
     let a = get_or ws 1 0 in
     let b = get_or ws 2 0 in
     let c = get_or ws 3 0 in
-    let same : phaseNoted k a b c ≡ phaseOf k a b c = rw e refl in
-    (λ i. fourWords ((ap ofPhase same ∙ phase-encode k a b c e) i) ++ drop noteSize ws)
+    let same : phase_noted k a b c ≡ phase_of k a b c = rw e refl in
+    (λ i. four_words ((ap of_phase same ∙ phase-encode k a b c e) i) ++ drop note_size ws)
     ∙ note-front ws h
 
 -- notes that are phases are the encoding of what is read of them
-pub notes-encode : (n : ℕ) (ws : List ℕ) → noteSize * n ≤ length ws → areNotes n ws ≡ true → notesWords (notesIn n ws) ++ drop (noteSize * n) ws ≡ ws
-unfolding areNotes notesIn notesWords
+pub notes-encode : (n : ℕ) (ws : List ℕ) → note_size * n ≤ length ws → are_notes n ws ≡ true → notes_words (notes_in n ws) ++ drop (note_size * n) ws ≡ ws
+unfolding are_notes notes_in notes_words
 notes-encode zero ws h e = refl
 notes-encode (suc n) ws h e =
-    let d = length-drop noteSize ws in
-    let k : noteSize * suc n ≡ noteSize + noteSize * n = omega arith in
-    let rest = notes-encode n (drop noteSize ws) (omega arith) (and_right (isNote ws) (areNotes n (drop noteSize ws)) e) in
-    ap (λ (m : ℕ). notesWords (notesIn (suc n) ws) ++ drop m ws) k
-    ∙ (ap (λ (l : List ℕ). notesWords (notesIn (suc n) ws) ++ l) (sym (drop-drop (noteSize * n) noteSize ws))
-    ∙ (ap (λ (l : List ℕ). noteWords (noteIn ws) ++ l) rest
-    ∙ note-encode ws (omega arith) (and_left (isNote ws) (areNotes n (drop noteSize ws)) e)))
+    let d = length-drop note_size ws in
+    let k : note_size * suc n ≡ note_size + note_size * n = omega arith in
+    let rest = notes-encode n (drop note_size ws) (omega arith) (and_right (is_note ws) (are_notes n (drop note_size ws)) e) in
+    ap (λ (m : ℕ). notes_words (notes_in (suc n) ws) ++ drop m ws) k
+    ∙ (ap (λ (l : List ℕ). notes_words (notes_in (suc n) ws) ++ l) (sym (drop-drop (note_size * n) note_size ws))
+    ∙ (ap (λ (l : List ℕ). note_words (note_in ws) ++ l) rest
+    ∙ note-encode ws (omega arith) (and_left (is_note ws) (are_notes n (drop note_size ws)) e)))

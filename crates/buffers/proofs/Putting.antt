@@ -8,23 +8,23 @@ use lib.Seq.{sets-eq, take_at, drop_at, drop-drop, drop-length}
 use borrow.Author.Rules.{part_to_end}
 use borrow.Rule.Slice.PartMut.{put_mid, post_of, Post-is}
 use Rattle.run.specs.declared.Run.{Run}
-use Rattle.buffers.specs.Encoding.{headWords, placesWords, encodeTo, overwritten}
+use Rattle.buffers.specs.Encoding.{head_words, places_words, encode_to, overwritten}
 
 -- the head's six stores, over a list of at least six words
 pub head-put :
-    (ws : List ℕ) (a b c d e f : ℕ) → headWords ≤ length ws
-    → set (set (set (set (set (set ws 0 a) 1 b) 2 c) 3 d) 4 e) 5 f ≡ a ∷ (b ∷ (c ∷ (d ∷ (e ∷ (f ∷ drop headWords ws)))))
+    (ws : List ℕ) (a b c d e f : ℕ) → head_words ≤ length ws
+    → set (set (set (set (set (set ws 0 a) 1 b) 2 c) 3 d) 4 e) 5 f ≡ a ∷ (b ∷ (c ∷ (d ∷ (e ∷ (f ∷ drop head_words ws)))))
 head-put ws a b c d e f h = sets-eq (a ∷ (b ∷ (c ∷ (d ∷ (e ∷ (f ∷ [])))))) ws 0 h
 
 -- a buffer whose head was written: what is after the head is as it was
-pub head-behind : (ws vs : List ℕ) (r : Run) (n : ℕ) → vs ≡ overwritten 0 r ws → drop (headWords + n) vs ≡ drop (headWords + n) ws
-unfolding encodeTo placesWords
+pub head-behind : (ws vs : List ℕ) (r : Run) (n : ℕ) → vs ≡ overwritten 0 r ws → drop (head_words + n) vs ≡ drop (head_words + n) ws
+unfolding encode_to places_words
 head-behind ws vs r n e =
-    sym (drop-drop n headWords vs) ∙ (ap (λ (l : List ℕ). drop n (drop headWords l)) e ∙ drop-drop n headWords ws)
+    sym (drop-drop n head_words vs) ∙ (ap (λ (l : List ℕ). drop n (drop head_words l)) e ∙ drop-drop n head_words ws)
 
-pub head-length : (ws vs : List ℕ) (r : Run) → vs ≡ overwritten 0 r ws → headWords ≤ length ws → length vs ≡ length ws
-unfolding encodeTo placesWords
-head-length ws vs r e h = ap length e ∙ omega (arith, length-drop headWords ws)
+pub head-length : (ws vs : List ℕ) (r : Run) → vs ≡ overwritten 0 r ws → head_words ≤ length ws → length vs ≡ length ws
+unfolding encode_to places_words
+head-length ws vs r e h = ap length e ∙ omega (arith, length-drop head_words ws)
 
 -- n words, written into the part that begins at `at`
 pub put-more :

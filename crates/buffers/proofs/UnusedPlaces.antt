@@ -6,49 +6,47 @@ use Prim.Native.Nat.{ℕ, ◌*◌, ◌-◌, ◌≤◌, ◌<◌}
 use native.Mathlib.Omega.{arith}
 use lib.ListN.{length, get_or, take, drop, length-drop, replicate, take-append-drop}
 use lib.Seq.{length-take-le, get_or-take, take-add, take_all, take_at, drop_at}
-use Rattle.table.specs.declared.Answer.{Answer}
-use Rattle.table.specs.declared.Answer.TheVariants.{Taken, Refused}
+use Rattle.run.specs.declared.Answer.{Answer}
+use Rattle.run.specs.declared.Answer.TheVariants.{Taken, Refused}
 use Rattle.run.specs.declared.Run.{Run}
-use Rattle.table.specs.AnswerMeaning.{byAnswer}
+use Rattle.run.specs.Answer.{by_answer}
 use Rattle.model.specs.Advance.{Entry}
 use Rattle.refinement.specs.Entries.{entry_of}
 use Rattle.run.specs.UnusedPlaces.{TailUnread}
 use Rattle.run.proofs.UnusedPlaces.{past-unread}
 use Rattle.phase.specs.Task.{unused}
-use Rattle.buffers.specs.Encoding.{headWords, eachWords, places, words_to, placesWords, encodeTo, overwritten, placesIn, arePlaces, countIn, holdsRun}
-use Rattle.buffers.specs.Encoding.{padded, runIn, BufferRun, run, none, decode, cleared}
-use Rattle.buffers.specs.Runs.{rowFrom, setsFrom, entryFrom}
-use Rattle.buffers.specs.Runs.{workingFrom}
-use Rattle.buffers.specs.UnusedPlaces.{usedIn, SameUsed, WordsUnread}
-use Rattle.table.specs.Words.{fenceOf}
+use Rattle.buffers.specs.Encoding.{head_words, each_words, places, words_to, places_words, encode_to, overwritten, places_in, are_places, count_in, holds_run, padded, run_in, BufferRun, run, none, decode, cleared}
+use Rattle.buffers.specs.Runs.{row_from, sets_from, entry_from}
+use Rattle.buffers.specs.Runs.{working_from}
+use Rattle.buffers.specs.UnusedPlaces.{used_in, SameUsed, WordsUnread}
+use Rattle.table.specs.Words.{fence_of}
 use Rattle.buffers.proofs.Places.{length-words, length-read, held_by, by-held, held-few, held-places}
 use Rattle.buffers.proofs.Inverse.{length_to, held-run, places-are, places-back, places-encode}
 use Rattle.buffers.proofs.Keeping.{count_kept}
 use Rattle.buffers.proofs.Kept.{StoredRun, held_fits, fits-entered}
 
 -- the buffer's count is that of the run that it holds
-held-count : (ws : List ℕ) (r : Run) → decode ws ≡ run r → r.count ≡ countIn ws
-unfolding runIn
+held-count : (ws : List ℕ) (r : Run) → decode ws ≡ run r → r.count ≡ count_in ws
+unfolding run_in
 held-count ws r e = sym (ap (λ (q : Run). q.count) (held-run ws r e).1)
 
 -- words that are places are the encoding of these places, and so are words that are equal to them
 pub record SamePlaces (n : ℕ) (ws vs : List ℕ) : Type 0 where
-  pub are : arePlaces n vs ≡ true
-  pub read : placesIn n vs ≡ placesIn n ws
+  pub are : are_places n vs ≡ true
+  pub read : places_in n vs ≡ places_in n ws
 
-same-places :
-    (n : ℕ) (ws vs : List ℕ) → eachWords * n ≤ length ws → arePlaces n ws ≡ true → take (eachWords * n) ws ≡ take (eachWords * n) vs → SamePlaces n ws vs
+same-places : (n : ℕ) (ws vs : List ℕ) → each_words * n ≤ length ws → are_places n ws ≡ true → take (each_words * n) ws ≡ take (each_words * n) vs → SamePlaces n ws vs
 same-places n ws vs h e u =
-    let read = placesIn n ws in
+    let read = places_in n ws in
     let many = length-read n ws in
-    let front : take (eachWords * n) ws ≡ placesWords read =
-    ap (take (eachWords * n)) (sym (places-encode n ws h e))
-    ∙ take_at (placesWords read) (drop (eachWords * n) ws) (eachWords * n) (length-words read ∙ ap (λ (k : ℕ). eachWords * k) many) in
-    let other : placesWords read ++ drop (eachWords * n) vs ≡ vs =
-    ap (λ (l : List ℕ). l ++ drop (eachWords * n) vs) (sym front ∙ u) ∙ take-append-drop (eachWords * n) vs in
+    let front : take (each_words * n) ws ≡ places_words read =
+    ap (take (each_words * n)) (sym (places-encode n ws h e))
+    ∙ take_at (places_words read) (drop (each_words * n) ws) (each_words * n) (length-words read ∙ ap (λ (k : ℕ). each_words * k) many) in
+    let other : places_words read ++ drop (each_words * n) vs ≡ vs =
+    ap (λ (l : List ℕ). l ++ drop (each_words * n) vs) (sym front ∙ u) ∙ take-append-drop (each_words * n) vs in
     record {
-      are = ap (arePlaces n) (sym other) ∙ places-are n read (drop (eachWords * n) vs) (omega arith);
-      read = ap (placesIn n) (sym other) ∙ (places-back n read (drop (eachWords * n) vs) (omega arith) ∙ take_all n read (omega arith));
+      are = ap (are_places n) (sym other) ∙ places-are n read (drop (each_words * n) vs) (omega arith);
+      read = ap (places_in n) (sym other) ∙ (places-back n read (drop (each_words * n) vs) (omega arith) ∙ take_all n read (omega arith));
     }
 
 -- a run that is cleared, as it is when it comes back from its encoding, is the run up to its count: it gets equal rows, sets and answers
@@ -68,10 +66,10 @@ cleared-unread r all few x e =
 -- NOT READ
 
 module _ (ws vs : List ℕ) (s : SameUsed ws vs) where
-  same_count : countIn ws ≡ countIn vs
+  same_count : count_in ws ≡ count_in vs
   same_count =
-      sym (get_or-take (usedIn ws) ws 2 0 (omega arith))
-      ∙ (ap (λ (l : List ℕ). get_or l 2 0) s.used ∙ get_or-take (usedIn ws) vs 2 0 (omega arith))
+      sym (get_or-take (used_in ws) ws 2 0 (omega arith))
+      ∙ (ap (λ (l : List ℕ). get_or l 2 0) s.used ∙ get_or-take (used_in ws) vs 2 0 (omega arith))
 
   turned : SameUsed vs ws
   turned = record {
@@ -81,41 +79,41 @@ module _ (ws vs : List ℕ) (s : SameUsed ws vs) where
   }
 
   -- a word of the head
-  same_word : (i : ℕ) → i < headWords → get_or ws i 0 ≡ get_or vs i 0
+  same_word : (i : ℕ) → i < head_words → get_or ws i 0 ≡ get_or vs i 0
   same_word i l =
-      sym (get_or-take (usedIn ws) ws i 0 (omega arith))
-      ∙ (ap (λ (l : List ℕ). get_or l i 0) s.used ∙ get_or-take (usedIn ws) vs i 0 (omega arith))
+      sym (get_or-take (used_in ws) ws i 0 (omega arith))
+      ∙ (ap (λ (l : List ℕ). get_or l i 0) s.used ∙ get_or-take (used_in ws) vs i 0 (omega arith))
 
   -- the words of the places below the count
-  behind-head : (l : List ℕ) → headWords ≤ length l → drop headWords (take (usedIn ws) l) ≡ take (eachWords * countIn ws) (drop headWords l)
+  behind-head : (l : List ℕ) → head_words ≤ length l → drop head_words (take (used_in ws) l) ≡ take (each_words * count_in ws) (drop head_words l)
   behind-head l h =
-      ap (drop headWords) (take-add headWords (eachWords * countIn ws) l)
-      ∙ drop_at (take headWords l) (take (eachWords * countIn ws) (drop headWords l)) headWords (length-take-le headWords l h)
+      ap (drop head_words) (take-add head_words (each_words * count_in ws) l)
+      ∙ drop_at (take head_words l) (take (each_words * count_in ws) (drop head_words l)) head_words (length-take-le head_words l h)
 
-  module _ (e : holdsRun ws ≡ true) where
-    same_read : SamePlaces (countIn ws) (drop headWords ws) (drop headWords vs)
+  module _ (e : holds_run ws ≡ true) where
+    same_read : SamePlaces (count_in ws) (drop head_words ws) (drop head_words vs)
     same_read =
         let few = held-few ws e in
-        let d = length-drop headWords ws in
+        let d = length-drop head_words ws in
         let long = s.long in
         let other = s.other-long in
-        same-places (countIn ws) (drop headWords ws) (drop headWords vs) (omega arith) (held-places ws e)
-        (sym (behind-head ws (omega arith)) ∙ (ap (drop headWords) s.used ∙ behind-head vs (omega arith)))
+        same-places (count_in ws) (drop head_words ws) (drop head_words vs) (omega arith) (held-places ws e)
+        (sym (behind-head ws (omega arith)) ∙ (ap (drop head_words) s.used ∙ behind-head vs (omega arith)))
 
-    also-holds : holdsRun vs ≡ true
+    also-holds : holds_run vs ≡ true
     also-holds =
         held_by vs s.other-long (omega (arith, same_count, held-few ws e))
-        ∙ (ap (λ (n : ℕ). arePlaces n (drop headWords vs)) (sym same_count) ∙ same_read.are)
+        ∙ (ap (λ (n : ℕ). are_places n (drop head_words vs)) (sym same_count) ∙ same_read.are)
 
-    same-run : runIn vs ≡ runIn ws
-    unfolding runIn
+    same-run : run_in vs ≡ run_in ws
+    unfolding run_in
     same-run = λ i. record {
       rule = sym (same_word 0 (omega arith)) i;
       cores = sym (same_word 1 (omega arith)) i;
-      fence = fenceOf (sym (same_word 3 (omega arith)) i) (sym (same_word 4 (omega arith)) i);
+      fence = fence_of (sym (same_word 3 (omega arith)) i) (sym (same_word 4 (omega arith)) i);
       withdrawn = sym (same_word 5 (omega arith)) i;
       count = sym same_count i;
-      tasks = (ap (λ (n : ℕ). padded n (placesIn n (drop headWords vs))) (sym same_count) ∙ ap (padded (countIn ws)) same_read.read) i;
+      tasks = (ap (λ (n : ℕ). padded n (places_in n (drop head_words vs))) (sym same_count) ∙ ap (padded (count_in ws)) same_read.read) i;
     }
 
   -- a run that the one holds is held by the other
@@ -139,7 +137,7 @@ module _ (r : Run) (f : StoredRun r) (x : Entry) where
   abbrev next : Run
   next = (entry_of r x).run
 
-  length-next : length (encodeTo next.count next) ≡ words_to r.count
+  length-next : length (encode_to next.count next) ≡ words_to r.count
   length-next =
       let g = fits-entered r x f in
       let few = g.few in
@@ -147,59 +145,57 @@ module _ (r : Run) (f : StoredRun r) (x : Entry) where
       length_to next.count next (omega arith) ∙ ap words_to (count_kept r x)
 
   front : (ws vs : List ℕ) → take (words_to r.count) ws ≡ take (words_to r.count) vs
-      → take (words_to r.count) (entryFrom (run r) x ws).buffer ≡ take (words_to r.count) (entryFrom (run r) x vs).buffer
+      → take (words_to r.count) (entry_from (run r) x ws).buffer ≡ take (words_to r.count) (entry_from (run r) x vs).buffer
   front ws vs e = go (entry_of r x).answer
     where
-      callResult : (l : List ℕ) → take (words_to r.count) (overwritten next.count next l) ≡ encodeTo next.count next
-      callResult l = take_at (encodeTo next.count next) (drop (words_to next.count) l) (words_to r.count) length-next
+      call_result : (l : List ℕ) → take (words_to r.count) (overwritten next.count next l) ≡ encode_to next.count next
+      call_result l = take_at (encode_to next.count next) (drop (words_to next.count) l) (words_to r.count) length-next
 
       go : (a : Answer)
-          → take (words_to r.count) (byAnswer a (overwritten next.count next ws) ws)
-          ≡ take (words_to r.count) (byAnswer a (overwritten next.count next vs) vs)
-      go Taken = callResult ws ∙ sym (callResult vs)
+          → take (words_to r.count) (by_answer a (overwritten next.count next ws) ws) ≡ take (words_to r.count) (by_answer a (overwritten next.count next vs) vs)
+      go Taken = call_result ws ∙ sym (call_result vs)
       go (Refused n p) = e
 
-  behind : (ws : List ℕ) → drop (words_to r.count) (entryFrom (run r) x ws).buffer ≡ drop (words_to r.count) ws
+  behind : (ws : List ℕ) → drop (words_to r.count) (entry_from (run r) x ws).buffer ≡ drop (words_to r.count) ws
   behind ws = go (entry_of r x).answer
     where
-      go : (a : Answer) → drop (words_to r.count) (byAnswer a (overwritten next.count next ws) ws) ≡ drop (words_to r.count) ws
+      go : (a : Answer) → drop (words_to r.count) (by_answer a (overwritten next.count next ws) ws) ≡ drop (words_to r.count) ws
       go Taken =
-          drop_at (encodeTo next.count next) (drop (words_to next.count) ws) (words_to r.count) length-next
+          drop_at (encode_to next.count next) (drop (words_to next.count) ws) (words_to r.count) length-next
           ∙ ap (λ (n : ℕ). drop (words_to n) ws) (count_kept r x)
       go (Refused n p) = refl
 
 -- an entry, taken or refused, leaves every word past the count as found
-pub words-unchanged : (ws : List ℕ) (x : Entry) → drop (usedIn ws) (entryFrom (decode ws) x ws).buffer ≡ drop (usedIn ws) ws
+pub words-unchanged : (ws : List ℕ) (x : Entry) → drop (used_in ws) (entry_from (decode ws) x ws).buffer ≡ drop (used_in ws) ws
 words-unchanged ws x = go (decode ws) refl
   where
-    go : (h : BufferRun) → decode ws ≡ h → drop (usedIn ws) (entryFrom (decode ws) x ws).buffer ≡ drop (usedIn ws) ws
+    go : (h : BufferRun) → decode ws ≡ h → drop (used_in ws) (entry_from (decode ws) x ws).buffer ≡ drop (used_in ws) ws
     go (run r) e =
-        let at : usedIn ws ≡ words_to r.count = ap words_to (sym (held-count ws r e)) in
-        ap (λ (h : BufferRun). drop (usedIn ws) (entryFrom h x ws).buffer) e
-        ∙ (ap (λ (k : ℕ). drop k (entryFrom (run r) x ws).buffer) at ∙ (behind r (held_fits ws r e).0 x ws ∙ ap (λ (k : ℕ). drop k ws) (sym at)))
-    go none e = ap (λ (h : BufferRun). drop (usedIn ws) (entryFrom h x ws).buffer) e
+        let at : used_in ws ≡ words_to r.count = ap words_to (sym (held-count ws r e)) in
+        ap (λ (h : BufferRun). drop (used_in ws) (entry_from h x ws).buffer) e
+        ∙ (ap (λ (k : ℕ). drop k (entry_from (run r) x ws).buffer) at ∙ (behind r (held_fits ws r e).0 x ws ∙ ap (λ (k : ℕ). drop k ws) (sym at)))
+    go none e = ap (λ (h : BufferRun). drop (used_in ws) (entry_from h x ws).buffer) e
 
 -- two buffers that are equal up to the count get equal rows, sets and answers, and are equal up to the count again after an entry
 pub words-unread : (ws vs : List ℕ) → SameUsed ws vs → (x : Entry) → WordsUnread ws vs x
 words-unread ws vs s x = record {
   held = same-held ws vs s;
-  row = λ e. ap (λ (h : BufferRun). rowFrom h e) (same-held ws vs s);
-  sets = λ e. ap (λ (h : BufferRun). setsFrom h e) (same-held ws vs s);
-  working = λ e. ap (λ (h : BufferRun). workingFrom h e) (same-held ws vs s);
-  answer = answered (decode ws) ∙ ap (λ (h : BufferRun). (entryFrom h x vs).answer) (same-held ws vs s);
-  used = go (decode ws) refl ∙ ap (λ (h : BufferRun). take (usedIn ws) (entryFrom h x vs).buffer) (same-held ws vs s);
+  row = λ e. ap (λ (h : BufferRun). row_from h e) (same-held ws vs s);
+  sets = λ e. ap (λ (h : BufferRun). sets_from h e) (same-held ws vs s);
+  working = λ e. ap (λ (h : BufferRun). working_from h e) (same-held ws vs s);
+  answer = answered (decode ws) ∙ ap (λ (h : BufferRun). (entry_from h x vs).answer) (same-held ws vs s);
+  used = go (decode ws) refl ∙ ap (λ (h : BufferRun). take (used_in ws) (entry_from h x vs).buffer) (same-held ws vs s);
 }
   where
-    answered : (h : BufferRun) → (entryFrom h x ws).answer ≡ (entryFrom h x vs).answer
+    answered : (h : BufferRun) → (entry_from h x ws).answer ≡ (entry_from h x vs).answer
     answered (run r) = refl
     answered none = refl
 
-    go : (h : BufferRun) → decode ws ≡ h → take (usedIn ws) (entryFrom (decode ws) x ws).buffer ≡ take (usedIn ws) (entryFrom (decode ws) x vs).buffer
+    go : (h : BufferRun) → decode ws ≡ h → take (used_in ws) (entry_from (decode ws) x ws).buffer ≡ take (used_in ws) (entry_from (decode ws) x vs).buffer
     go (run r) e =
-        let at : usedIn ws ≡ words_to r.count = ap words_to (sym (held-count ws r e)) in
-        let same : take (words_to r.count) ws ≡ take (words_to r.count) vs = ap (λ (k : ℕ). take k ws) (sym at)
-        ∙ (s.used ∙ ap (λ (k : ℕ). take k vs) at) in
-        (λ i. take (at i) (entryFrom (e i) x ws).buffer) ∙ (front r (held_fits ws r e).0 x ws vs same ∙ sym (λ i. take (at i) (entryFrom (e i) x vs).buffer))
+        let at : used_in ws ≡ words_to r.count = ap words_to (sym (held-count ws r e)) in
+        let same : take (words_to r.count) ws ≡ take (words_to r.count) vs = ap (λ (k : ℕ). take k ws) (sym at) ∙ (s.used ∙ ap (λ (k : ℕ). take k vs) at) in
+        (λ i. take (at i) (entry_from (e i) x ws).buffer) ∙ (front r (held_fits ws r e).0 x ws vs same ∙ sym (λ i. take (at i) (entry_from (e i) x vs).buffer))
     go none e =
-        ap (λ (h : BufferRun). take (usedIn ws) (entryFrom h x ws).buffer) e
-        ∙ (s.used ∙ sym (ap (λ (h : BufferRun). take (usedIn ws) (entryFrom h x vs).buffer) e))
+        ap (λ (h : BufferRun). take (used_in ws) (entry_from h x ws).buffer) e
+        ∙ (s.used ∙ sym (ap (λ (h : BufferRun). take (used_in ws) (entry_from h x vs).buffer) e))

@@ -6,92 +6,92 @@ use Rattle.plan_check.specs.declared.Note.{Note}
 use Rattle.plan_check.specs.declared.SuppliedPlan.{SuppliedPlan}
 use Rattle.plan_check.specs.State.{note}
 use Rattle.buffers.specs.declared.run_buffer.PhaseWords.{PhaseWords}
-use Rattle.buffers.specs.Encoding.{places, runWords, ofPhase, encode, overwritten, phaseOf, isPhase, holdsRun, runIn, cleared}
+use Rattle.buffers.specs.Encoding.{places, run_words, of_phase, encode, overwritten, phase_of, is_phase, holds_run, run_in, cleared}
 
 -- THE SIZES
 
 -- the index of the tick: right after the run
-abbrev pub tickAt : ℕ
-tickAt = runWords
+abbrev pub tick_at : ℕ
+tick_at = run_words
 
 -- the index of the first note
-abbrev pub notesAt : ℕ
-notesAt = tickAt + 1
+abbrev pub notes_at : ℕ
+notes_at = tick_at + 1
 
 -- the words of a note
-abbrev pub noteSize : ℕ
-noteSize = 4
+abbrev pub note_size : ℕ
+note_size = 4
 
 -- the index of note n
-abbrev pub noteAt : ℕ → ℕ
-noteAt n = notesAt + noteSize * n
+abbrev pub note_at : ℕ → ℕ
+note_at n = notes_at + note_size * n
 
 -- the words of a plan
-abbrev pub planWords : ℕ
-planWords = noteAt places
+abbrev pub plan_words : ℕ
+plan_words = note_at places
 
 -- THE ENCODING
 
 -- the four words of a phase
-abbrev pub fourWords : PhaseWords → List ℕ
-fourWords ph = ph.kind ∷ (ph.first ∷ (ph.second ∷ (ph.third ∷ [])))
+abbrev pub four_words : PhaseWords → List ℕ
+four_words ph = ph.kind ∷ (ph.first ∷ (ph.second ∷ (ph.third ∷ [])))
 
 -- a note: the kind of its phase and three numbers, as a place has them
-abbrev pub noteWords : Note → List ℕ
-noteWords n = fourWords (ofPhase n.phase)
+abbrev pub note_words : Note → List ℕ
+note_words n = four_words (of_phase n.phase)
 
 -- notes, one after the other
-unfoldable pub notesWords : List Note → List ℕ
-notesWords [] = []
-notesWords (n ∷ ns) = noteWords n ++ notesWords ns
+unfoldable pub notes_words : List Note → List ℕ
+notes_words [] = []
+notes_words (n ∷ ns) = note_words n ++ notes_words ns
 
 -- a plan in words: the run with all its places, the tick, and all notes
-unfoldable pub encodePlan : SuppliedPlan → List ℕ
-encodePlan w = encode w.run ++ (w.tick ∷ notesWords w.noted)
+unfoldable pub encode_plan : SuppliedPlan → List ℕ
+encode_plan w = encode w.run ++ (w.tick ∷ notes_words w.noted)
 
 -- a buffer after these words are written into it from word n on: the words before and after them stay
 abbrev pub put_at : ℕ → List ℕ → List ℕ → List ℕ
 put_at n vs ws = (take n ws ++ vs) ++ drop (n + length vs) ws
 
 -- a buffer after the head and the first n places of a plan's run, and its tick, are written into it ..
-abbrev pub movedIn : ℕ → SuppliedPlan → List ℕ → List ℕ
-movedIn n w ws = put_at tickAt (w.tick ∷ []) (overwritten n w.run ws)
+abbrev pub moved_in : ℕ → SuppliedPlan → List ℕ → List ℕ
+moved_in n w ws = put_at tick_at (w.tick ∷ []) (overwritten n w.run ws)
 
 -- .. and its first n notes, where they are to be written too
-unfoldable pub planOver : Bool → ℕ → SuppliedPlan → List ℕ → List ℕ
-planOver noting n w ws = cond noting (put_at notesAt (notesWords (take n w.noted)) (movedIn n w ws)) (movedIn n w ws)
+unfoldable pub plan_over : Bool → ℕ → SuppliedPlan → List ℕ → List ℕ
+plan_over noting n w ws = cond noting (put_at notes_at (notes_words (take n w.noted)) (moved_in n w ws)) (moved_in n w ws)
 
 -- THE DECODING
 
 -- the phase of four words; Resting(0), which no run has, where they are no phase
-abbrev pub phaseNoted : ℕ → ℕ → ℕ → ℕ → Phase
-phaseNoted k a b c = cond (isPhase k b c) (phaseOf k a b c) (Resting 0)
+abbrev pub phase_noted : ℕ → ℕ → ℕ → ℕ → Phase
+phase_noted k a b c = cond (is_phase k b c) (phase_of k a b c) (Resting 0)
 
 -- the note whose words are in front
-abbrev pub noteIn : List ℕ → Note
-noteIn ws = note (phaseNoted (get_or ws 0 0) (get_or ws 1 0) (get_or ws 2 0) (get_or ws 3 0))
+abbrev pub note_in : List ℕ → Note
+note_in ws = note (phase_noted (get_or ws 0 0) (get_or ws 1 0) (get_or ws 2 0) (get_or ws 3 0))
 
 -- they are a note: they have a phase
-abbrev pub isNote : List ℕ → Bool
-isNote ws = isPhase (get_or ws 0 0) (get_or ws 2 0) (get_or ws 3 0)
+abbrev pub is_note : List ℕ → Bool
+is_note ws = is_phase (get_or ws 0 0) (get_or ws 2 0) (get_or ws 3 0)
 
 -- the first n notes
-unfoldable pub notesIn : ℕ → List ℕ → List Note
-notesIn zero ws = []
-notesIn (suc n) ws = noteIn ws ∷ notesIn n (drop noteSize ws)
+unfoldable pub notes_in : ℕ → List ℕ → List Note
+notes_in zero ws = []
+notes_in (suc n) ws = note_in ws ∷ notes_in n (drop note_size ws)
 
 -- each of them is one
-unfoldable pub areNotes : ℕ → List ℕ → Bool
-areNotes zero ws = true
-areNotes (suc n) ws = isNote ws && areNotes n (drop noteSize ws)
+unfoldable pub are_notes : ℕ → List ℕ → Bool
+are_notes zero ws = true
+are_notes (suc n) ws = is_note ws && are_notes n (drop note_size ws)
 
 -- a buffer holds a plan: it has the words of one, and those in front are a run; any words are a tick, and any are notes
-unfoldable pub holdsPlan : List ℕ → Bool
-holdsPlan ws = leb planWords (length ws) && holdsRun ws
+unfoldable pub holds_plan : List ℕ → Bool
+holds_plan ws = leb plan_words (length ws) && holds_run ws
 
 -- the plan at the front of the buffer
-unfoldable pub planIn : List ℕ → SuppliedPlan
-planIn ws = record { run = runIn ws; tick = get_or ws tickAt 0; noted = notesIn places (drop notesAt ws) }
+unfoldable pub plan_in : List ℕ → SuppliedPlan
+plan_in ws = record { run = run_in ws; tick = get_or ws tick_at 0; noted = notes_in places (drop notes_at ws) }
 
 -- the plan that a buffer holds, or none
 pub data BufferPlan : Type 0 where
@@ -99,9 +99,9 @@ pub data BufferPlan : Type 0 where
   none : BufferPlan
 
 -- the plan where it holds one
-abbrev pub decodePlan : List ℕ → BufferPlan
-decodePlan ws = cond (holdsPlan ws) (plan (planIn ws)) none
+abbrev pub decode_plan : List ℕ → BufferPlan
+decode_plan ws = cond (holds_plan ws) (plan (plan_in ws)) none
 
 -- a plan with the places of its run past the count cleared
-abbrev pub clearedPlan : SuppliedPlan → SuppliedPlan
-clearedPlan w = record { run = cleared w.run; tick = w.tick; noted = w.noted }
+abbrev pub cleared_plan : SuppliedPlan → SuppliedPlan
+cleared_plan w = record { run = cleared w.run; tick = w.tick; noted = w.noted }

@@ -1,13 +1,13 @@
 // An answer in three words: the case and its two numbers.
 ghost use Rattle.std.specs.Prelude.{◌≡◌, ◌≤◌, length};
-ghost use Rattle.buffers.specs.AnswerWords.{ofVerdict, ofAnswer, ofSentence, ofGiven, ofTaken, fitted, ofReplayed, ofReadBack};
-ghost use Rattle.buffers.specs.AnswerWords.{metWord, FitsWord, answerSize, slicesFit, answerWritten};
+ghost use Rattle.buffers.specs.AnswerWords.{of_verdict, of_planned, of_answer, of_sentence, of_given, of_taken, fitted, of_replayed, of_read_back};
+ghost use Rattle.buffers.specs.AnswerWords.{met_word, FitsWord, answer_size, slices_fit, answer_written};
 
 use judge::Verdict;
-use plan_check::RowAnswer;
+use plan::Planned;
 use refinement::Replayed;
+use run::Answer;
 use sentence::SentenceAnswer;
-use table::Answer;
 
 // The words of an answer.
 const WORDS: usize = 3;
@@ -22,7 +22,7 @@ pub struct AnswerWords {
 
 // The judge's four cases.
 pub fn of_verdict(verdict: Verdict) -> AnswerWords
-    ensures { result ≡ ofVerdict verdict }
+    ensures { result ≡ of_verdict verdict }
 {
     match verdict {
         Verdict::Firm(start, period) => AnswerWords {
@@ -48,9 +48,27 @@ pub fn of_verdict(verdict: Verdict) -> AnswerWords
     }
 }
 
-// The answers of plan, start, row, sets, advance and the withdrawals.
+// The plan's two cases.
+pub fn of_planned(planned: Planned) -> AnswerWords
+    ensures { result ≡ of_planned planned }
+{
+    match planned {
+        Planned::Written => AnswerWords {
+            kind: 0,
+            first: 0,
+            second: 0,
+        },
+        Planned::Refused(number, position) => AnswerWords {
+            kind: 3,
+            first: number,
+            second: position,
+        },
+    }
+}
+
+// The answers of start, row, sets, advance and the withdrawals.
 pub fn of_answer(answer: Answer) -> AnswerWords
-    ensures { result ≡ ofAnswer answer }
+    ensures { result ≡ of_answer answer }
 {
     match answer {
         Answer::Taken => AnswerWords {
@@ -69,7 +87,7 @@ pub fn of_answer(answer: Answer) -> AnswerWords
 // The answer of the sentence: its length, or a refusal.
 pub fn of_sentence(outcome: SentenceAnswer) -> AnswerWords
     requires { FitsWord outcome }
-    ensures { result ≡ ofSentence outcome }
+    ensures { result ≡ of_sentence outcome }
 {
     match outcome {
         SentenceAnswer::Length(length) => AnswerWords {
@@ -86,16 +104,16 @@ pub fn of_sentence(outcome: SentenceAnswer) -> AnswerWords
 }
 
 // The answers of the response times, the conflict and the slack: given, with a number beside it, or a refusal.
-pub fn of_given(answer: Answer, beside: u32) -> AnswerWords
-    ensures { result ≡ ofGiven answer beside }
+pub fn of_given(answer: table::Answer, beside: u32) -> AnswerWords
+    ensures { result ≡ of_given answer beside }
 {
     match answer {
-        Answer::Taken => AnswerWords {
+        table::Answer::Passed => AnswerWords {
             kind: 0,
             first: beside,
             second: 0,
         },
-        Answer::Refused(number, position) => AnswerWords {
+        table::Answer::Refused(number, position) => AnswerWords {
             kind: 3,
             first: number,
             second: position,
@@ -104,21 +122,21 @@ pub fn of_given(answer: Answer, beside: u32) -> AnswerWords
 }
 
 // The answer to a row, in three words.
-pub fn of_taken(answer: RowAnswer) -> AnswerWords
-    ensures { result ≡ ofTaken answer }
+pub fn of_taken(answer: plan_check::Answer) -> AnswerWords
+    ensures { result ≡ of_taken answer }
 {
     match answer {
-        RowAnswer::Taken => AnswerWords {
+        plan_check::Answer::Taken => AnswerWords {
             kind: 0,
             first: 0,
             second: 0,
         },
-        RowAnswer::Accepted => AnswerWords {
+        plan_check::Answer::Accepted => AnswerWords {
             kind: 6,
             first: 0,
             second: 0,
         },
-        RowAnswer::Refused(number, tick) => AnswerWords {
+        plan_check::Answer::Refused(number, tick) => AnswerWords {
             kind: 3,
             first: number,
             second: tick,
@@ -140,7 +158,7 @@ pub fn fitted(replayed: Replayed) -> bool
 
 // The cases of a replay whose slices fit.
 pub fn of_replayed(replayed: Replayed) -> AnswerWords
-    ensures { result ≡ ofReplayed replayed }
+    ensures { result ≡ of_replayed replayed }
 {
     match replayed {
         Replayed::Shown => AnswerWords {
@@ -168,7 +186,7 @@ pub fn of_replayed(replayed: Replayed) -> AnswerWords
 
 // Parsed, or no sentence.
 pub fn of_parsed(found: bool) -> AnswerWords
-    ensures { result ≡ ofReadBack found }
+    ensures { result ≡ of_read_back found }
 {
     if found {
         return AnswerWords {
@@ -186,7 +204,7 @@ pub fn of_parsed(found: bool) -> AnswerWords
 
 // 1 where a table passes the interference test, 0 where it does not.
 pub fn met_word(met: bool) -> u32
-    ensures { result ≡ metWord met }
+    ensures { result ≡ met_word met }
 {
     if met {
         return 1;
@@ -196,15 +214,15 @@ pub fn met_word(met: bool) -> u32
 
 // Whether the answer has space for its three words, and another lent slice of `have` elements has the `need` that a call writes; 0 and 0 where there is none.
 pub fn fit(have: usize, need: usize, answer: &[u32]) -> bool
-    ensures { result ≡ slicesFit have need answer.now }
+    ensures { result ≡ slices_fit have need answer.now }
 {
     (need <= have) & (WORDS <= answer.len())
 }
 
 // Writes the three words; the words after them stay.
 pub fn put(encoded: AnswerWords, answer: &mut [u32])
-    requires { answerSize ≤ length answer.old }
-    ensures { answer.new ≡ answerWritten encoded answer.old }
+    requires { answer_size ≤ length answer.old }
+    ensures { answer.new ≡ answer_written encoded answer.old }
 {
     answer[0] = encoded.kind;
     answer[1] = encoded.first;

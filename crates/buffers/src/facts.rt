@@ -1,7 +1,7 @@
 // The facts of a miss in a lent buffer of words.
 ghost use Rattle.std.specs.Prelude.{◌++◌, ◌≡◌, ◌≤◌, length, drop};
-ghost use Rattle.model.specs.Sizes.{mostTasks};
-ghost use Rattle.buffers.specs.Facts.{factWords, in_words};
+ghost use Rattle.model.specs.Sizes.{most_tasks};
+ghost use Rattle.buffers.specs.Facts.{fact_words, in_words};
 
 use crate::figures;
 use sentence::Facts;
@@ -15,10 +15,9 @@ pub const WORDS: usize = HEAD + COUNTS;
 
 // Writes the words of facts; the words after them stay.
 pub fn put_facts(facts: Facts, words: &mut [u64])
-    requires { factWords ≤ length words.old }
-    ensures { (words.new ≡ in_words facts.position facts.tick facts.had facts.length facts.ran ++ drop factWords
-        words.old)
-        × (length facts.ran ≡ mostTasks) }
+    requires { fact_words ≤ length words.old }
+    ensures { (words.new ≡ in_words facts.position facts.tick facts.had facts.length facts.ran ++ drop fact_words words.old)
+        × (length facts.ran ≡ most_tasks) }
 {
     words[0] = facts.position as u64;
     words[1] = facts.tick;

@@ -2,16 +2,14 @@
 // as found, and the notes but where it arrives at the last S; words of a note that are no phase are read as Resting(0), which no run has.
 ghost use Rattle.std.specs.Prelude.{◌≡◌, ◌+◌, ◌≤◌, length, take, drop};
 ghost use Rattle.plan_check.specs.State.{start_in};
-ghost use Rattle.buffers.specs.Encoding.{places, countIn};
-ghost use Rattle.buffers.specs.Supplied.{notesAt, noteSize, planWords, fourWords, notesWords, put_at, planOver, noteIn, notesIn, holdsPlan, planIn};
-ghost use Rattle.buffers.specs.Supplied.{decodePlan};
-ghost use Rattle.buffers.specs.CheckRow.{keptPlan, checkRowFrom};
+ghost use Rattle.buffers.specs.Encoding.{places, count_in};
+ghost use Rattle.buffers.specs.Supplied.{notes_at, note_size, plan_words, four_words, notes_words, put_at, plan_over, note_in, notes_in, holds_plan, plan_in, decode_plan};
+ghost use Rattle.buffers.specs.CheckRow.{kept_plan, check_row_from};
 
 use crate::run_buffer;
 use crate::run_buffer::PhaseWords;
-use model::numbers;
 use phase::Phase;
-use plan_check::{Entered, Note, RowAnswer, SuppliedPlan};
+use plan_check::{Answer, Entered, Note, SuppliedPlan};
 
 // The index of the tick: right after the run.
 const TICK: usize = run_buffer::WORDS;
@@ -24,8 +22,8 @@ pub const WORDS: usize = NOTES + EACH * run_buffer::PLACES;
 
 // Writes the four words of a note at `at`; the words before and after them stay.
 fn put_note(phase: PhaseWords, at: usize, words: &mut [u32])
-    requires { at + noteSize ≤ length words.old }
-    ensures { words.new ≡ put_at at (fourWords phase) words.old }
+    requires { at + note_size ≤ length words.old }
+    ensures { words.new ≡ put_at at (four_words phase) words.old }
 {
     words[at] = phase.kind;
     words[at + 1] = phase.first;
@@ -35,8 +33,8 @@ fn put_note(phase: PhaseWords, at: usize, words: &mut [u32])
 
 // Writes the first `shown` notes; the words before and after them stay.
 fn put_notes(noted: [Note; run_buffer::PLACES], shown: usize, words: &mut [u32])
-    requires { (shown ≤ places) × (planWords ≤ length words.old) }
-    ensures { words.new ≡ put_at notesAt (notesWords (take shown noted)) words.old }
+    requires { (shown ≤ places) × (plan_words ≤ length words.old) }
+    ensures { words.new ≡ put_at notes_at (notes_words (take shown noted)) words.old }
 {
     let mut i: usize = 0;
     while i < shown {
@@ -50,8 +48,8 @@ fn put_notes(noted: [Note; run_buffer::PLACES], shown: usize, words: &mut [u32])
 
 // Writes the head and the first `shown` places of the run, the tick, and where they are recorded the first `shown` notes; all else stays.
 pub fn put_plan(plan: SuppliedPlan, shown: usize, noting: bool, words: &mut [u32])
-    requires { (shown ≤ places) × (planWords ≤ length words.old) }
-    ensures { words.new ≡ planOver noting shown plan words.old }
+    requires { (shown ≤ places) × (plan_words ≤ length words.old) }
+    ensures { words.new ≡ plan_over noting shown plan words.old }
 {
     let run = plan.run;
     run_buffer::put_run(run, shown, words);
@@ -64,8 +62,8 @@ pub fn put_plan(plan: SuppliedPlan, shown: usize, noting: bool, words: &mut [u32
 
 // The note whose words begin at `at`.
 fn note_in(words: &[u32], at: usize) -> Note
-    requires { at + noteSize ≤ length words.now }
-    ensures { result ≡ noteIn (drop at words.now) }
+    requires { at + note_size ≤ length words.now }
+    ensures { result ≡ note_in (drop at words.now) }
 {
     let kind = words[at];
     let first = words[at + 1];
@@ -82,8 +80,8 @@ fn note_in(words: &[u32], at: usize) -> Note
 
 // The notes of the plan at the front of the buffer.
 fn notes_in(words: &[u32]) -> [Note; run_buffer::PLACES]
-    requires { planWords ≤ length words.now }
-    ensures { result ≡ notesIn places (drop notesAt words.now) }
+    requires { plan_words ≤ length words.now }
+    ensures { result ≡ notes_in places (drop notes_at words.now) }
 {
     let nothing = Note {
         phase: Phase::Resting(0),
@@ -100,8 +98,8 @@ fn notes_in(words: &[u32]) -> [Note; run_buffer::PLACES]
 
 // The plan at the front of the buffer.
 fn plan_in(words: &[u32]) -> SuppliedPlan
-    requires { (planWords ≤ length words.now) × (countIn words.now ≤ places) }
-    ensures { result ≡ planIn words.now }
+    requires { (plan_words ≤ length words.now) × (count_in words.now ≤ places) }
+    ensures { result ≡ plan_in words.now }
 {
     let run = run_buffer::run_in(words);
     let noted = notes_in(words);
@@ -114,7 +112,7 @@ fn plan_in(words: &[u32]) -> SuppliedPlan
 
 // Whether the buffer holds a plan: any words are a tick, and any are notes.
 fn holds(words: &[u32]) -> bool
-    ensures { result ≡ holdsPlan words.now }
+    ensures { result ≡ holds_plan words.now }
 {
     if words.len() < WORDS {
         return false;
@@ -123,39 +121,38 @@ fn holds(words: &[u32]) -> bool
 }
 
 // Writes the plan after a row, up to its count, where the row is taken; a refusal leaves the words as found. Returns the answer.
-fn keep(entered: Entered, start: u32, words: &mut [u32]) -> RowAnswer
-    requires { (entered.plan.run.count ≤ places) × ((start ≡ start_in entered.plan.run) × (planWords ≤ length words.old)) }
-    ensures { record { answer = result; buffer = words.new } ≡ keptPlan entered.answer entered.plan words.old }
+fn keep(entered: Entered, start: u32, words: &mut [u32]) -> Answer
+    requires { (entered.plan.run.count ≤ places) × ((start ≡ start_in entered.plan.run) × (plan_words ≤ length words.old)) }
+    ensures { record { answer = result; buffer = words.new } ≡ kept_plan entered.answer entered.plan words.old }
 {
     let answer = entered.answer;
     let next = entered.plan;
     let run = next.run;
     match answer {
-        RowAnswer::Taken => {
+        Answer::Taken => {
             put_plan(next, run.count, next.tick == start, words);
-            RowAnswer::Taken
+            Answer::Taken
         }
-        RowAnswer::Accepted => {
+        Answer::Accepted => {
             put_plan(next, run.count, next.tick == start, words);
-            RowAnswer::Accepted
+            Answer::Accepted
         }
-        RowAnswer::Refused(number, tick) => RowAnswer::Refused(number, tick),
+        Answer::Refused(number, tick) => Answer::Refused(number, tick),
     }
 }
 
 // The row taken by the plan that the buffer holds; 14 where it holds none.
-pub fn take(words: &mut [u32], row: &[u8]) -> RowAnswer
-    ensures { record { answer = result; buffer = words.new }
-        ≡ checkRowFrom (decodePlan words.old) row.now words.old }
+pub fn take(words: &mut [u32], row: &[u8]) -> Answer
+    ensures { record { answer = result; buffer = words.new } ≡ check_row_from (decode_plan words.old) row.now words.old }
 {
     if holds(words) {
         let plan = plan_in(words);
         let found = plan.extent();
         if found.number != 0 {
-            return RowAnswer::Refused(found.number, 0);
+            return Answer::Refused(found.number, 0);
         }
         let entered = plan.enter(found.start, found.horizon, row);
         return keep(entered, found.start, words);
     }
-    RowAnswer::Refused(numbers::NOT_A_RUN, 0)
+    Answer::Refused(14, 0)
 }

@@ -1,15 +1,14 @@
 // A run in a lent buffer of words: its head, and then its places, of which those past the count are neither read nor changed by row, sets, advance and the
 // withdrawals.
 ghost use Rattle.std.specs.Prelude.{◌≡◌, ◌++◌, ◌+◌, ◌≤◌, length, drop};
-ghost use Rattle.buffers.specs.Encoding.{headWords, eachWords, places, runWords, ofPhase, parityWord, placeWith, countWord, lowWord, high_word};
-ghost use Rattle.buffers.specs.Encoding.{overwritten, phaseOf, isTaskState, place_in, countIn, holdsRun, runIn, decode};
-ghost use Rattle.buffers.specs.Runs.{rowFrom, setsFrom, workingFrom, keptRun, entryFrom};
-ghost use Rattle.refinement.specs.Listing.{entryBy};
+ghost use Rattle.buffers.specs.Encoding.{head_words, each_words, places, run_words, of_phase, parity_word, place_with, count_word, low_word, high_word};
+ghost use Rattle.buffers.specs.Encoding.{overwritten, phase_of, is_task_state, place_in, count_in, holds_run, run_in, decode};
+ghost use Rattle.buffers.specs.Runs.{row_from, sets_from, working_from, kept_run, entry_from};
+ghost use Rattle.refinement.specs.Listing.{entry_by};
 
-use model::{MOST_TASKS, ROW, numbers};
+use model::{MOST_TASKS, ROW};
 use phase::{Phase, Task};
-use run::{Row, Run, RunAnswer, Sets, WorkingPositions};
-use table::Answer;
+use run::{Advanced, Answer, Row, Run, Sets, WorkingPositions};
 use table::limits::HIGH;
 
 // The words in front of the places: rule, cores, count, the fence in two, and the withdrawn set.
@@ -28,8 +27,6 @@ const SECOND: usize = KIND + 2;
 const THIRD: usize = KIND + 3;
 // The places of a run.
 pub const PLACES: usize = model::MOST_TASKS;
-// The word of a count above it.
-const PAST: u32 = PLACES as u32 + 1;
 // The words of a run.
 pub const WORDS: usize = HEAD + EACH * PLACES;
 
@@ -44,7 +41,7 @@ pub struct PhaseWords {
 
 // A phase in four words.
 pub(crate) fn of_phase(phase: Phase) -> PhaseWords
-    ensures { result ≡ ofPhase phase }
+    ensures { result ≡ of_phase phase }
 {
     match phase {
         Phase::Coming(left) => PhaseWords {
@@ -76,15 +73,15 @@ pub(crate) fn of_phase(phase: Phase) -> PhaseWords
 
 // The parity of a job in a word.
 fn parity_word(even: bool) -> u32
-    ensures { result ≡ parityWord even }
+    ensures { result ≡ parity_word even }
 {
     if even { 1 } else { 0 }
 }
 
 // Writes a place with its parity and its phase into the first words.
 fn put_place(task: Task, parity: u32, phase: PhaseWords, words: &mut [u32])
-    requires { eachWords ≤ length words.old }
-    ensures { words.new ≡ placeWith task parity phase ++ drop eachWords words.old }
+    requires { each_words ≤ length words.old }
+    ensures { words.new ≡ place_with task parity phase ++ drop each_words words.old }
 {
     words[0] = task.offset;
     words[1] = task.width;
@@ -101,14 +98,14 @@ fn put_place(task: Task, parity: u32, phase: PhaseWords, words: &mut [u32])
 
 // The count in a word.
 fn count_word(count: usize) -> u32
-    ensures { result ≡ countWord count }
+    ensures { result ≡ count_word count }
 {
-    if count <= PLACES { count as u32 } else { PAST }
+    if count <= PLACES { count as u32 } else { 33 }
 }
 
 // The fence's first word ..
 fn low_word(fence: u64) -> u32
-    ensures { result ≡ lowWord fence }
+    ensures { result ≡ low_word fence }
 {
     (fence % HIGH) as u32
 }
@@ -122,7 +119,7 @@ fn high_word(fence: u64) -> u32
 
 // Writes the head of the run; the words after it stay.
 fn put_head(run: Run, words: &mut [u32])
-    requires { headWords ≤ length words.old }
+    requires { head_words ≤ length words.old }
     ensures { words.new ≡ overwritten 0 run words.old }
 {
     words[0] = run.rule;
@@ -135,7 +132,7 @@ fn put_head(run: Run, words: &mut [u32])
 
 // Writes the head and the first `shown` places of the run; the words after them stay.
 pub fn put_run(run: Run, shown: usize, words: &mut [u32])
-    requires { (shown ≤ places) × (runWords ≤ length words.old) }
+    requires { (shown ≤ places) × (run_words ≤ length words.old) }
     ensures { words.new ≡ overwritten shown run words.old }
 {
     put_head(run, words);
@@ -152,7 +149,7 @@ pub fn put_run(run: Run, shown: usize, words: &mut [u32])
 
 // Whether a parity is one, and a phase has this kind, this second number and this third.
 pub(crate) fn is_task_state(parity: u32, kind: u32, second: u32, third: u32) -> bool
-    ensures { result ≡ isTaskState parity kind second third }
+    ensures { result ≡ is_task_state parity kind second third }
 {
     let holding = (kind == 2) | (second == 0);
     (parity <= 1) & ((kind <= 3) & ((kind == 1) | ((third == 0) & holding)))
@@ -160,7 +157,7 @@ pub(crate) fn is_task_state(parity: u32, kind: u32, second: u32, third: u32) -> 
 
 // The phase of a kind and its numbers.
 pub(crate) fn phase_of(kind: u32, first: u32, second: u32, third: u32) -> Phase
-    ensures { result ≡ phaseOf kind first second third }
+    ensures { result ≡ phase_of kind first second third }
 {
     if kind == 0 {
         return Phase::Coming(first);
@@ -176,7 +173,7 @@ pub(crate) fn phase_of(kind: u32, first: u32, second: u32, third: u32) -> Phase
 
 // The place whose words begin at `at`.
 fn place_in(words: &[u32], at: usize) -> Task
-    requires { at + eachWords ≤ length words.now }
+    requires { at + each_words ≤ length words.now }
     ensures { result ≡ place_in (drop at words.now) }
 {
     let phase = phase_of(
@@ -199,7 +196,7 @@ fn place_in(words: &[u32], at: usize) -> Task
 
 // Whether the buffer holds a run: the places past its count are not read.
 pub(crate) fn holds(words: &[u32]) -> bool
-    ensures { result ≡ holdsRun words.now }
+    ensures { result ≡ holds_run words.now }
 {
     if words.len() < WORDS {
         return false;
@@ -227,8 +224,8 @@ pub(crate) fn holds(words: &[u32]) -> bool
 
 // The run at the front of the buffer; past its count zeros and Resting(0).
 pub(crate) fn run_in(words: &[u32]) -> Run
-    requires { (runWords ≤ length words.now) × (countIn words.now ≤ places) }
-    ensures { result ≡ runIn words.now }
+    requires { (run_words ≤ length words.now) × (count_in words.now ≤ places) }
+    ensures { result ≡ run_in words.now }
 {
     let count = words[2] as usize;
     let unused = phase::starts::unused();
@@ -252,7 +249,7 @@ pub(crate) fn run_in(words: &[u32]) -> Run
 
 // The row of the run that the buffer holds with these empty jobs; 14 where it holds none.
 pub fn row_of(words: &[u32], empties: u32) -> Row
-    ensures { result ≡ rowFrom (decode words.now) empties }
+    ensures { result ≡ row_from (decode words.now) empties }
 {
     if holds(words) {
         let held = run_in(words);
@@ -260,14 +257,14 @@ pub fn row_of(words: &[u32], empties: u32) -> Row
     }
     let bytes = [0u8; ROW];
     Row {
-        answer: Answer::Refused(numbers::NOT_A_RUN, 0),
+        answer: Answer::Refused(14, 0),
         bytes: bytes,
     }
 }
 
 // The sets of cores of the run that the buffer holds with these empty jobs; 14 where it holds none.
 pub fn sets_of(words: &[u32], empties: u32) -> Sets
-    ensures { result ≡ setsFrom (decode words.now) empties }
+    ensures { result ≡ sets_from (decode words.now) empties }
 {
     if holds(words) {
         let held = run_in(words);
@@ -275,29 +272,29 @@ pub fn sets_of(words: &[u32], empties: u32) -> Sets
     }
     let sets = [0u64; MOST_TASKS];
     Sets {
-        answer: Answer::Refused(numbers::NOT_A_RUN, 0),
+        answer: Answer::Refused(14, 0),
         sets: sets,
     }
 }
 
 // The positions that work in the run that the buffer holds with these empty jobs; 14 where it holds none.
 pub fn working_of(words: &[u32], empties: u32) -> WorkingPositions
-    ensures { result ≡ workingFrom (decode words.now) empties }
+    ensures { result ≡ working_from (decode words.now) empties }
 {
     if holds(words) {
         let held = run_in(words);
         return held.working(empties);
     }
     WorkingPositions {
-        answer: Answer::Refused(numbers::NOT_A_RUN, 0),
+        answer: Answer::Refused(14, 0),
         set: 0,
     }
 }
 
 // Writes the run that an entry returned, up to its count, where it is taken; a refusal leaves the words as found. Returns the answer.
-fn keep(entered: RunAnswer, words: &mut [u32]) -> Answer
-    requires { (entered.run.count ≤ places) × (runWords ≤ length words.old) }
-    ensures { record { answer = result; buffer = words.new } ≡ keptRun entered.answer entered.run words.old }
+fn keep(entered: Advanced, words: &mut [u32]) -> Answer
+    requires { (entered.run.count ≤ places) × (run_words ≤ length words.old) }
+    ensures { record { answer = result; buffer = words.new } ≡ kept_run entered.answer entered.run words.old }
 {
     let answer = entered.answer;
     match answer {
@@ -313,12 +310,12 @@ fn keep(entered: RunAnswer, words: &mut [u32]) -> Answer
 // An entry, by its three words, on the run that the buffer holds; it leaves the words past its count. 14 where it holds none.
 pub fn enter(words: &mut [u32], kind: u32, first: u32, second: u32) -> Answer
     ensures { record { answer = result; buffer = words.new }
-        ≡ entryFrom (decode words.old) (entryBy kind first second) words.old }
+        ≡ entry_from (decode words.old) (entry_by kind first second) words.old }
 {
     if holds(words) {
         let held = run_in(words);
         let entered = refinement::replays::enter(held, kind, first, second);
         return keep(entered, words);
     }
-    Answer::Refused(numbers::NOT_A_RUN, 0)
+    Answer::Refused(14, 0)
 }

@@ -5,14 +5,13 @@ use mathlib.Core.Path.{◌≡◌, refl}
 use Prim.Native.Nat.{ℕ, ◌-◌}
 use lib.ListN.{length, replicate}
 use Rattle.model.proofs.Computing.{computing}
-use Rattle.model.specs.Interference.{boundFrom, boundsTo, firstWindow, interferenceIn, interferenceTestPasses, largestBelow, need, refusedWidth}
-use Rattle.model.specs.Interference.{shortenedWindow, suffices, sumBelow}
-use Rattle.table.proofs.Examples.{wordsA}
-use Rattle.table.specs.Answer.{answer_of, byHorizon, byTasks, byWalk, endingOf, firstOut, headerNumber, lastStep}
+use Rattle.model.specs.Interference.{bound_from, bounds_to, first_window, interference_in, interference_test_passes, largest_below, need, refused_width, shortened_window, suffices, sum_below}
+use Rattle.table.proofs.Examples.{words_a}
+use Rattle.table.specs.Answer.{answer_of, by_horizon, by_tasks, by_walk, ending_of, first_out, header_number, last_step}
 use Rattle.table.specs.Words.{chain, count, visited, table_of}
-use Rattle.interference.specs.Bounds.{boundsIn, bounds_of, tested_of}
-use Rattle.capi.specs.Calls.{CallResult, callResult}
-use Rattle.capi.specs.Figures.{boundsCall, boundsCallOf}
+use Rattle.interference.specs.Bounds.{bounds_in, bounds_of, tested_of}
+use Rattle.capi.specs.Calls.{CallResult, call_result}
+use Rattle.capi.specs.Figures.{bounds_call, bounds_call_of}
 
 -- A LINE: the words of a table, the two slices lent, and what is left
 
@@ -24,7 +23,7 @@ pub record Line : Type 0 where
 
 -- what the definitions say of a line's words and slices
 abbrev pub worked : Line → Line
-worked l = record { words = l.words; figures = l.figures; answer = l.answer; leaves = boundsCall l.words l.figures l.answer }
+worked l = record { words = l.words; figures = l.figures; answer = l.answer; leaves = bounds_call l.words l.figures l.answer }
 
 -- so many words as they are lent
 abbrev lent : ℕ → List ℕ
@@ -36,7 +35,7 @@ answers ws xs k a b = record {
   words = ws;
   figures = lent 33;
   answer = lent 4;
-  leaves = callResult 0 ((xs ++ (replicate (32 - length xs) 0 ++ lent 1)) ∷ (k ∷ a ∷ b ∷ lent 1) ∷ []);
+  leaves = call_result 0 ((xs ++ (replicate (32 - length xs) 0 ++ lent 1)) ∷ (k ∷ a ∷ b ∷ lent 1) ∷ []);
 }
 
 -- the table passes, with these bounds; it does not; or it is refused
@@ -51,7 +50,7 @@ refuses ws n p = answers ws [] 3 n p
 
 -- slices of so many words, of which one is too short, stay
 abbrev stays : List ℕ → ℕ → ℕ → Line
-stays ws f n = record { words = ws; figures = lent f; answer = lent n; leaves = callResult 1 (lent f ∷ lent n ∷ []) }
+stays ws f n = record { words = ws; figures = lent f; answer = lent n; leaves = call_result 1 (lent f ∷ lent n ∷ []) }
 
 -- m cores under a rule, with two tasks of length 1: the first of period 4, the second of width v, deadline d and period 4
 abbrev two : ℕ → ℕ → ℕ → ℕ → List ℕ
@@ -62,7 +61,7 @@ lines =
     -- the second waits at most one tick for the first, and none where there is a core for each; under every rule
     passes (two 1 1 1 4) (1 ∷ 2 ∷ []) ∷ passes (two 1 2 1 2) (1 ∷ 2 ∷ []) ∷ passes (two 2 3 1 4) (1 ∷ 1 ∷ []) ∷ passes (two 2 4 2 4) (1 ∷ 2 ∷ [])
     -- a deadline of one tick is too short; and A, which is met all the same
-    ∷ fails (two 1 1 1 1) ∷ fails wordsA
+    ∷ fails (two 1 1 1 1) ∷ fails words_a
     -- 7 with its position; 1 for no words at all
     ∷ refuses (two 1 1 2 4) 7 2 ∷ refuses [] 1 0
     -- no room for the answer or for the bounds, whatever the words
@@ -71,7 +70,6 @@ lines =
 
 -- every line is what the definitions say
 pub examples : map worked lines ≡ lines
-unfolding boundsCallOf bounds_of tested_of boundsIn boundFrom boundsTo firstWindow interferenceIn interferenceTestPasses largestBelow need refusedWidth
-    shortenedWindow
-    suffices sumBelow answer_of byWalk byTasks byHorizon firstOut endingOf lastStep headerNumber table_of chain count visited computing
+unfolding bounds_call_of bounds_of tested_of bounds_in bound_from bounds_to first_window interference_in interference_test_passes largest_below need refused_width shortened_window
+    suffices sum_below answer_of by_walk by_tasks by_horizon first_out ending_of last_step header_number table_of chain count visited computing
 examples = refl

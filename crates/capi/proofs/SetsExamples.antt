@@ -9,9 +9,9 @@ use lib.ListN.{replicate}
 use Rattle.phase.specs.declared.Phase.{Phase}
 use Rattle.phase.specs.declared.Phase.TheVariants.{Working, Holding, Resting}
 use Rattle.phase.specs.declared.Task.{Task}
-use Rattle.capi.specs.Calls.{CallResult, callResult}
-use Rattle.buffers.specs.Encoding.{placeWords}
-use Rattle.capi.specs.Runs.{setsCall}
+use Rattle.capi.specs.Calls.{CallResult, call_result}
+use Rattle.buffers.specs.Encoding.{place_words}
+use Rattle.capi.specs.Runs.{sets_call}
 use Rattle.capi.proofs.Calling.{calling}
 
 -- A LINE: the run's words, the empty jobs, the sets' words and the answer's as they are lent, and what is left
@@ -30,7 +30,7 @@ worked l = record {
   empties = l.empties;
   sets = l.sets;
   answer = l.answer;
-  leaves = setsCall l.run l.empties l.sets l.answer;
+  leaves = sets_call l.run l.empties l.sets l.answer;
 }
 
 -- a number of words as they are lent
@@ -42,7 +42,7 @@ task v ph = record { offset = 0; width = v; length = 2; deadline = 4; period = 4
 
 -- the run in words, with these six words in front, its tasks in these phases, and anything past the count
 abbrev pub words : List ℕ → Phase → Phase → List ℕ
-words head a b = head ++ (placeWords (task 2 a) ++ (placeWords (task 1 b) ++ lent 330))
+words head a b = head ++ (place_words (task 2 a) ++ (place_words (task 1 b) ++ lent 330))
 
 -- under rule n on c cores with no fence and no position withdrawn
 abbrev pub plain : ℕ → ℕ → List ℕ
@@ -70,7 +70,7 @@ shows r e a b = record {
   empties = e;
   sets = lent 34;
   answer = lent 4;
-  leaves = callResult 0 ((a ∷ b ∷ (replicate 30 0 ++ lent 2)) ∷ (0 ∷ 0 ∷ 0 ∷ lent 1) ∷ []);
+  leaves = call_result 0 ((a ∷ b ∷ (replicate 30 0 ++ lent 2)) ∷ (0 ∷ 0 ∷ 0 ∷ lent 1) ∷ []);
 }
 
 -- refused with number m and position p, and 32 zeros
@@ -80,12 +80,12 @@ refuses r e m p = record {
   empties = e;
   sets = lent 34;
   answer = lent 4;
-  leaves = callResult 0 ((replicate 32 0 ++ lent 2) ∷ (3 ∷ m ∷ p ∷ lent 1) ∷ []);
+  leaves = call_result 0 ((replicate 32 0 ++ lent 2) ∷ (3 ∷ m ∷ p ∷ lent 1) ∷ []);
 }
 
 -- slices for the sets and for the answer with too few words
 abbrev stays : List ℕ → ℕ → ℕ → Line
-stays r s a = record { run = r; empties = 0; sets = lent s; answer = lent a; leaves = callResult 1 (lent s ∷ lent a ∷ []) }
+stays r s a = record { run = r; empties = 0; sets = lent s; answer = lent a; leaves = call_result 1 (lent s ∷ lent a ∷ []) }
 
 -- just enough space
 abbrev fits : Line
@@ -94,7 +94,7 @@ fits = record {
   empties = 0;
   sets = lent 32;
   answer = lent 3;
-  leaves = callResult 0 ((3 ∷ 4 ∷ replicate 30 0) ∷ (0 ∷ 0 ∷ 0 ∷ []) ∷ []);
+  leaves = call_result 0 ((3 ∷ 4 ∷ replicate 30 0) ∷ (0 ∷ 0 ∷ 0 ∷ []) ∷ []);
 }
 
 abbrev pub lines : List Line
@@ -108,13 +108,11 @@ lines =
     -- what is lent is in the borrower's set, and the rest in the holder's; under rule 3 nothing is lent
     ∷ shows (held 4) 0 2 1 ∷ shows (held 3) 0 3 0 ∷ shows (fresh (plain 4 2)) 1 2 1 ∷ shows (fresh (plain 3 2)) 1 3 0
     -- 15 with the lowest late position, also before 20
-    ∷ refuses (late 1 (Working 4 1 1) (Working 4 1 1)) 0 15 1 ∷ refuses (late 2 (Resting 2) (Working 4 1 1)) 0 15 2
-    ∷ refuses (late 4 (Working 4 1 0) (Resting 2)) 4 15 1
+    ∷ refuses (late 1 (Working 4 1 1) (Working 4 1 1)) 0 15 1 ∷ refuses (late 2 (Resting 2) (Working 4 1 1)) 0 15 2 ∷ refuses (late 4 (Working 4 1 0) (Resting 2)) 4 15 1
     -- 20: a job that was released before, or a position past the count
     ∷ refuses (held 4) 1 20 0 ∷ refuses (held 4) 2 20 0 ∷ refuses (fresh (plain 1 3)) 4 20 0 ∷ refuses (fresh (plain 1 3)) 5 20 0
     -- 14: no rule, a fence of all cores, also before 15 and 20, words that are no run
-    ∷ refuses (fresh (plain 5 3)) 0 14 0 ∷ refuses (fresh (fenced 3 7 0)) 0 14 0 ∷ refuses (late 5 (Working 4 1 1) (Resting 2)) 4 14 0
-    ∷ refuses (lent 400) 0 14 0 ∷ refuses [] 0 14 0
+    ∷ refuses (fresh (plain 5 3)) 0 14 0 ∷ refuses (fresh (fenced 3 7 0)) 0 14 0 ∷ refuses (late 5 (Working 4 1 1) (Resting 2)) 4 14 0 ∷ refuses (lent 400) 0 14 0 ∷ refuses [] 0 14 0
     -- the space
     ∷ fits ∷ stays (fresh (plain 1 3)) 31 3 ∷ stays (fresh (plain 1 3)) 32 2 ∷ stays (fresh (plain 1 3)) 0 0 ∷ stays [] 31 3 ∷ stays [] 34 2
     ∷ []

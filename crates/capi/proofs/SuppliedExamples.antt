@@ -8,18 +8,18 @@ use Prim.Native.String.{String}
 use lib.ListN.{replicate, take}
 use Rattle.phase.specs.declared.Phase.{Phase}
 use Rattle.phase.specs.declared.Phase.TheVariants.{Coming, Working, Resting}
-use Rattle.run.specs.Start.{startedRun}
-use Rattle.table.specs.Answer.{answer_of, byHorizon, byTasks, byWalk, endingOf, firstOut, headerNumber, lastStep}
+use Rattle.run.specs.Start.{started_run}
+use Rattle.table.specs.Answer.{answer_of, by_horizon, by_tasks, by_walk, ending_of, first_out, header_number, last_step}
 use Rattle.table.specs.Words.{chain, count, visited, table_of}
-use Rattle.plan_check.specs.Begin.{beginOf}
-use Rattle.plan_check.specs.Numbers.{differs, missed, stateOut}
-use Rattle.plan_check.specs.Plan.{cellCount}
-use Rattle.plan_check.specs.Row.{faulty, anyUnknownByte, workedRow}
-use Rattle.plan_check.specs.CheckRow.{answerAt, finalAnswer, checkRowAnswer, checkRowOf}
-use Rattle.capi.specs.Calls.{CallResult, callResult}
-use Rattle.buffers.specs.Encoding.{placeWords}
-use Rattle.buffers.specs.Supplied.{notesWords, planOver, notesIn, holdsPlan, planIn}
-use Rattle.capi.specs.CheckRow.{beginCall, checkRowCall}
+use Rattle.plan_check.specs.Begin.{begin_of}
+use Rattle.plan_check.specs.Numbers.{differs, missed, state_out}
+use Rattle.plan_check.specs.Plan.{cell_count}
+use Rattle.plan_check.specs.Row.{faulty, any_unknown_byte, worked_row}
+use Rattle.plan_check.specs.CheckRow.{answer_at, final_answer, check_row_answer, check_row_of}
+use Rattle.capi.specs.Calls.{CallResult, call_result}
+use Rattle.buffers.specs.Encoding.{place_words}
+use Rattle.buffers.specs.Supplied.{notes_words, plan_over, notes_in, holds_plan, plan_in}
+use Rattle.capi.specs.CheckRow.{begin_call, check_row_call}
 use Rattle.capi.proofs.Calling.{calling}
 
 -- A LINE: its name, the call, the slices lent for the plan and the answer, and what is left
@@ -35,9 +35,9 @@ pub record Line : Type 0 where
   pub answer : List ℕ
   pub leaves : CallResult
 
-abbrev pub leftBy : Call → List ℕ → List ℕ → CallResult
-leftBy (begins ws) buffer answer = beginCall ws buffer answer
-leftBy (takes row) buffer answer = checkRowCall buffer row answer
+abbrev pub left_by : Call → List ℕ → List ℕ → CallResult
+left_by (begins ws) buffer answer = begin_call ws buffer answer
+left_by (takes row) buffer answer = check_row_call buffer row answer
 
 -- the value by the definitions of a line's call and slices
 abbrev pub computes : Line → Line
@@ -46,7 +46,7 @@ computes l = record {
   call = l.call;
   buffer = l.buffer;
   answer = l.answer;
-  leaves = leftBy l.call l.buffer l.answer;
+  leaves = left_by l.call l.buffer l.answer;
 }
 
 -- a number of words as they are lent
@@ -60,7 +60,7 @@ times (suc n) ws = ws ++ times n ws
 
 -- the call is answered: the plan's words, three of an answer, and a fourth that stays
 abbrev leaves : String → Call → List ℕ → List ℕ → ℕ → ℕ → ℕ → Line
-leaves s c before after k a b = record { name = s; call = c; buffer = before; answer = lent 4; leaves = callResult 0 (after ∷ (k ∷ a ∷ b ∷ lent 1) ∷ []) }
+leaves s c before after k a b = record { name = s; call = c; buffer = before; answer = lent 4; leaves = call_result 0 (after ∷ (k ∷ a ∷ b ∷ lent 1) ∷ []) }
 
 -- refused with a number and a tick: the plan's words as found
 abbrev refuses : String → List ℕ → List ℕ → ℕ → ℕ → Line
@@ -68,7 +68,7 @@ refuses s row before n t = leaves s (takes row) before before 3 n t
 
 -- everything as found
 abbrev stays : String → Call → List ℕ → ℕ → Line
-stays s c before n = record { name = s; call = c; buffer = before; answer = lent n; leaves = callResult 1 (before ∷ lent n ∷ []) }
+stays s c before n = record { name = s; call = c; buffer = before; answer = lent n; leaves = call_result 1 (before ∷ lent n ∷ []) }
 
 -- PLANS IN WORDS
 
@@ -78,7 +78,7 @@ one o = 1 ∷ 1 ∷ 1 ∷ 0 ∷ 0 ∷ 0 ∷ o ∷ 1 ∷ 1 ∷ 1 ∷ 2 ∷ 1 ∷ 
 
 -- its place at an odd or an even job in this phase
 abbrev placed : ℕ → Bool → Phase → List ℕ
-placed o e ph = placeWords (record { offset = o; width = 1; length = 1; deadline = 1; period = 2; second = 1; even = e; phase = ph })
+placed o e ph = place_words (record { offset = o; width = 1; length = 1; deadline = 1; period = 2; second = 1; even = e; phase = ph })
 
 -- a plan of the task with O 1, whose last S is 1 and horizon 3, at this tick, with these words of a note; anything past the count, and a word after the plan
 abbrev plan : Bool → Phase → ℕ → List ℕ → List ℕ
@@ -91,8 +91,8 @@ released = 1 ∷ 0 ∷ 0 ∷ 0 ∷ []
 abbrev nothing : List ℕ
 nothing = 3 ∷ 0 ∷ 0 ∷ 0 ∷ []
 
-abbrev unknownByteState : List ℕ
-unknownByteState = 9 ∷ 8 ∷ 7 ∷ 6 ∷ []
+abbrev unknown_byte_state : List ℕ
+unknown_byte_state = 9 ∷ 8 ∷ 7 ∷ 6 ∷ []
 
 -- a place past the count as begin leaves it
 abbrev clear : List ℕ
@@ -102,12 +102,11 @@ clear = 0 ∷ 0 ∷ 0 ∷ 0 ∷ 0 ∷ 0 ∷ 0 ∷ nothing
 abbrev begun : ℕ → Phase → List ℕ → List ℕ
 begun o ph note = 1 ∷ 1 ∷ 1 ∷ 0 ∷ 0 ∷ 0 ∷ (placed o false ph ++ (times 31 clear ++ (0 ∷ (note ++ (times 31 nothing ++ lent 1)))))
 
--- three tasks whose periods make a horizon above 1,000,000,000, each at rest
-abbrev restsWith : ℕ → List ℕ
-restsWith period = 0 ∷ 1 ∷ 1 ∷ 1 ∷ period ∷ 1 ∷ 0 ∷ 3 ∷ 9 ∷ 0 ∷ 0 ∷ []
-
+-- two tasks whose periods, 999,999 and 1,009, make a horizon above 1,000,000,000
 abbrev far : List ℕ
-far = 1 ∷ 1 ∷ 3 ∷ 0 ∷ 0 ∷ 0 ∷ (restsWith 997 ++ (restsWith 1009 ++ (restsWith 1013 ++ (lent 319 ++ (4 ∷ lent 128)))))
+far =
+    1 ∷ 1 ∷ 2 ∷ 0 ∷ 0 ∷ 0
+    ∷ ((0 ∷ 1 ∷ 1 ∷ 1 ∷ 999999 ∷ 1 ∷ 0 ∷ 3 ∷ 9 ∷ 0 ∷ 0 ∷ 0 ∷ 1 ∷ 1 ∷ 1 ∷ 1009 ∷ 1 ∷ 0 ∷ 3 ∷ 9 ∷ 0 ∷ 0 ∷ []) ++ (lent 330 ++ (4 ∷ lent 128)))
 
 -- a place whose kind of phase is none
 abbrev no_run : List ℕ
@@ -120,14 +119,12 @@ lines =
     ∷ leaves "a refused beginning leaves zeros" (begins []) (lent 488) (times 6 (0 ∷ []) ++ (times 32 clear ++ (0 ∷ (times 32 nothing ++ lent 1)))) 3 1 0
     ∷ stays "begin, a word too few" (begins (one 1)) (lent 486) 4
     ∷ stays "begin, no room for an answer" (begins (one 1)) (lent 488) 2
-    ∷ leaves "a row that arrives at the last S, over words that are no phase" (takes (0 ∷ [])) (plan false (Coming 1) 0 unknownByteState)
-    (plan false (Working 0 0 0) 1 released) 0 0 0
+    ∷ leaves "a row that arrives at the last S, over words that are no phase" (takes (0 ∷ [])) (plan false (Coming 1) 0 unknown_byte_state) (plan false (Working 0 0 0) 1 released) 0 0 0
     ∷ leaves "a row past it" (takes (1 ∷ [])) (plan false (Working 0 0 0) 1 released) (plan false (Resting 1) 2 released) 0 0 0
-    ∷ leaves "the same beside words that are no phase, which stay" (takes (1 ∷ [])) (plan false (Working 0 0 0) 1 unknownByteState)
-    (plan false (Resting 1) 2 unknownByteState) 0 0 0
+    ∷ leaves "the same beside words that are no phase, which stay" (takes (1 ∷ [])) (plan false (Working 0 0 0) 1 unknown_byte_state) (plan false (Resting 1) 2 unknown_byte_state) 0 0 0
     ∷ leaves "the last row, and the plan is accepted" (takes (0 ∷ [])) (plan false (Resting 1) 2 released) (plan true (Working 0 0 0) 3 released) 6 0 0
     ∷ refuses "26 with the horizon" (0 ∷ []) (plan false (Resting 1) 2 nothing) 26 3
-    ∷ refuses "26: words that are no phase agree with none" (0 ∷ []) (plan false (Resting 1) 2 unknownByteState) 26 3
+    ∷ refuses "26: words that are no phase agree with none" (0 ∷ []) (plan false (Resting 1) 2 unknown_byte_state) 26 3
     ∷ refuses "25 with the horizon" (0 ∷ []) (plan false (Working 0 0 0) 2 released) 25 3
     ∷ refuses "25 with its tick" (1 ∷ []) (plan false (Working 1 0 0) 2 released) 25 2
     ∷ refuses "24 with its tick" (2 ∷ []) (plan false (Working 0 0 0) 1 released) 24 1
@@ -143,7 +140,6 @@ lines =
 
 -- every line is its value by the definitions
 pub examples : map computes lines ≡ lines
-unfolding times beginCall checkRowCall planOver notesWords notesIn holdsPlan planIn beginOf checkRowOf checkRowAnswer answerAt finalAnswer differs missed
-    stateOut faulty anyUnknownByte
-    workedRow cellCount startedRun answer_of byWalk byTasks byHorizon firstOut endingOf lastStep headerNumber table_of chain count visited calling
+unfolding times begin_call check_row_call plan_over notes_words notes_in holds_plan plan_in begin_of check_row_of check_row_answer answer_at final_answer differs missed state_out faulty any_unknown_byte
+    worked_row cell_count started_run answer_of by_walk by_tasks by_horizon first_out ending_of last_step header_number table_of chain count visited calling
 examples = refl

@@ -9,9 +9,9 @@ use lib.ListN.{replicate}
 use Rattle.phase.specs.declared.Phase.{Phase}
 use Rattle.phase.specs.declared.Phase.TheVariants.{Working}
 use Rattle.phase.specs.declared.Task.{Task}
-use Rattle.capi.specs.Calls.{CallResult, callResult}
-use Rattle.buffers.specs.Encoding.{placeWords}
-use Rattle.capi.specs.Runs.{withdrawAllCall}
+use Rattle.capi.specs.Calls.{CallResult, call_result}
+use Rattle.buffers.specs.Encoding.{place_words}
+use Rattle.capi.specs.Runs.{withdraw_all_call}
 use Rattle.capi.proofs.Calling.{calling}
 
 -- A LINE: the run's words and the answer's as they are lent, the set, and what is left
@@ -24,7 +24,7 @@ pub record Line : Type 0 where
 
 -- the value by the definitions of a line
 abbrev pub worked : Line → Line
-worked l = record { run = l.run; set = l.set; answer = l.answer; leaves = withdrawAllCall l.run l.set l.answer }
+worked l = record { run = l.run; set = l.set; answer = l.answer; leaves = withdraw_all_call l.run l.set l.answer }
 
 -- a number of words as they are lent
 abbrev lent : ℕ → List ℕ
@@ -35,19 +35,19 @@ task v ph = record { offset = 0; width = v; length = 2; deadline = 4; period = 4
 
 -- the run in words, under this rule and with this set withdrawn, the second task released a tick ago, and anything past the count
 abbrev words : ℕ → ℕ → List ℕ
-words n x = n ∷ 2 ∷ 2 ∷ 0 ∷ 0 ∷ x ∷ (placeWords (task 2 (Working 0 0 0)) ++ (placeWords (task 1 (Working 1 0 0)) ++ lent 330))
+words n x = n ∷ 2 ∷ 2 ∷ 0 ∷ 0 ∷ x ∷ (place_words (task 2 (Working 0 0 0)) ++ (place_words (task 1 (Working 1 0 0)) ++ lent 330))
 
 -- set x is taken, from a run with w withdrawn: then z is; of an answer of 4 words the last stays
 abbrev takes : ℕ → ℕ → ℕ → ℕ → Line
-takes n w x z = record { run = words n w; set = x; answer = lent 4; leaves = callResult 0 (words n z ∷ (0 ∷ 0 ∷ 0 ∷ lent 1) ∷ []) }
+takes n w x z = record { run = words n w; set = x; answer = lent 4; leaves = call_result 0 (words n z ∷ (0 ∷ 0 ∷ 0 ∷ lent 1) ∷ []) }
 
 -- set x is refused with number m, and the run as found
 abbrev refuses : List ℕ → ℕ → ℕ → Line
-refuses r x m = record { run = r; set = x; answer = lent 4; leaves = callResult 0 (r ∷ (3 ∷ m ∷ 0 ∷ lent 1) ∷ []) }
+refuses r x m = record { run = r; set = x; answer = lent 4; leaves = call_result 0 (r ∷ (3 ∷ m ∷ 0 ∷ lent 1) ∷ []) }
 
 -- no space for the answer
 abbrev stays : List ℕ → ℕ → Line
-stays r x = record { run = r; set = x; answer = lent 2; leaves = callResult 1 (r ∷ lent 2 ∷ []) }
+stays r x = record { run = r; set = x; answer = lent 2; leaves = call_result 1 (r ∷ lent 2 ∷ []) }
 
 -- the bit of position 32, and all bits
 abbrev last : ℕ

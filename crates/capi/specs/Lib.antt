@@ -4,6 +4,5 @@ pub mod Replays
 pub mod Runs
 pub mod Sentences
 pub mod Figures
-pub mod Orders
 pub mod CheckRow
 pub mod Version

@@ -1,6 +1,6 @@
 // The calls for a number of each task.
 ghost use Rattle.std.specs.Prelude.{◌≡◌, [], ◌∷◌};
-ghost use Rattle.capi.specs.Figures.{boundsCall, responseTimesCall, slackCall};
+ghost use Rattle.capi.specs.Figures.{bounds_call, response_times_call, slack_call};
 
 use buffers::answer_words;
 use model::MOST_TASKS;
@@ -13,12 +13,11 @@ pub extern "C" fn sivorandra_response_times(
     figures: &mut [u32],
     answer: &mut [u32],
 ) -> u32
-    ensures { record { value = result; lent = figures.new ∷ (answer.new ∷ []) }
-        ≡ responseTimesCall words.now figures.old answer.old }
+    ensures { record { value = result; lent = figures.new ∷ (answer.new ∷ []) } ≡ response_times_call words.now figures.old answer.old }
 {
     if answer_words::fit(figures.len(), MOST_TASKS, answer) {
         let found = response_time::response_times(words);
-        let responses = found.figures;
+        let responses = found.responses;
         buffers::figures::put_figures(responses, figures);
         let given = found.answer;
         let encoded = answer_words::of_given(given, 0);
@@ -32,12 +31,11 @@ pub extern "C" fn sivorandra_response_times(
 // 32 zeros.
 #[unsafe(no_mangle)]
 pub extern "C" fn sivorandra_slack(words: &[u32], figures: &mut [u32], answer: &mut [u32]) -> u32
-    ensures { record { value = result; lent = figures.new ∷ (answer.new ∷ []) }
-        ≡ slackCall words.now figures.old answer.old }
+    ensures { record { value = result; lent = figures.new ∷ (answer.new ∷ []) } ≡ slack_call words.now figures.old answer.old }
 {
     if answer_words::fit(figures.len(), MOST_TASKS, answer) {
         let found = slack::slack(words);
-        let slack = found.figures;
+        let slack = found.slack;
         buffers::figures::put_figures(slack, figures);
         let given = found.answer;
         let encoded = answer_words::of_given(given, 0);
@@ -51,8 +49,7 @@ pub extern "C" fn sivorandra_slack(words: &[u32], figures: &mut [u32], answer: &
 // the interference test; case 0 and 0 where it does not, and 32 zeros; or 3 Refused number position and 32 zeros.
 #[unsafe(no_mangle)]
 pub extern "C" fn sivorandra_bounds(words: &[u32], figures: &mut [u32], answer: &mut [u32]) -> u32
-    ensures { record { value = result; lent = figures.new ∷ (answer.new ∷ []) }
-        ≡ boundsCall words.now figures.old answer.old }
+    ensures { record { value = result; lent = figures.new ∷ (answer.new ∷ []) } ≡ bounds_call words.now figures.old answer.old }
 {
     if answer_words::fit(figures.len(), MOST_TASKS, answer) {
         let found = interference::response_bounds(words);

@@ -1,7 +1,7 @@
 // The calls for a plan, and for plans by others.
 ghost use Rattle.std.specs.Prelude.{◌≡◌, [], ◌∷◌};
-ghost use Rattle.capi.specs.Calls.{planCall};
-ghost use Rattle.capi.specs.CheckRow.{beginCall, checkRowCall};
+ghost use Rattle.capi.specs.Calls.{plan_call};
+ghost use Rattle.capi.specs.CheckRow.{begin_call, check_row_call};
 
 use buffers::{answer_words, plan_buffer, run_buffer};
 
@@ -14,12 +14,11 @@ pub extern "C" fn sivorandra_plan(
     rows: &mut [u8],
     answer: &mut [u32],
 ) -> u32
-    ensures { record { value = result; lent = rows.new ∷ (answer.new ∷ []) }
-        ≡ planCall words.now a b rows.old answer.old }
+    ensures { record { value = result; lent = rows.new ∷ (answer.new ∷ []) } ≡ plan_call words.now a b rows.old answer.old }
 {
     if answer_words::fit(0, 0, answer) {
         let planned = plan::plan(words, a, b, rows);
-        let encoded = answer_words::of_answer(planned);
+        let encoded = answer_words::of_planned(planned);
         answer_words::put(encoded, answer);
         return 0;
     }
@@ -30,8 +29,7 @@ pub extern "C" fn sivorandra_plan(
 // and the plan of all zeros.
 #[unsafe(no_mangle)]
 pub extern "C" fn sivorandra_check_begin(words: &[u32], plan: &mut [u32], answer: &mut [u32]) -> u32
-    ensures { record { value = result; lent = plan.new ∷ (answer.new ∷ []) }
-        ≡ beginCall words.now plan.old answer.old }
+    ensures { record { value = result; lent = plan.new ∷ (answer.new ∷ []) } ≡ begin_call words.now plan.old answer.old }
 {
     if answer_words::fit(plan.len(), plan_buffer::WORDS, answer) {
         let begun = plan_check::begin(words);
@@ -49,8 +47,7 @@ pub extern "C" fn sivorandra_check_begin(words: &[u32], plan: &mut [u32], answer
 // 3 Refused number tick and `plan` as found; 14 where `plan` holds no plan.
 #[unsafe(no_mangle)]
 pub extern "C" fn sivorandra_check_row(plan: &mut [u32], row: &[u8], answer: &mut [u32]) -> u32
-    ensures { record { value = result; lent = plan.new ∷ (answer.new ∷ []) }
-        ≡ checkRowCall plan.old row.now answer.old }
+    ensures { record { value = result; lent = plan.new ∷ (answer.new ∷ []) } ≡ check_row_call plan.old row.now answer.old }
 {
     if answer_words::fit(0, 0, answer) {
         let given = plan_buffer::take(plan, row);

@@ -1,8 +1,8 @@
 // The calls on a run in a buffer, and for a replay.
 ghost use Rattle.std.specs.Prelude.{◌≡◌, [], ◌∷◌};
-ghost use Rattle.capi.specs.Replays.{replayCall};
-ghost use Rattle.capi.specs.Runs.{startCall, rowCall, setsCall, workingCall, entryCall, advanceCall, withdrawCall, withdrawAllCall};
-ghost use Rattle.refinement.specs.Listing.{entryBy};
+ghost use Rattle.capi.specs.Replays.{replay_call};
+ghost use Rattle.capi.specs.Runs.{start_call, row_call, sets_call, working_call, entry_call, advance_call, withdraw_call, withdraw_all_call};
+ghost use Rattle.refinement.specs.Listing.{entry_by};
 
 use buffers::{answer_words, figures, run_buffer};
 use model::{MOST_TASKS, ROW};
@@ -10,8 +10,7 @@ use model::{MOST_TASKS, ROW};
 // The run of a table's words as it starts, all its words, into the front of `run`: case 0, or 3 Refused number position and the run of all zeros.
 #[unsafe(no_mangle)]
 pub extern "C" fn sivorandra_start(words: &[u32], run: &mut [u32], answer: &mut [u32]) -> u32
-    ensures { record { value = result; lent = run.new ∷ (answer.new ∷ []) }
-        ≡ startCall words.now run.old answer.old }
+    ensures { record { value = result; lent = run.new ∷ (answer.new ∷ []) } ≡ start_call words.now run.old answer.old }
 {
     if answer_words::fit(run.len(), run_buffer::WORDS, answer) {
         let started = run::start(words);
@@ -34,8 +33,7 @@ pub extern "C" fn sivorandra_row(
     row: &mut [u8],
     answer: &mut [u32],
 ) -> u32
-    ensures { record { value = result; lent = row.new ∷ (answer.new ∷ []) }
-        ≡ rowCall run.now empties row.old answer.old }
+    ensures { record { value = result; lent = row.new ∷ (answer.new ∷ []) } ≡ row_call run.now empties row.old answer.old }
 {
     if answer_words::fit(row.len(), ROW, answer) {
         let shown = run_buffer::row_of(run, empties);
@@ -59,8 +57,7 @@ pub extern "C" fn sivorandra_sets(
     sets: &mut [u64],
     answer: &mut [u32],
 ) -> u32
-    ensures { record { value = result; lent = sets.new ∷ (answer.new ∷ []) }
-        ≡ setsCall run.now empties sets.old answer.old }
+    ensures { record { value = result; lent = sets.new ∷ (answer.new ∷ []) } ≡ sets_call run.now empties sets.old answer.old }
 {
     if answer_words::fit(sets.len(), MOST_TASKS, answer) {
         let shown = run_buffer::sets_of(run, empties);
@@ -83,8 +80,7 @@ pub extern "C" fn sivorandra_working(
     set: &mut [u32],
     answer: &mut [u32],
 ) -> u32
-    ensures { record { value = result; lent = set.new ∷ (answer.new ∷ []) }
-        ≡ workingCall run.now empties set.old answer.old }
+    ensures { record { value = result; lent = set.new ∷ (answer.new ∷ []) } ≡ working_call run.now empties set.old answer.old }
 {
     if answer_words::fit(set.len(), 1, answer) {
         let asked = run_buffer::working_of(run, empties);
@@ -100,7 +96,7 @@ pub extern "C" fn sivorandra_working(
 // An entry, by its three words, on the run that the buffer holds.
 fn enter(run: &mut [u32], kind: u32, first: u32, second: u32, answer: &mut [u32]) -> u32
     ensures { record { value = result; lent = run.new ∷ (answer.new ∷ []) }
-        ≡ entryCall (entryBy kind first second) run.old answer.old }
+        ≡ entry_call (entry_by kind first second) run.old answer.old }
 {
     if answer_words::fit(0, 0, answer) {
         let given = run_buffer::enter(run, kind, first, second);
@@ -120,8 +116,7 @@ pub extern "C" fn sivorandra_advance(
     empties: u32,
     answer: &mut [u32],
 ) -> u32
-    ensures { record { value = result; lent = run.new ∷ (answer.new ∷ []) }
-        ≡ advanceCall run.old reports empties answer.old }
+    ensures { record { value = result; lent = run.new ∷ (answer.new ∷ []) } ≡ advance_call run.old reports empties answer.old }
 {
     enter(run, 0, reports, empties, answer)
 }
@@ -130,8 +125,7 @@ pub extern "C" fn sivorandra_advance(
 // Case 0, or 3 Refused number position and `run` as found; 14 where `run` holds no run.
 #[unsafe(no_mangle)]
 pub extern "C" fn sivorandra_withdraw(run: &mut [u32], position: u32, answer: &mut [u32]) -> u32
-    ensures { record { value = result; lent = run.new ∷ (answer.new ∷ []) }
-        ≡ withdrawCall run.old position answer.old }
+    ensures { record { value = result; lent = run.new ∷ (answer.new ∷ []) } ≡ withdraw_call run.old position answer.old }
 {
     enter(run, 1, position, 0, answer)
 }
@@ -140,7 +134,7 @@ pub extern "C" fn sivorandra_withdraw(run: &mut [u32], position: u32, answer: &m
 // found; 14 where `run` holds no run.
 #[unsafe(no_mangle)]
 pub extern "C" fn sivorandra_withdraw_all(run: &mut [u32], set: u32, answer: &mut [u32]) -> u32
-    ensures { record { value = result; lent = run.new ∷ (answer.new ∷ []) } ≡ withdrawAllCall run.old set answer.old }
+    ensures { record { value = result; lent = run.new ∷ (answer.new ∷ []) } ≡ withdraw_all_call run.old set answer.old }
 {
     enter(run, 2, set, 0, answer)
 }
@@ -156,8 +150,7 @@ pub extern "C" fn sivorandra_replay(
     row: &mut [u8],
     answer: &mut [u32],
 ) -> u32
-    ensures { record { value = result; lent = numbers.new ∷ (row.new ∷ (answer.new ∷ [])) }
-        ≡ replayCall words.now entries.now numbers.old row.old answer.old }
+    ensures { record { value = result; lent = numbers.new ∷ (row.new ∷ (answer.new ∷ [])) } ≡ replay_call words.now entries.now numbers.old row.old answer.old }
 {
     if answer_words::fit(0, 0, answer) {
         let replayed = refinement::replay(words, entries, numbers, row);

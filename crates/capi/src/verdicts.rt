@@ -1,13 +1,13 @@
 // The calls for a verdict, and for the tasks in conflict.
 ghost use Rattle.std.specs.Prelude.{◌≡◌, [], ◌∷◌};
-ghost use Rattle.capi.specs.Calls.{judgeCall, conflictCall};
+ghost use Rattle.capi.specs.Calls.{judge_call, conflict_call};
 
 use buffers::answer_words;
 use judge::Way;
 
 // The verdict on a table's words, with its first miss found in this way.
 fn judge_by(way: Way, words: &[u32], answer: &mut [u32]) -> u32
-    ensures { record { value = result; lent = answer.new ∷ [] } ≡ judgeCall words.now answer.old }
+    ensures { record { value = result; lent = answer.new ∷ [] } ≡ judge_call words.now answer.old }
 {
     if answer_words::fit(0, 0, answer) {
         let verdict = judge::judge_by(way, words);
@@ -21,7 +21,7 @@ fn judge_by(way: Way, words: &[u32], answer: &mut [u32]) -> u32
 // The verdict on a table's words: case 0 Firm S P, 1 Full S P, 2 Miss tick position, 3 Refused number position.
 #[unsafe(no_mangle)]
 pub extern "C" fn sivorandra_judge(words: &[u32], answer: &mut [u32]) -> u32
-    ensures { record { value = result; lent = answer.new ∷ [] } ≡ judgeCall words.now answer.old }
+    ensures { record { value = result; lent = answer.new ∷ [] } ≡ judge_call words.now answer.old }
 {
     judge_by(Way::Fastest, words, answer)
 }
@@ -29,7 +29,7 @@ pub extern "C" fn sivorandra_judge(words: &[u32], answer: &mut [u32]) -> u32
 // The same verdict, tick by tick.
 #[unsafe(no_mangle)]
 pub extern "C" fn sivorandra_judge_ticks(words: &[u32], answer: &mut [u32]) -> u32
-    ensures { record { value = result; lent = answer.new ∷ [] } ≡ judgeCall words.now answer.old }
+    ensures { record { value = result; lent = answer.new ∷ [] } ≡ judge_call words.now answer.old }
 {
     judge_by(Way::Ticks, words, answer)
 }
@@ -37,7 +37,7 @@ pub extern "C" fn sivorandra_judge_ticks(words: &[u32], answer: &mut [u32]) -> u
 // The same verdict, event by event.
 #[unsafe(no_mangle)]
 pub extern "C" fn sivorandra_judge_events(words: &[u32], answer: &mut [u32]) -> u32
-    ensures { record { value = result; lent = answer.new ∷ [] } ≡ judgeCall words.now answer.old }
+    ensures { record { value = result; lent = answer.new ∷ [] } ≡ judge_call words.now answer.old }
 {
     judge_by(Way::Events, words, answer)
 }
@@ -46,7 +46,7 @@ pub extern "C" fn sivorandra_judge_events(words: &[u32], answer: &mut [u32]) -> 
 // number position.
 #[unsafe(no_mangle)]
 pub extern "C" fn sivorandra_conflict(words: &[u32], answer: &mut [u32]) -> u32
-    ensures { record { value = result; lent = answer.new ∷ [] } ≡ conflictCall words.now answer.old }
+    ensures { record { value = result; lent = answer.new ∷ [] } ≡ conflict_call words.now answer.old }
 {
     if answer_words::fit(0, 0, answer) {
         let conflict = conflict::conflict(words);

@@ -15,11 +15,11 @@ use Rattle.table.specs.Words.{table_of}
 use Rattle.judge.proofs.Contract.{judged-exact}
 use Rattle.judge.specs.declared.Verdict.{Verdict}
 use Rattle.judge.specs.declared.Verdict.TheVariants.{Firm, Full, Miss, Refused}
-use Rattle.judge.specs.Judged.{Judged, verdictOf}
-use Rattle.judge.specs.JudgeAnswer.{verdictMeaning}
+use Rattle.judge.specs.Judged.{Judged, verdict_of}
+use Rattle.judge.specs.JudgeAnswer.{verdict_meaning}
 use Rattle.conflict.specs.declared.ConflictAnswer.{ConflictAnswer}
-use Rattle.conflict.specs.Answer.{ConflictOf, conflictBy, conflictOf, givenConflict, noConflict}
-use Rattle.conflict.specs.Conflict.{conflictSet}
+use Rattle.conflict.specs.Answer.{ConflictOf, conflict_by, conflict_of, given_conflict, no_conflict}
+use Rattle.conflict.specs.Conflict.{conflict_set}
 use Rattle.conflict.specs.Numbers.{Applies, First, NoneApplies, seventeen, words}
 use Rattle.conflict.proofs.Dropping.{conflict-past}
 use Rattle.conflict.proofs.Minimal.{conflict-minimal}
@@ -32,7 +32,7 @@ module _ (ws : List ℕ) where
   abbrev s : Table
   s = table_of ws
 
-  promised : Judged ws (verdictOf ws)
+  promised : Judged ws (verdict_of ws)
   promised = judged-exact ws
 
   -- THE NUMBERS
@@ -58,11 +58,11 @@ module _ (ws : List ℕ) where
   none_left none some m q (seventeen h) = some h
 
   -- GIVEN: no number applies, and a deadline is missed
-  module _ (none : numbers.NoneApplies ws) (p t : ℕ) (missed : Missed s p t) (value : givenConflict (conflictSet s) ≡ conflictOf ws) where
+  module _ (none : numbers.NoneApplies ws) (p t : ℕ) (missed : Missed s p t) (value : given_conflict (conflict_set s) ≡ conflict_of ws) where
     nothing : NoneApplies ws
     nothing = none_left none (λ nm. nm p t missed)
 
-    given-promise : ConflictOf ws (givenConflict (conflictSet s))
+    given-promise : ConflictOf ws (given_conflict (conflict_set s))
     given-promise = record {
       value = value;
       refused = λ n q. (λ e. absurd (taken_refused e), λ f. absurd (nothing n q f.0));
@@ -74,14 +74,14 @@ module _ (ws : List ℕ) where
     }
 
   -- TURNED DOWN by the first number that applies
-  module _ (n p : ℕ) (first : First ws n p) (value : noConflict n p ≡ conflictOf ws) where
+  module _ (n p : ℕ) (first : First ws n p) (value : no_conflict n p ≡ conflict_of ws) where
     only : (m q : ℕ) → book.refused n p ≡ book.refused m q → First ws m q
     only m q e = let a : n ≡ m = cc in let b : p ≡ q = cc in rw (a, b) at first
 
     one : (m q : ℕ) → First ws m q → book.refused n p ≡ book.refused m q
     one m q f = let x = first-only (Applies ws) n p m q first f in rw (x.0, x.1)
 
-    refused-promise : ConflictOf ws (noConflict n p)
+    refused-promise : ConflictOf ws (no_conflict n p)
     refused-promise = record {
       value = value;
       refused = λ m q. (only m q, one m q);
@@ -93,23 +93,23 @@ module _ (ws : List ℕ) where
     }
 
   -- THE CONTRACT, by the verdict
-  pub conflict-contract : ConflictOf ws (conflictOf ws)
-  conflict-contract = subst (ConflictOf ws) (is (verdictOf ws) refl) (go (verdictOf ws) refl)
+  pub conflict-contract : ConflictOf ws (conflict_of ws)
+  conflict-contract = subst (ConflictOf ws) (is (verdict_of ws) refl) (go (verdict_of ws) refl)
     where
-      is : (v : Verdict) → verdictOf ws ≡ v → conflictBy v (conflictSet s) ≡ conflictOf ws
-      is v e = unfold conflictOf in ap (λ (w : Verdict). conflictBy w (conflictSet s)) (sym e)
+      is : (v : Verdict) → verdict_of ws ≡ v → conflict_by v (conflict_set s) ≡ conflict_of ws
+      is v e = unfold conflict_of in ap (λ (w : Verdict). conflict_by w (conflict_set s)) (sym e)
 
-      go : (v : Verdict) → verdictOf ws ≡ v → ConflictOf ws (conflictBy v (conflictSet s))
-      go (Firm a b) e = let x = (promised.firm a b).0 (ap verdictMeaning e) in refused-promise 17 0 (never_first x.0 x.1) (is (Firm a b) e)
-      go (Full a b) e = let x = (promised.full a b).0 (ap verdictMeaning e) in refused-promise 17 0 (never_first x.0 x.1) (is (Full a b) e)
+      go : (v : Verdict) → verdict_of ws ≡ v → ConflictOf ws (conflict_by v (conflict_set s))
+      go (Firm a b) e = let x = (promised.firm a b).0 (ap verdict_meaning e) in refused-promise 17 0 (never_first x.0 x.1) (is (Firm a b) e)
+      go (Full a b) e = let x = (promised.full a b).0 (ap verdict_meaning e) in refused-promise 17 0 (never_first x.0 x.1) (is (Full a b) e)
       go (Miss t p) e =
-          let x = (promised.miss t p).0 (ap verdictMeaning e) in
+          let x = (promised.miss t p).0 (ap verdict_meaning e) in
           given-promise x.0 x.1.place.0 t x.1.missed (is (Miss t p) e)
-      go (Refused n p) e = refused-promise n p (table-first n p ((promised.refused n p).0 (ap verdictMeaning e))) (is (Refused n p) e)
+      go (Refused n p) e = refused-promise n p (table-first n p ((promised.refused n p).0 (ap verdict_meaning e))) (is (Refused n p) e)
 
   -- what is made of a verdict that meets its contract is the answer
-  pub by-verdict : (v u : Verdict) → Judged ws v → v ≡ u → (r : ConflictAnswer) → r ≡ conflictBy u (conflictSet s) → ConflictOf ws r
+  pub by-verdict : (v u : Verdict) → Judged ws v → v ≡ u → (r : ConflictAnswer) → r ≡ conflict_by u (conflict_set s) → ConflictOf ws r
   by-verdict v u j q r e = subst (ConflictOf ws) (sym (e ∙ is)) conflict-contract
     where
-      is : conflictBy u (conflictSet s) ≡ conflictOf ws
-      is = unfold conflictOf in ap (λ (w : Verdict). conflictBy w (conflictSet s)) (sym q ∙ j.value)
+      is : conflict_by u (conflict_set s) ≡ conflict_of ws
+      is = unfold conflict_of in ap (λ (w : Verdict). conflict_by w (conflict_set s)) (sym q ∙ j.value)

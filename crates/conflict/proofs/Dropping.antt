@@ -13,8 +13,8 @@ use Rattle.model.proofs.Digits.{BitCleared, bit_past, bit-suc, bit-zero, odd-hal
 use Rattle.model.proofs.Digits as digits
 use Rattle.model.specs.Search.{bit}
 use Rattle.model.specs.Task.{Table}
-use Rattle.conflict.specs.Conflict.{allPlaces, conflictSet, conflicts, dropped, pass, passes}
-use Rattle.conflict.specs.SubTable.{subTable, withoutPlace}
+use Rattle.conflict.specs.Conflict.{all_places, conflict_set, conflicts, dropped, pass, passes}
+use Rattle.conflict.specs.SubTable.{sub_table, without_place}
 use Rattle.conflict.proofs.Chosen.{chosen_less, chosen-whole}
 
 module _ (s : Table) where
@@ -22,7 +22,7 @@ module _ (s : Table) where
   n = length s.tasks
 
   abbrev pub size : ℕ → ℕ
-  size x = length (subTable s x).tasks
+  size x = length (sub_table s x).tasks
 
   -- what is left of a set after some places, or a pass over them: no more, the miss with it, and where as many are left, all of them
   record Left (x y : ℕ) : Type 0 where
@@ -45,10 +45,10 @@ module _ (s : Table) where
   }
 
   -- a place that is kept, left out
-  without-kept : (x p : ℕ) → bit x p ≡ true → withoutPlace x p ≡ x - 2 ^ p
+  without-kept : (x p : ℕ) → bit x p ≡ true → without_place x p ≡ x - 2 ^ p
   without-kept x p e = rw e
 
-  size-without : (x p : ℕ) → p < n → bit x p ≡ true → suc (size (withoutPlace x p)) ≡ size x
+  size-without : (x p : ℕ) → p < n → bit x p ≡ true → suc (size (without_place x p)) ≡ size x
   size-without x p l e =
       rw (without-kept x p e)
       (chosen_less (bit x) (bit (x - 2 ^ p)) s.tasks p l e (digits.clear-bit x p e).others)
@@ -79,17 +79,17 @@ module _ (s : Table) where
   -- one place; where nothing is dropped it is needed
   record DropStep (p x y : ℕ) : Type 0 where
     left : Left x y
-    needed : y ≡ x → bit x p ≡ true → conflicts s (withoutPlace x p) ≡ false
+    needed : y ≡ x → bit x p ≡ true → conflicts s (without_place x p) ≡ false
 
   drop-step : (p : ℕ) → p < n → (x : ℕ) → DropStep p x (dropped s p x)
   unfolding dropped
-  drop-step p l x = go (bit x p) refl (conflicts s (withoutPlace x p)) refl
+  drop-step p l x = go (bit x p) refl (conflicts s (without_place x p)) refl
     where
-      go : (t : Bool) → bit x p ≡ t → (u : Bool) → conflicts s (withoutPlace x p) ≡ u → DropStep p x (cond (t && u) (withoutPlace x p) x)
+      go : (t : Bool) → bit x p ≡ t → (u : Bool) → conflicts s (without_place x p) ≡ u → DropStep p x (cond (t && u) (without_place x p) x)
       go true e true c =
           let w : BitCleared x p = digits.clear-bit x p e in
-          let less : suc (size (withoutPlace x p)) ≡ size x = size-without x p l e in
-          let is : withoutPlace x p ≡ x - 2 ^ p = without-kept x p e in record {
+          let less : suc (size (without_place x p)) ≡ size x = size-without x p l e in
+          let is : without_place x p ≡ x - 2 ^ p = without-kept x p e in record {
             left = record {
               falls = omega arith;
               fewer = omega arith;
@@ -103,7 +103,7 @@ module _ (s : Table) where
 
   record Passing (i x y : ℕ) : Type 0 where
     left : Left x y
-    needed : y ≡ x → (p : ℕ) → p < i → bit x p ≡ true → conflicts s (withoutPlace x p) ≡ false
+    needed : y ≡ x → (p : ℕ) → p < i → bit x p ≡ true → conflicts s (without_place x p) ≡ false
 
   passing : (i : ℕ) → i ≤ n → (x : ℕ) → Passing i x (pass s i x)
   unfolding pass
@@ -116,12 +116,12 @@ module _ (s : Table) where
       y : ℕ
       y = dropped s i x
 
-      all : DropStep i x y → Passing i y (pass s i y) → pass s i y ≡ x → (p : ℕ) → p < suc i → bit x p ≡ true → conflicts s (withoutPlace x p) ≡ false
+      all : DropStep i x y → Passing i y (pass s i y) → pass s i y ≡ x → (p : ℕ) → p < suc i → bit x p ≡ true → conflicts s (without_place x p) ≡ false
       all a b h p m e =
           let first : y ≡ x = omega (arith, a.left.falls, b.left.falls) in
           ⊎_elim
-          (λ (q : p ≡ i). subst (λ (j : ℕ). bit x j ≡ true → conflicts s (withoutPlace x j) ≡ false) (sym q) (a.needed first) e)
-          (λ (q : p < i). subst (λ (z : ℕ). bit z p ≡ true → conflicts s (withoutPlace z p) ≡ false) first (b.needed (h ∙ sym first) p q) e)
+          (λ (q : p ≡ i). subst (λ (j : ℕ). bit x j ≡ true → conflicts s (without_place x j) ≡ false) (sym q) (a.needed first) e)
+          (λ (q : p < i). subst (λ (z : ℕ). bit z p ≡ true → conflicts s (without_place z p) ≡ false) first (b.needed (h ∙ sym first) p q) e)
           (eq-or-lt_of_le (omega arith))
 
   -- a pass leaves no more, and where it drops something there are fewer
@@ -184,25 +184,25 @@ module _ (s : Table) where
       let half = (odd-half (2 ^ suc m - 1) (2 ^ m - 1) (omega (arith, pow-suc 2 m, pow_pos m))).1 in
       bit-suc (2 ^ suc m - 1) p ∙ (ap (λ (x : ℕ). bit x p) half ∙ all_there m p (omega arith))
 
-  whole-tasks : (subTable s (allPlaces s)).tasks ≡ s.tasks
-  whole-tasks = chosen-whole (bit (allPlaces s)) s.tasks (λ q l. all_there n q l)
+  whole-tasks : (sub_table s (all_places s)).tasks ≡ s.tasks
+  whole-tasks = chosen-whole (bit (all_places s)) s.tasks (λ q l. all_there n q l)
 
-  pub whole_part : subTable s (allPlaces s) ≡ s
+  pub whole_part : sub_table s (all_places s) ≡ s
   whole_part = λ i. record { tasks = whole-tasks i; cores = s.cores; fence = s.fence; rule = s.rule }
 
-  all_done : Done (allPlaces s) (conflictSet s)
-  unfolding conflictSet
-  all_done = done n (allPlaces s) (omega (arith, ap {B = ℕ} length whole-tasks))
+  all_done : Done (all_places s) (conflict_set s)
+  unfolding conflict_set
+  all_done = done n (all_places s) (omega (arith, ap {B = ℕ} length whole-tasks))
 
   -- the passes as code makes them: what further ones leave of this set is the answer, as many of them as tasks are left being enough
   abbrev pub Going : ℕ → Type 0
-  Going x = (m : ℕ) × (size x ≤ m) × (passes s m x ≡ conflictSet s)
+  Going x = (m : ℕ) × (size x ≤ m) × (passes s m x ≡ conflict_set s)
 
-  pub going_start : Going (allPlaces s)
-  unfolding conflictSet
+  pub going_start : Going (all_places s)
+  unfolding conflict_set
   going_start = (n, omega (arith, ap {B = ℕ} length whole-tasks), refl)
 
-  pub going_end : (x : ℕ) → Going x → pass s n x ≡ x → x ≡ conflictSet s
+  pub going_end : (x : ℕ) → Going x → pass s n x ≡ x → x ≡ conflict_set s
   going_end x g e = sym (passes-end g.0 x e) ∙ g.2
 
   pub going_on : (x : ℕ) → Going x → (pass s n x ≡ x → ⊥) → Going (pass s n x)
@@ -210,17 +210,17 @@ module _ (s : Table) where
   going_on x (suc m, l, e) d = (m, omega (arith, l, pass-fewer x d), sym (passes-step m x d) ∙ e)
 
   -- THEOREM: as many passes as tasks are enough, one more drops nothing
-  pub passes-stable : pass s (length s.tasks) (conflictSet s) ≡ conflictSet s
+  pub passes-stable : pass s (length s.tasks) (conflict_set s) ≡ conflict_set s
   passes-stable = all_done.stable
 
   -- what misses goes on to miss
-  pub passes-keep : conflicts s (allPlaces s) ≡ true → conflicts s (conflictSet s) ≡ true
+  pub passes-keep : conflicts s (all_places s) ≡ true → conflicts s (conflict_set s) ≡ true
   passes-keep h = all_done.left.miss-kept h
 
   -- where a pass drops nothing, each place is needed
-  pub stable-needed : (x : ℕ) → pass s n x ≡ x → (p : ℕ) → p < n → bit x p ≡ true → conflicts s (withoutPlace x p) ≡ false
+  pub stable-needed : (x : ℕ) → pass s n x ≡ x → (p : ℕ) → p < n → bit x p ≡ true → conflicts s (without_place x p) ≡ false
   stable-needed x e = (passing n (le_refl n) x).needed e
 
   -- no place past the count is left
-  pub conflict-past : (p : ℕ) → length s.tasks ≤ p → bit (conflictSet s) p ≡ false
-  conflict-past p l = bit_past n (conflictSet s) p (omega (arith, all_done.left.falls, pow_pos n)) l
+  pub conflict-past : (p : ℕ) → length s.tasks ≤ p → bit (conflict_set s) p ≡ false
+  conflict-past p l = bit_past n (conflict_set s) p (omega (arith, all_done.left.falls, pow_pos n)) l

@@ -14,11 +14,11 @@ use Rattle.table.proofs.Decide.{decides_eq, stable}
 use Rattle.table.proofs.HeaderPasses.{words-few, words_long}
 use Rattle.table.proofs.Tasks.{chain-at, chain_length}
 use Rattle.table.proofs.Walk.{ends_there, five-decides, last-ends, last-reached, six-decides}
-use Rattle.table.specs.Answer.{repeatedAt, lastStep, outOfRangeAt}
+use Rattle.table.specs.Answer.{repeated_at, last_step, out_of_range_at}
 use Rattle.table.specs.Numbers.{EndAt, NoneApplies, Reaches, WordsOut}
-use Rattle.table.specs.Words.{chain, count, headerWords, visited, recordWords, records, word}
+use Rattle.table.specs.Words.{chain, count, header_words, visited, record_words, records, word}
 use Rattle.conflict.specs.SubTable.{chosen}
-use Rattle.conflict.specs.Relinked.{linked, mostWords, nextWordAt}
+use Rattle.conflict.specs.Relinked.{linked, most_words, next_word_at}
 use Rattle.conflict.proofs.Chosen.{chosen-all}
 
 -- ---- lists of records
@@ -61,68 +61,68 @@ chosen-distinct k (n ∷ ns) d = go (k 0) (chosen-distinct (λ q. k (suc q)) ns 
 
 -- word i is not the next of a record of the list
 abbrev pub Apart : ℕ → List ℕ → Type 0
-Apart i ns = All (λ n. ¬ (i ≡ nextWordAt n)) ns
+Apart i ns = All (λ n. ¬ (i ≡ next_word_at n)) ns
 
 pub linked-length : (i : ℕ) (ns ws : List ℕ) → length (linked i ns ws) ≡ length ws
 unfolding linked
 linked-length i [] ws = length-set ws i 0
-linked-length i (n ∷ ns) ws = linked-length (nextWordAt n) ns (set ws i n) ∙ length-set ws i n
+linked-length i (n ∷ ns) ws = linked-length (next_word_at n) ns (set ws i n) ∙ length-set ws i n
 
 -- a word that is none of these stays
 pub linked-other : (j i : ℕ) (ns ws : List ℕ) → ¬ (j ≡ i) → Apart j ns → word (linked i ns ws) j ≡ word ws j
 unfolding linked
 linked-other j i [] ws d a = get_or-set_other ws i j 0 0 d
 linked-other j i (n ∷ ns) ws d a =
-    linked-other j (nextWordAt n) ns (set ws i n) (a 0 (omega arith)) (λ q l. a (suc q) (omega arith)) ∙ get_or-set_other ws i j n 0 d
+    linked-other j (next_word_at n) ns (set ws i n) (a 0 (omega arith)) (λ q l. a (suc q) (omega arith)) ∙ get_or-set_other ws i j n 0 d
 
 -- word i names the first
 pub linked-first : (i : ℕ) (ns ws : List ℕ) → i < length ws → Apart i ns → word (linked i ns ws) i ≡ get_or ns 0 0
 unfolding linked
 linked-first i [] ws l a = get_or-set_same ws i 0 0 l
 linked-first i (n ∷ ns) ws l a =
-    linked-other i (nextWordAt n) ns (set ws i n) (a 0 (omega arith)) (λ q m. a (suc q) (omega arith)) ∙ get_or-set_same ws i n 0 l
+    linked-other i (next_word_at n) ns (set ws i n) (a 0 (omega arith)) (λ q m. a (suc q) (omega arith)) ∙ get_or-set_same ws i n 0 l
 
 -- the next of each names the one after it
 pub linked-next :
-    (i : ℕ) (ns ws : List ℕ) (m : ℕ) → m ≤ length ws → All (λ n. (1 ≤ n) × (nextWordAt n < m)) ns → Distinct ns
-    → (k : ℕ) → k < length ns → word (linked i ns ws) (nextWordAt (get_or ns k 0)) ≡ get_or ns (suc k) 0
+    (i : ℕ) (ns ws : List ℕ) (m : ℕ) → m ≤ length ws → All (λ n. (1 ≤ n) × (next_word_at n < m)) ns → Distinct ns
+    → (k : ℕ) → k < length ns → word (linked i ns ws) (next_word_at (get_or ns k 0)) ≡ get_or ns (suc k) 0
 unfolding linked Distinct
 linked-next i [] ws m e h d k l = absurd (not-suc-le-zero l)
 linked-next i (n ∷ ns) ws m e h d zero l =
-    linked-first (nextWordAt n) ns (set ws i n) (omega (arith, h 0 (omega arith), length-set ws i n)) apart
+    linked-first (next_word_at n) ns (set ws i n) (omega (arith, h 0 (omega arith), length-set ws i n)) apart
   where
-    apart : Apart (nextWordAt n) ns
+    apart : Apart (next_word_at n) ns
     apart q j f = d.0 q j (omega (arith, h 0 (omega arith), h (suc q) (omega arith)))
 linked-next i (n ∷ ns) ws m e h d (suc k) l =
-    linked-next (nextWordAt n) ns (set ws i n) m (omega (arith, length-set ws i n)) (λ q j. h (suc q) (omega arith)) d.1 k (omega arith)
+    linked-next (next_word_at n) ns (set ws i n) m (omega (arith, length-set ws i n)) (λ q j. h (suc q) (omega arith)) d.1 k (omega arith)
 
 -- ---- the chain of a table that passes
 
 -- a table that passes has no more words than the most
-pub words-most : (ws : List ℕ) → ¬ WordsOut ws → length ws ≤ mostWords
+pub words-most : (ws : List ℕ) → ¬ WordsOut ws → length ws ≤ most_words
 words-most ws n =
-    let whole : (length ws - headerWords) % recordWords ≡ 0 =
-    stable (eqb ((length ws - headerWords) % recordWords) 0) ((length ws - headerWords) % recordWords ≡ 0)
-    (decides_eq ((length ws - headerWords) % recordWords) 0) (λ d. n (inr (inl d))) in
+    let whole : (length ws - header_words) % record_words ≡ 0 =
+    stable (eqb ((length ws - header_words) % record_words) 0) ((length ws - header_words) % record_words ≡ 0)
+    (decides_eq ((length ws - header_words) % record_words) 0) (λ d. n (inr (inl d))) in
     omega (arith, words_long ws n, words-few ws n)
 
 -- the words of a record are there
-pub next-inside : (ws : List ℕ) (n : ℕ) → 1 ≤ n → n ≤ records ws → nextWordAt n < length ws
+pub next-inside : (ws : List ℕ) (n : ℕ) → 1 ≤ n → n ≤ records ws → next_word_at n < length ws
 next-inside ws n a b = omega arith
 
 module _ (ws : List ℕ) (none : NoneApplies ws) where
-  no-past : outOfRangeAt ws (lastStep ws) ≡ false
-  no-past = not-true-false (outOfRangeAt ws (lastStep ws)) (λ e. none 5 0 ((five-decides ws).0 e))
+  no-past : out_of_range_at ws (last_step ws) ≡ false
+  no-past = not-true-false (out_of_range_at ws (last_step ws)) (λ e. none 5 0 ((five-decides ws).0 e))
 
-  no-again : repeatedAt ws (lastStep ws) ≡ false
-  no-again = not-true-false (repeatedAt ws (lastStep ws)) (λ e. none 6 0 ((six-decides ws).0 e))
+  no-again : repeated_at ws (last_step ws) ≡ false
+  no-again = not-true-false (repeated_at ws (last_step ws)) (λ e. none 6 0 ((six-decides ws).0 e))
 
   -- the walk meets a new record at every place of the chain, and then the zero
   pub chain-ends : EndAt ws (count ws)
-  chain-ends = subst (EndAt ws) (sym (ends_there ws (lastStep ws) (last-reached ws) (last-ends ws no-past no-again))) (last-ends ws no-past no-again)
+  chain-ends = subst (EndAt ws) (sym (ends_there ws (last_step ws) (last-reached ws) (last-ends ws no-past no-again))) (last-ends ws no-past no-again)
 
   pub chain-reached : Reaches ws (count ws)
-  chain-reached = subst (Reaches ws) (sym (ends_there ws (lastStep ws) (last-reached ws) (last-ends ws no-past no-again))) (last-reached ws)
+  chain-reached = subst (Reaches ws) (sym (ends_there ws (last_step ws) (last-reached ws) (last-ends ws no-past no-again))) (last-reached ws)
 
   -- its records are among those of the table
   pub chain-in : (k : ℕ) → k < count ws → (1 ≤ visited ws k) × (visited ws k ≤ records ws)

@@ -9,13 +9,13 @@ use native.Mathlib.Omega.{arith}
 use lib.ListN.{drop, drop_of_length-le, length, replicate, set, take, take-append-drop}
 use lib.Seq.{drop_at, drop-cons, drop-set-lt, take_at, take-set-lt}
 use Rattle.model.specs.Search.{bit}
-use Rattle.model.specs.Sizes.{mostTasks}
+use Rattle.model.specs.Sizes.{most_tasks}
 use Rattle.table.proofs.Passed.{passed-count}
 use Rattle.table.proofs.Tasks.{chain-at, chain_length, table-length}
 use Rattle.table.specs.Numbers.{NoneApplies}
 use Rattle.table.specs.Words.{chain, count, head, visited, next, records}
 use Rattle.conflict.specs.SubTable.{chosen}
-use Rattle.conflict.specs.Relinked.{linked, mostWords, nextWordAt, padded, relinked}
+use Rattle.conflict.specs.Relinked.{linked, most_words, next_word_at, padded, relinked}
 use Rattle.conflict.proofs.Linked.{chain-ends, chain-in, linked-length, next-inside}
 
 -- zeros behind zeros
@@ -56,7 +56,7 @@ pub record Linking (ws : List ℕ) (x : ℕ) (copy : List ℕ) (link place numbe
   pub here : number ≡ visited ws place
   pub inside : link < length ws
   pub linking : linked link (rest ws x place) (take (length ws) copy) ≡ relinked ws x
-  pub behind : drop (length ws) copy ≡ replicate (mostWords - length ws) 0
+  pub behind : drop (length ws) copy ≡ replicate (most_words - length ws) 0
 
 pub linking-start : (ws : List ℕ) (x : ℕ) (copy : List ℕ) → 0 < length ws → copy ≡ padded ws → Linking ws x copy 0 0 (head ws)
 unfolding relinked visited
@@ -64,8 +64,8 @@ linking-start ws x copy l e = record {
   within = omega arith;
   here = refl;
   inside = l;
-  linking = ap₂ (linked 0) (rest-start ws x) (ap (take (length ws)) e ∙ take_at ws (replicate (mostWords - length ws) 0) (length ws) refl);
-  behind = ap (drop (length ws)) e ∙ drop_at ws (replicate (mostWords - length ws) 0) (length ws) refl;
+  linking = ap₂ (linked 0) (rest-start ws x) (ap (take (length ws)) e ∙ take_at ws (replicate (most_words - length ws) 0) (length ws) refl);
+  behind = ap (drop (length ws)) e ∙ drop_at ws (replicate (most_words - length ws) 0) (length ws) refl;
 }
 
 module _ (ws : List ℕ) (none : NoneApplies ws) (x : ℕ) (copy : List ℕ) (link place number : ℕ) (w : Linking ws x copy link place number) where
@@ -77,24 +77,24 @@ module _ (ws : List ℕ) (none : NoneApplies ws) (x : ℕ) (copy : List ℕ) (li
       (λ (e : place < count ws). e) (eq-or-lt_of_le w.within)
 
   -- the place is one of 32
-  pub linking-few : 0 < number → place < mostTasks
+  pub linking-few : 0 < number → place < most_tasks
   linking-few h = omega (arith, linking-room h, (passed-count ws none).1, table-length ws)
 
   pub linking-record : 0 < number → (1 ≤ number) × (number ≤ records ws)
   linking-record h = let r = chain-in ws none place (linking-room h) in omega (arith, w.here, r)
 
-  pub linking-next : 0 < number → nextWordAt number < length ws
+  pub linking-next : 0 < number → next_word_at number < length ws
   linking-next h = let r = linking-record h in next-inside ws number r.0 r.1
 
   -- a record that is kept
-  pub linking-kept : 0 < number → bit x place ≡ true → Linking ws x (set copy link number) (nextWordAt number) (suc place) (next ws number)
+  pub linking-kept : 0 < number → bit x place ≡ true → Linking ws x (set copy link number) (next_word_at number) (suc place) (next ws number)
   unfolding linked visited
   linking-kept h e = record {
     within = linking-room h;
     here = ap (next ws) w.here;
     inside = linking-next h;
     linking =
-        ap (linked (nextWordAt number) (rest ws x (suc place))) (take-set-lt (length ws) copy link number w.inside)
+        ap (linked (next_word_at number) (rest ws x (suc place))) (take-set-lt (length ws) copy link number w.inside)
         ∙ (ap (λ (ns : List ℕ). linked link ns (take (length ws) copy)) (sym these) ∙ w.linking);
     behind = drop-set-lt (length ws) copy link number w.inside ∙ w.behind;
   }
@@ -126,7 +126,7 @@ module _ (ws : List ℕ) (none : NoneApplies ws) (x : ℕ) (copy : List ℕ) (li
   linking-end z =
       sym (take-append-drop (length ws) (set copy link 0))
       ∙ ap₂ (λ (a b : List ℕ). a ++ b) front
-      (drop-set-lt (length ws) copy link 0 w.inside ∙ (w.behind ∙ ap (λ (n : ℕ). replicate (mostWords - n) 0) (sym size)))
+      (drop-set-lt (length ws) copy link 0 w.inside ∙ (w.behind ∙ ap (λ (n : ℕ). replicate (most_words - n) 0) (sym size)))
     where
       over : place ≡ count ws
       over =

@@ -12,52 +12,52 @@ use Rattle.model.proofs.Verdict.{verdict-exact}
 use Rattle.model.specs.Lists.{Missed, NeverMissed}
 use Rattle.model.specs.Task.{AllValid, Table, Task}
 use Rattle.model.specs.Verdict.{Exact, Firm, Full, Miss, Verdict, verdict}
-use Rattle.conflict.specs.Conflict.{conflicts, isMiss, someLeft}
-use Rattle.conflict.specs.SubTable.{subTable}
+use Rattle.conflict.specs.Conflict.{conflicts, is_miss, some_left}
+use Rattle.conflict.specs.SubTable.{sub_table}
 use Rattle.conflict.proofs.Parts.{part-fewer}
 
-some_left : (τs : List Task) → someLeft τs ≡ true → 0 < length τs
-some_left [] e = absurd (false≢true e)
-some_left (τ ∷ τs) e = omega arith
+some_left_lem : (τs : List Task) → some_left τs ≡ true → 0 < length τs
+some_left_lem [] e = absurd (false≢true e)
+some_left_lem (τ ∷ τs) e = omega arith
 
-left-some : (τs : List Task) → 0 < length τs → someLeft τs ≡ true
+left-some : (τs : List Task) → 0 < length τs → some_left τs ≡ true
 left-some [] l = absurd (not-suc-le-zero l)
 left-some (τ ∷ τs) l = refl
 
 module _ (s : Table) (ok : AllValid s) (x : ℕ) where
-  exact : Exact (subTable s x) (verdict (subTable s x))
-  exact = verdict-exact (subTable s x) (part-fewer s ok x).valid
+  exact : Exact (sub_table s x) (verdict (sub_table s x))
+  exact = verdict-exact (sub_table s x) (part-fewer s ok x).valid
 
-  missed : (v : Verdict) → verdict (subTable s x) ≡ v → isMiss v ≡ true → (p t : ℕ) × Missed (subTable s x) p t
+  missed : (v : Verdict) → verdict (sub_table s x) ≡ v → is_miss v ≡ true → (p t : ℕ) × Missed (sub_table s x) p t
   missed (Firm a b) e i = absurd (false≢true i)
   missed (Full a b) e i = absurd (false≢true i)
   missed (Miss t p) e i = let f = (exact.miss t p).0 e in (f.place.0, t, f.missed)
 
-  never : (v : Verdict) → verdict (subTable s x) ≡ v → isMiss v ≡ false → NeverMissed (subTable s x)
+  never : (v : Verdict) → verdict (sub_table s x) ≡ v → is_miss v ≡ false → NeverMissed (sub_table s x)
   never (Firm a b) e i = exact.accepted.0 (a, b, inl e)
   never (Full a b) e i = exact.accepted.0 (a, b, inr e)
   never (Miss t p) e i = absurd (true≢false i)
 
   -- the test holds: a deadline is missed at some tick, and there is a task
-  pub conflicts-some : conflicts s x ≡ true → (p t : ℕ) × Missed (subTable s x) p t
+  pub conflicts-some : conflicts s x ≡ true → (p t : ℕ) × Missed (sub_table s x) p t
   unfolding conflicts
-  conflicts-some e = missed (verdict (subTable s x)) refl (and_right (someLeft (subTable s x).tasks) (isMiss (verdict (subTable s x))) e)
+  conflicts-some e = missed (verdict (sub_table s x)) refl (and_right (some_left (sub_table s x).tasks) (is_miss (verdict (sub_table s x))) e)
 
-  pub conflicts-left : conflicts s x ≡ true → 0 < length (subTable s x).tasks
+  pub conflicts-left : conflicts s x ≡ true → 0 < length (sub_table s x).tasks
   unfolding conflicts
-  conflicts-left e = some_left (subTable s x).tasks (and_left (someLeft (subTable s x).tasks) (isMiss (verdict (subTable s x))) e)
+  conflicts-left e = some_left_lem (sub_table s x).tasks (and_left (some_left (sub_table s x).tasks) (is_miss (verdict (sub_table s x))) e)
 
   -- it fails: none is at any tick
-  pub conflicts-never : conflicts s x ≡ false → NeverMissed (subTable s x)
+  pub conflicts-never : conflicts s x ≡ false → NeverMissed (sub_table s x)
   unfolding conflicts
-  conflicts-never e p t m = go (someLeft (subTable s x).tasks) (left-some (subTable s x).tasks (omega (arith, m.0))) e
+  conflicts-never e p t m = go (some_left (sub_table s x).tasks) (left-some (sub_table s x).tasks (omega (arith, m.0))) e
     where
-      go : (b : Bool) → b ≡ true → b && isMiss (verdict (subTable s x)) ≡ false → ⊥
-      go true i f = never (verdict (subTable s x)) refl f p t m
+      go : (b : Bool) → b ≡ true → b && is_miss (verdict (sub_table s x)) ≡ false → ⊥
+      go true i f = never (verdict (sub_table s x)) refl f p t m
       go false i f = false≢true i
 
   -- and where one is, it holds
-  pub missed-conflicts : (p t : ℕ) → Missed (subTable s x) p t → conflicts s x ≡ true
+  pub missed-conflicts : (p t : ℕ) → Missed (sub_table s x) p t → conflicts s x ≡ true
   missed-conflicts p t m = go (conflicts s x) refl
     where
       go : (b : Bool) → conflicts s x ≡ b → b ≡ true

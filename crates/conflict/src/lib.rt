@@ -1,9 +1,8 @@
 // The tasks in conflict: a table that misses, cut down to tasks of which none can be dropped.
 ghost use Rattle.std.specs.Prelude.{◌≡◌};
-ghost use Rattle.conflict.specs.Answer.{noConflict, ConflictOf};
+ghost use Rattle.conflict.specs.Answer.{no_conflict, ConflictOf};
 
 use judge::Verdict;
-use model::numbers;
 use table::Answer;
 
 pub mod links; // links.rt: the words of the kept tasks
@@ -18,7 +17,7 @@ pub struct ConflictAnswer {
 
 // A refusal, with the empty set beside it.
 fn refused(number: u32, position: u32) -> ConflictAnswer
-    ensures { result ≡ noConflict number position }
+    ensures { result ≡ no_conflict number position }
 {
     ConflictAnswer {
         answer: Answer::Refused(number, position),
@@ -32,12 +31,12 @@ pub fn conflict(words: &[u32]) -> ConflictAnswer
 {
     let verdict = judge::judge(words);
     match verdict {
-        Verdict::Firm(_, _) => refused(numbers::NO_MISS, 0),
-        Verdict::Full(_, _) => refused(numbers::NO_MISS, 0),
+        Verdict::Firm(_, _) => refused(17, 0),
+        Verdict::Full(_, _) => refused(17, 0),
         Verdict::Miss(_, _) => {
             let kept = passes::passes(words);
             ConflictAnswer {
-                answer: Answer::Taken,
+                answer: Answer::Passed,
                 kept: kept,
             }
         }

@@ -1,7 +1,7 @@
 // The words of the kept tasks: a copy of the table's words, with the chain linked over the records that are dropped.
 ghost use Rattle.std.specs.Prelude.{◌≡◌, ◌≤◌, length};
 ghost use Rattle.table.specs.Numbers.{NoneApplies};
-ghost use Rattle.conflict.specs.Relinked.{mostWords, padded, relinked};
+ghost use Rattle.conflict.specs.Relinked.{most_words, padded, relinked};
 
 use model::MOST_TASKS;
 use table::{HEADER, RECORD};
@@ -11,7 +11,7 @@ pub const WORDS: usize = HEADER + RECORD * MOST_TASKS;
 
 // A copy of the words, with zeros after them.
 pub fn copied(words: &[u32]) -> [u32; WORDS]
-    requires { length words.now ≤ mostWords }
+    requires { length words.now ≤ most_words }
     ensures { result ≡ padded words.now }
 {
     let mut copy = [0u32; WORDS];

@@ -1,9 +1,9 @@
 // The passes over a table that passed: from the lowest priority upward, a task is dropped where what is left without it still misses.
 ghost use Rattle.std.specs.Prelude.{◌≡◌, ◌≤◌, ◌<◌, ◌-◌, ◌^◌};
-ghost use Rattle.model.specs.Sizes.{mostTasks};
+ghost use Rattle.model.specs.Sizes.{most_tasks};
 ghost use Rattle.table.specs.Numbers.{NoneApplies};
 ghost use Rattle.table.specs.Words.{table_of};
-ghost use Rattle.conflict.specs.Conflict.{conflicts, dropped, pass, conflictSet};
+ghost use Rattle.conflict.specs.Conflict.{conflicts, dropped, pass, conflict_set};
 
 use judge::Verdict;
 
@@ -25,7 +25,7 @@ fn still_misses(words: &[u32], kept: u32) -> bool
 
 // The set without a place, where the place is in it and the rest still misses; else the set.
 fn dropped(words: &[u32], place: u32, kept: u32) -> u32
-    requires { NoneApplies words.now × (place < mostTasks) }
+    requires { NoneApplies words.now × (place < most_tasks) }
     ensures { result ≡ dropped (table_of words.now) place kept }
 {
     if (kept >> place) % 2 == 1 {
@@ -39,7 +39,7 @@ fn dropped(words: &[u32], place: u32, kept: u32) -> u32
 
 // What one pass over the first `count` places leaves of a set.
 fn pass(words: &[u32], count: u32, kept: u32) -> u32
-    requires { NoneApplies words.now × (count ≤ mostTasks) }
+    requires { NoneApplies words.now × (count ≤ most_tasks) }
     ensures { result ≡ pass (table_of words.now) count kept }
 {
     let mut left = kept;
@@ -53,7 +53,7 @@ fn pass(words: &[u32], count: u32, kept: u32) -> u32
 
 // The set of the first `count` places.
 fn all(count: u32) -> u32
-    requires { count ≤ mostTasks }
+    requires { count ≤ most_tasks }
     ensures { result ≡ 2 ^ count - 1 }
 {
     ((1u64 << count) - 1) as u32
@@ -62,7 +62,7 @@ fn all(count: u32) -> u32
 // What the passes leave of the whole table: passes until one drops nothing.
 pub(crate) fn passes(words: &[u32]) -> u32
     requires { NoneApplies words.now }
-    ensures { result ≡ conflictSet (table_of words.now) }
+    ensures { result ≡ conflict_set (table_of words.now) }
 {
     let table = table::load(words);
     let count = table.count as u32;

@@ -9,7 +9,7 @@ use native.Mathlib.Omega.{arith}
 use lib.ListN.{length, get_or, take, drop}
 use lib.Dec.{eqb, ltb}
 use borrow.Author.Tests.{eqb-true, eq-eqb, ne_eqb, ltb-true, ltb-false}
-use Rattle.model.specs.Search.{filtered, consIf, member, up_from}
+use Rattle.model.specs.Search.{filtered, cons_if, member, up_from}
 use Rattle.model.proofs.Lists.{up-length, up_at, map_at}
 
 -- an ascending list whose entries are at least lo and below hi
@@ -39,8 +39,8 @@ unfolding up_from
 range-up i zero hi h = tt
 range-up i (suc n) hi h = (omega arith, omega arith, range-up (suc i) n hi (omega arith))
 
-pub getD-up : {A : Type 0} (f : ℕ → A) (d : A) (i n c : ℕ) → c < n → get_or (map f (up_from i n)) c d ≡ f (i + c)
-getD-up f d i n c h =
+pub get_d-up : {A : Type 0} (f : ℕ → A) (d : A) (i n c : ℕ) → c < n → get_or (map f (up_from i n)) c d ≡ f (i + c)
+get_d-up f d i n c h =
     let l : c < length (up_from i n) = omega (arith, up-length i n) in
     map_at f (up_from i n) c d 0 l ∙ ap f (up_at i n c 0 h)
 
@@ -90,8 +90,7 @@ split-apart c (suc w) lo hi (x ∷ l) r h k =
 pub memb-up : (c i n : ℕ) → i ≤ c → c < i + n → member c (up_from i n) ≡ true
 unfolding member up_from
 memb-up c i zero h k = absurd (omega arith)
-memb-up c i (suc n) h k =
-    ⊎_elim (λ (e : i ≡ c). rw (eq-eqb c i (sym e))) (λ (l : i < c). rw (memb-up c (suc i) n l (omega arith)) (or-true (eqb c i))) (eq-or-lt_of_le h)
+memb-up c i (suc n) h k = ⊎_elim (λ (e : i ≡ c). rw (eq-eqb c i (sym e))) (λ (l : i < c). rw (memb-up c (suc i) n l (omega arith)) (or-true (eqb c i))) (eq-or-lt_of_le h)
 
 pub memb-past : (c lo hi : ℕ) (l : List ℕ) → Range lo hi l → hi ≤ c → member c l ≡ false
 unfolding member
@@ -123,9 +122,7 @@ memb-kept f c (x ∷ l) = go (f x) refl (eqb c x) refl (memb-kept f c l)
     neither true e = refl
     neither false e = sym e
 
-    go :
-        (t : Bool) → f x ≡ t → (u : Bool) → eqb c x ≡ u → member c (filtered f l) ≡ member c l && f c
-        → member c (consIf t x (filtered f l)) ≡ (u || member c l) && f c
+    go : (t : Bool) → f x ≡ t → (u : Bool) → eqb c x ≡ u → member c (filtered f l) ≡ member c l && f c → member c (cons_if t x (filtered f l)) ≡ (u || member c l) && f c
     go true p true q ih = rw q (sym (ap f (eqb-true c x q) ∙ p))
     go true p false q ih = rw q ih
     go false p true q ih = ih ∙ neither (member c l) (ap f (eqb-true c x q) ∙ p)
@@ -136,10 +133,8 @@ unfolding filtered
 kept-kept f g [] = refl
 kept-kept f g (x ∷ l) = go (g x) (kept-kept f g l)
   where
-    go :
-        (t : Bool) → filtered f (filtered g l) ≡ filtered (λ c. g c && f c) l
-        → filtered f (consIf t x (filtered g l)) ≡ consIf (t && f x) x (filtered (λ c. g c && f c) l)
-    go true ih = ap (λ (m : List ℕ). consIf (f x) x m) ih
+    go : (t : Bool) → filtered f (filtered g l) ≡ filtered (λ c. g c && f c) l → filtered f (cons_if t x (filtered g l)) ≡ cons_if (t && f x) x (filtered (λ c. g c && f c) l)
+    go true ih = ap (λ (m : List ℕ). cons_if (f x) x m) ih
     go false ih = ih
 
 pub length-kept : (f : ℕ → Bool) (l : List ℕ) → length (filtered f l) ≤ length l
@@ -147,7 +142,7 @@ unfolding filtered
 length-kept f [] = omega arith
 length-kept f (x ∷ l) = go (f x) (length-kept f l)
   where
-    go : (t : Bool) → length (filtered f l) ≤ length l → length (consIf t x (filtered f l)) ≤ suc (length l)
+    go : (t : Bool) → length (filtered f l) ≤ length l → length (cons_if t x (filtered f l)) ≤ suc (length l)
     go true h = omega arith
     go false h = omega arith
 
@@ -158,7 +153,7 @@ length-halves f [] = refl
 length-halves f (x ∷ l) = go (f x) (length-halves f l)
   where
     go : (t : Bool) → length (filtered (λ c. not (f c)) l) + length (filtered f l) ≡ length l
-        → length (consIf (not t) x (filtered (λ c. not (f c)) l)) + length (consIf t x (filtered f l)) ≡ suc (length l)
+        → length (cons_if (not t) x (filtered (λ c. not (f c)) l)) + length (cons_if t x (filtered f l)) ≡ suc (length l)
     go true ih = omega arith
     go false ih = omega arith
 
@@ -167,7 +162,7 @@ unfolding filtered
 range-kept f lo hi [] r = tt
 range-kept f lo hi (x ∷ l) r = go (f x) (range-kept f (suc x) hi l r.2)
   where
-    go : (t : Bool) → Range (suc x) hi (filtered f l) → Range lo hi (consIf t x (filtered f l))
+    go : (t : Bool) → Range (suc x) hi (filtered f l) → Range lo hi (cons_if t x (filtered f l))
     go true k = (r.0, r.1, k)
     go false k = range-weaken (filtered f l) (omega arith) (omega arith) k
 
@@ -175,7 +170,7 @@ range-kept f lo hi (x ∷ l) r = go (f x) (range-kept f (suc x) hi l r.2)
 pub kept_same : (f g : ℕ → Bool) (lo hi : ℕ) (l : List ℕ) → Range lo hi l → ((c : ℕ) → c < hi → f c ≡ g c) → filtered f l ≡ filtered g l
 unfolding filtered
 kept_same f g lo hi [] r h = refl
-kept_same f g lo hi (x ∷ l) r h = ap₂ (λ (t : Bool) (m : List ℕ). consIf t x m) (h x r.1) (kept_same f g (suc x) hi l r.2 h)
+kept_same f g lo hi (x ∷ l) r h = ap₂ (λ (t : Bool) (m : List ℕ). cons_if t x m) (h x r.1) (kept_same f g (suc x) hi l r.2 h)
 
 pub kept-none : (l : List ℕ) → filtered (λ c. false) l ≡ []
 unfolding filtered

@@ -1,141 +1,220 @@
-// Prints the verdict on each example of standard input: the scope's table of examples, fences, widths that differ, and more cases of each number. A line has an
-// example's name and the words of its table, with a space before each.
+// Prints the verdict on every line of the scope's table of examples, fences, and more cases of each number.
 use judge::Verdict;
 use libc::STDOUT_FILENO;
 
-// The most bytes of the examples and of a name, and the most words: those of a table with a record too many.
-const BYTES: usize = 4096;
-
-const NAME: usize = 32;
-
-const WORDS: usize = 236;
-
-// An example as its bytes arrive.
-#[derive(Drop)]
-struct Example {
-    name: [u8; NAME],
-    letters: usize,
-    words: [u32; WORDS],
-    count: usize,
+fn write(bytes: &[u8]) {
+    io::write_all(STDOUT_FILENO, bytes);
 }
 
-// No example yet.
-fn no_example() -> Example {
-    let name = [0u8; NAME];
-    let words = [0u32; WORDS];
-    Example {
-        name: name,
-        letters: 0,
-        words: words,
-        count: 0,
-    }
-}
-
-impl Example {
-    // With one letter more of its name.
-    fn with_letter(self, letter: u8) -> Example {
-        let mut next = self;
-        let at = next.letters;
-        if at < NAME {
-            next.name[at] = letter;
-            next.letters = at + 1;
-        }
-        next
-    }
-
-    // With one word more, of no digits yet.
-    fn with_word(self) -> Example {
-        let mut next = self;
-        let count = next.count;
-        if count < WORDS {
-            next.count = count + 1;
-        }
-        next
-    }
-
-    // With one digit more of a word.
-    fn with_digit(self, at: usize, digit: u8) -> Example {
-        let mut next = self;
-        if at < WORDS {
-            let word = next.words[at];
-            next.words[at] = shifted(word, digit);
-        }
-        next
-    }
-
-    // With one byte more of its line.
-    fn with_byte(self, byte: u8) -> Example {
-        if byte == b' ' {
-            return self.with_word();
-        }
-        let count = self.count;
-        if count == 0 {
-            return self.with_letter(byte);
-        }
-        if b'0' <= byte {
-            return self.with_digit(count - 1, byte - b'0');
-        }
-        self
-    }
-
-    fn print(self) {
-        let name = self.name;
-        let words = self.words;
-        show(&name, self.letters, &words, self.count);
-    }
-}
-
-// A number with one digit more, of 32 bits.
-fn shifted(number: u32, digit: u8) -> u32 {
-    ((number as u64 * 10 + digit as u64) % table::limits::HIGH) as u32
-}
-
-// Prints the first bytes of a name.
-fn write_name(name: &[u8], letters: usize) {
-    if letters <= name.len() {
-        write(&name[..letters]);
-    }
-}
-
-// Prints an example's line: its name, the verdict's word and its two numbers.
-fn show(name: &[u8], letters: usize, words: &[u32], count: usize) {
-    write_name(name, letters);
-    if count <= words.len() {
-        let verdict = judge::by_ticks::judge(&words[..count]);
-        match verdict {
-            Verdict::Firm(s, p) => outcome(b" firm ", s, p),
-            Verdict::Full(s, p) => outcome(b" full ", s, p),
-            Verdict::Miss(tick, position) => outcome(b" miss ", tick, position),
-            Verdict::Refused(number, position) => outcome(b" refused ", number, position),
-        }
-    }
-}
-
-fn outcome(word: &[u8], first: u32, second: u32) {
+// A line: the example's name, the verdict's word and its two numbers.
+fn line(name: &[u8], word: &[u8], first: u32, second: u32) {
+    write(name);
+    write(b" ");
     write(word);
+    write(b" ");
     io::print_decimal(STDOUT_FILENO, first as u64);
     write(b" ");
     io::print_decimal(STDOUT_FILENO, second as u64);
     write(b"\n");
 }
 
-fn write(bytes: &[u8]) {
-    io::write_all(STDOUT_FILENO, bytes);
+fn show(name: &[u8], words: &[u32]) {
+    let verdict = judge::by_ticks::judge(words);
+    match verdict {
+        Verdict::Firm(s, p) => line(name, b"firm", s, p),
+        Verdict::Full(s, p) => line(name, b"full", s, p),
+        Verdict::Miss(tick, position) => line(name, b"miss", tick, position),
+        Verdict::Refused(number, position) => line(name, b"refused", number, position),
+    }
+}
+
+// A to C: the same tasks under several rules.
+fn marked() {
+    show(
+        b"A",
+        &[
+            1u32, 3, 1, 0, 0, 2, 0, 2, 2, 5, 5, 2, 3, 0, 2, 3, 5, 5, 2, 0, 0, 1, 4, 5, 5, 1,
+        ],
+    );
+    show(
+        b"A2",
+        &[
+            1u32, 3, 2, 0, 0, 2, 0, 2, 2, 5, 5, 2, 3, 0, 2, 3, 5, 5, 2, 0, 0, 1, 4, 5, 5, 1,
+        ],
+    );
+    show(
+        b"A3",
+        &[
+            1u32, 3, 3, 0, 0, 2, 0, 2, 2, 5, 5, 2, 3, 0, 2, 3, 5, 5, 2, 0, 0, 1, 4, 5, 5, 1,
+        ],
+    );
+    show(
+        b"A4",
+        &[
+            1u32, 3, 4, 0, 0, 2, 0, 2, 2, 5, 5, 2, 3, 0, 2, 3, 5, 5, 2, 0, 0, 1, 4, 5, 5, 1,
+        ],
+    );
+    show(
+        b"B",
+        &[
+            1u32, 2, 1, 0, 0, 2, 0, 1, 3, 3, 4, 1, 3, 0, 2, 1, 4, 4, 2, 0, 0, 1, 2, 2, 4, 1,
+        ],
+    );
+    show(
+        b"B2",
+        &[
+            1u32, 2, 2, 0, 0, 2, 0, 1, 3, 3, 4, 1, 3, 0, 2, 1, 4, 4, 2, 0, 0, 1, 2, 2, 4, 1,
+        ],
+    );
+    show(
+        b"B3",
+        &[
+            1u32, 2, 3, 0, 0, 2, 0, 1, 3, 3, 4, 1, 3, 0, 2, 1, 4, 4, 2, 0, 0, 1, 2, 2, 4, 1,
+        ],
+    );
+    show(
+        b"B4",
+        &[
+            1u32, 2, 4, 0, 0, 2, 0, 1, 3, 3, 4, 1, 3, 0, 2, 1, 4, 4, 2, 0, 0, 1, 2, 2, 4, 1,
+        ],
+    );
+    show(
+        b"C",
+        &[
+            1u32, 2, 1, 0, 0, 2, 0, 1, 2, 4, 4, 1, 3, 0, 2, 2, 4, 4, 2, 0, 0, 1, 1, 4, 4, 1,
+        ],
+    );
+    show(
+        b"C2",
+        &[
+            1u32, 2, 1, 0, 0, 3, 0, 1, 2, 4, 4, 1, 0, 0, 2, 2, 4, 4, 2, 2, 0, 1, 1, 4, 4, 1,
+        ],
+    );
+    show(
+        b"E",
+        &[1u32, 1, 2, 0, 0, 2, 1, 1, 1, 1, 2, 1, 0, 0, 1, 1, 2, 3, 1],
+    );
+    show(b"F", &[1u32, 1, 1, 0, 0, 0, 0, 1, 2, 1, 2, 1]);
+}
+
+// A on five cores, of which 0 and 3 are fenced, and on 64, of which all but 31, 32 and 63 are; one unfenced core.
+fn fenced() {
+    show(
+        b"A-fenced",
+        &[
+            1u32, 5, 1, 9, 0, 2, 0, 2, 2, 5, 5, 2, 3, 0, 2, 3, 5, 5, 2, 0, 0, 1, 4, 5, 5, 1,
+        ],
+    );
+    show(
+        b"A2-fenced",
+        &[
+            1u32, 5, 2, 9, 0, 2, 0, 2, 2, 5, 5, 2, 3, 0, 2, 3, 5, 5, 2, 0, 0, 1, 4, 5, 5, 1,
+        ],
+    );
+    show(
+        b"A3-fenced-64",
+        &[
+            1u32, 64, 3, 2147483647, 2147483646, 2, 0, 2, 2, 5, 5, 2, 3, 0, 2, 3, 5, 5, 2, 0, 0, 1,
+            4, 5, 5, 1,
+        ],
+    );
+    show(
+        b"one-core-left",
+        &[1u32, 64, 2, 4294967295, 2147483647, 0, 0, 1, 1, 1, 1, 1],
+    );
+}
+
+// Odd and even widths: P takes 2T; under greedy a table is firm where no width of a task is above one of the next; the choice changes though the claimants
+// do not.
+fn paired() {
+    show(
+        b"odd-and-even",
+        &[1u32, 4, 1, 0, 0, 2, 0, 4, 1, 2, 2, 2, 0, 0, 2, 1, 2, 2, 2],
+    );
+    show(
+        b"even-rises",
+        &[1u32, 4, 1, 0, 0, 2, 0, 1, 1, 2, 2, 2, 0, 0, 2, 1, 2, 2, 4],
+    );
+    show(
+        b"even-falls",
+        &[1u32, 4, 1, 0, 0, 2, 0, 1, 1, 2, 2, 3, 0, 0, 2, 1, 2, 2, 4],
+    );
+    show(
+        b"miss-on-the-even-job",
+        &[1u32, 2, 1, 0, 0, 2, 0, 1, 1, 1, 1, 1, 0, 0, 1, 1, 1, 1, 2],
+    );
+    show(b"7-on-even-jobs", &[1u32, 2, 1, 0, 0, 0, 0, 2, 1, 1, 1, 3]);
+    show(
+        b"9-by-2T",
+        &[
+            1u32, 2, 1, 0, 0, 2, 0, 1, 1, 1000, 1000, 2, 0, 0, 1, 1, 999999, 999999, 1,
+        ],
+    );
+}
+
+// D, G and H.
+fn others() {
+    show(
+        b"D",
+        &[
+            1u32, 2, 1, 0, 0, 2, 0, 1, 3, 4, 4, 1, 3, 0, 2, 1, 4, 4, 2, 0, 0, 1, 2, 4, 4, 1,
+        ],
+    );
+    show(
+        b"G",
+        &[
+            1u32, 1, 1, 0, 0, 2, 0, 1, 1, 128, 128, 1, 0, 0, 1, 1, 78125, 78125, 1,
+        ],
+    );
+    show(
+        b"G-offset",
+        &[
+            1u32, 1, 1, 0, 0, 2, 1, 1, 1, 128, 128, 1, 0, 0, 1, 1, 78125, 78125, 1,
+        ],
+    );
+    show(b"H-two-words", &[1u32, 1]);
+    show(b"H-229-words", &[0u32; 229]);
+    show(b"H-236-words", &[0u32; 236]);
+    show(
+        b"H-cores-and-rule",
+        &[1u32, 0, 9, 0, 0, 0, 0, 1, 1, 1, 1, 1],
+    );
+    show(b"H-past-the-last", &[2u32, 1, 1, 0, 0, 0, 0, 1, 1, 1, 1, 1]);
+    show(b"H-met-again", &[1u32, 1, 1, 0, 0, 1, 0, 1, 1, 1, 1, 1]);
+}
+
+// Each number once more, and a position that is not the record's number.
+fn numbers() {
+    show(b"1-half-a-record", &[1u32, 1, 1, 0, 0, 0, 0, 1]);
+    show(b"2-65-cores", &[1u32, 65, 1, 0, 0, 0, 0, 1, 1, 1, 1, 1]);
+    show(b"3-rule-5", &[1u32, 1, 5, 0, 0, 0, 0, 1, 1, 1, 1, 1]);
+    show(b"19-all-cores", &[1u32, 5, 1, 31, 0, 0, 0, 1, 1, 1, 1, 1]);
+    show(
+        b"19-past-the-count",
+        &[1u32, 5, 1, 32, 0, 0, 0, 1, 1, 1, 1, 1],
+    );
+    show(b"19-second-word", &[1u32, 33, 1, 0, 2, 0, 0, 1, 1, 1, 1, 1]);
+    show(b"19-before-4", &[0u32, 1, 1, 1, 0, 0, 0, 1, 1, 1, 1, 1]);
+    show(b"4-no-head", &[0u32, 1, 1, 0, 0, 0, 0, 1, 1, 1, 1, 1]);
+    show(
+        b"7-at-2",
+        &[2u32, 2, 1, 0, 0, 0, 0, 3, 0, 1, 1, 3, 1, 0, 1, 1, 1, 1, 1],
+    );
+    show(b"7-by-the-fence", &[1u32, 5, 1, 25, 0, 0, 0, 3, 1, 1, 1, 3]);
+    show(
+        b"8-at-1",
+        &[2u32, 2, 1, 0, 0, 0, 0, 0, 1, 1, 1, 0, 1, 0, 1, 0, 1, 1, 1],
+    );
+    show(
+        b"miss-at-2",
+        &[2u32, 1, 1, 0, 0, 0, 0, 1, 2, 2, 2, 1, 1, 0, 1, 1, 2, 2, 1],
+    );
 }
 
 fn main() {
-    let mut bytes = [0u8; BYTES];
-    stream::fill(&mut bytes, 0);
-    let mut example = no_example();
-    let mut i: usize = 0;
-    while i < BYTES {
-        let byte = bytes[i];
-        if byte == b'\n' {
-            example.print();
-            example = no_example();
-        } else {
-            example = example.with_byte(byte);
-        }
-        i += 1;
-    }
+    marked();
+    fenced();
+    paired();
+    others();
+    numbers();
 }

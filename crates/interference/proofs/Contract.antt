@@ -9,18 +9,17 @@ use Rattle.table.proofs.Exact.{passed-exact, refusal-exact}
 use Rattle.table.proofs.Order.{first-only}
 use Rattle.table.proofs.Passed.{passed-valid}
 use Rattle.table.specs.declared.Answer.{Answer}
-use Rattle.table.specs.declared.Answer.TheVariants.{Taken, Refused}
+use Rattle.table.specs.declared.Answer.TheVariants.{Passed, Refused}
 use Rattle.table.specs.declared.Loaded.{Loaded}
 use Rattle.table.specs.Answer.{answer_of}
-use Rattle.table.specs.AnswerMeaning.{answerMeaning}
-use Rattle.table.specs.Load.{LoadOf}
+use Rattle.table.specs.Load.{LoadOf, load_meaning}
 use Rattle.table.specs.Numbers.{Applies, First, NoneApplies}
 use Rattle.table.specs.Words.{table_of}
 use Rattle.table.proofs.Fit.{same-table}
-use Rattle.table.specs.Fit.{loadedTable}
+use Rattle.table.specs.Fit.{loaded_table}
 use Rattle.interference.specs.declared.Bounds.{Bounds}
 use Rattle.interference.specs.declared.Tested.{Tested}
-use Rattle.interference.specs.Bounds.{BoundsOf, boundsBy, bounds_of, noBounds, notMet, tested_of}
+use Rattle.interference.specs.Bounds.{BoundsOf, bounds_by, bounds_of, no_bounds, not_met, tested_of}
 use Rattle.interference.proofs.Passing.{tested-promise}
 
 taken_refused : {n p : ℕ} → book.taken ≡ book.refused n p → ⊥
@@ -30,19 +29,19 @@ module _ (ws : List ℕ) where
   abbrev s : Table
   s = table_of ws
 
-  is : (a : Answer) → answer_of ws ≡ a → boundsBy a s ≡ bounds_of ws
-  is a e = unfold bounds_of in ap (λ (b : Answer). boundsBy b s) (sym e)
+  is : (a : Answer) → answer_of ws ≡ a → bounds_by a s ≡ bounds_of ws
+  is a e = unfold bounds_of in ap (λ (b : Answer). bounds_by b s) (sym e)
 
-  given : NoneApplies ws → answer_of ws ≡ Taken → BoundsOf ws (boundsBy Taken s)
+  given : NoneApplies ws → answer_of ws ≡ Passed → BoundsOf ws (bounds_by Passed s)
   given none e = record {
-    value = is Taken e;
+    value = is Passed e;
     refused = λ n p. (λ f. absurd (taken_refused f), λ f. absurd (none n p f.0));
     passed = (λ f. none, λ f. refl);
     tested = λ f. tested-promise s (passed-valid ws none);
     zeros = λ n p f. absurd (taken_refused f);
   }
 
-  turned_down : (n p : ℕ) → First ws n p → answer_of ws ≡ Refused n p → BoundsOf ws (boundsBy (Refused n p) s)
+  turned_down : (n p : ℕ) → First ws n p → answer_of ws ≡ Refused n p → BoundsOf ws (bounds_by (Refused n p) s)
   turned_down n p first e = record {
     value = is (Refused n p) e;
     refused = λ m q. (only m q, one m q);
@@ -60,8 +59,8 @@ module _ (ws : List ℕ) where
   pub bounds-promise : BoundsOf ws (bounds_of ws)
   bounds-promise = subst (BoundsOf ws) (is (answer_of ws) refl) (go (answer_of ws) refl)
     where
-      go : (a : Answer) → answer_of ws ≡ a → BoundsOf ws (boundsBy a s)
-      go Taken e = given ((passed-exact ws).0 e) e
+      go : (a : Answer) → answer_of ws ≡ a → BoundsOf ws (bounds_by a s)
+      go Passed e = given ((passed-exact ws).0 e) e
       go (Refused n p) e = turned_down n p ((refusal-exact ws n p).0 e) e
 
   by_value : (r : Bounds) → r ≡ bounds_of ws → BoundsOf ws r
@@ -69,12 +68,12 @@ module _ (ws : List ℕ) where
 
   -- OF THE TABLE THAT WAS LOADED
   module _ (t : Loaded) (l : LoadOf ws t) where
-    pub loaded-contract : t.answer ≡ Taken → (r : Tested) → r ≡ tested_of (loadedTable t) → BoundsOf ws (record { answer = Taken; tested = r })
+    pub loaded-contract : t.answer ≡ Passed → (r : Tested) → r ≡ tested_of (loaded_table t) → BoundsOf ws (record { answer = Passed; tested = r })
     loaded-contract e r q =
-        by_value (record { answer = Taken; tested = r })
-        (ap (λ (x : Tested). record { answer = Taken; tested = x }) (q ∙ ap tested_of (same-table ws t l e))
-        ∙ is Taken ((passed-exact ws).1 (l.passed.0 (ap answerMeaning e))))
+        by_value (record { answer = Passed; tested = r })
+        (ap (λ (x : Tested). record { answer = Passed; tested = x }) (q ∙ ap tested_of (same-table ws t l e))
+        ∙ is Passed ((passed-exact ws).1 (l.passed.0 (ap load_meaning e))))
 
-    pub refused-contract : (n p : ℕ) → t.answer ≡ Refused n p → (r : Bounds) → r ≡ noBounds n p → BoundsOf ws r
+    pub refused-contract : (n p : ℕ) → t.answer ≡ Refused n p → (r : Bounds) → r ≡ no_bounds n p → BoundsOf ws r
     refused-contract n p e r q =
-        by_value r (q ∙ is (Refused n p) ((refusal-exact ws n p).1 ((l.refused n p).0 (ap answerMeaning e))))
+        by_value r (q ∙ is (Refused n p) ((refusal-exact ws n p).1 ((l.refused n p).0 (ap load_meaning e))))

@@ -7,21 +7,21 @@ use native.Mathlib.Numerals.{add-one}
 use native.Mathlib.Omega.{arith}
 use lib.Arith.{digits_div, digits_lt, mod-mul}
 use lib.ListN.{get_or}
-use Rattle.model.specs.Interference.{coresIn, interferenceIn, sumBelow, workloadIn}
+use Rattle.model.specs.Interference.{cores_in, interference_in, sum_below, workload_in}
 use Rattle.model.specs.Task as model
 use Rattle.model.specs.Task.{narrowest, task, widest}
 use Rattle.model.proofs.Windows.{sum_same}
 use Rattle.table.specs.declared.Loaded.{Loaded}
 use Rattle.table.specs.declared.Task.{Task}
-use Rattle.table.specs.Limits.{mostTime}
-use Rattle.table.specs.Task.{noTask, task_of}
+use Rattle.table.specs.Limits.{most_time}
+use Rattle.table.specs.Task.{no_task, task_of}
 use Rattle.table.proofs.Places.{task-at, tasks-length}
-use Rattle.table.specs.Fit.{Fit, loadedTable}
-use Rattle.interference.specs.Bounds.{Above, mostCoresIn, mostSpan}
+use Rattle.table.specs.Fit.{Fit, loaded_table}
+use Rattle.interference.specs.Bounds.{Above, most_cores_in, most_span}
 
 -- what place i is given at most
 abbrev pub part : List Task → List ℕ → ℕ → ℕ → ℕ → ℕ
-part tasks ends window waits i = coresIn (task_of (get_or tasks i noTask)) (get_or ends i 0) window waits
+part tasks ends window waits i = cores_in (task_of (get_or tasks i no_task)) (get_or ends i 0) window waits
 
 -- THE WORKLOAD BY ONE DIVISION: of every second job by that of all
 
@@ -35,13 +35,13 @@ div-twice n T pos =
 pub by-one-division :
     (τ : model.Task) (e L : ℕ) → 0 < τ.period
     → (L + e - τ.length) / τ.period / 2 * τ.length + min τ.length ((L + e - τ.length) / τ.period % 2 * τ.period + (L + e - τ.length) % τ.period)
-    ≡ workloadIn τ (2 * τ.period) e L
+    ≡ workload_in τ (2 * τ.period) e L
 by-one-division τ e L pos =
     ap₂ (λ (a b : ℕ). a * τ.length + min τ.length b) (sym (div-twice (L + e - τ.length) τ.period pos))
     (sym (mod-mul (L + e - τ.length) {m = 2} {c = τ.period} (omega arith) pos))
 
 -- whole jobs in a span, all or every second one, take no more ticks than it has
-pub whole-few : (span T C : ℕ) → C ≤ T → span ≤ mostSpan → (span / T * C ≤ mostSpan) × (span / T / 2 * C ≤ mostSpan)
+pub whole-few : (span T C : ℕ) → C ≤ T → span ≤ most_span → (span / T * C ≤ most_span) × (span / T / 2 * C ≤ most_span)
 whole-few span T C a b =
     let all = le_trans (mul-le-mul_left (span / T) a) (le_trans (div-mul-le_self span T) b) in
     (all, le_trans (mul-le-mul_right C (div-le_self (span / T) 2)) all)
@@ -49,41 +49,41 @@ whole-few span T C a b =
 -- a task of one width, and of two
 pub cores-one :
     (τ : model.Task) (e L n narrow wide a : ℕ) → narrow ≡ narrowest τ → wide ≡ widest τ → wide ≡ narrow
-    → a ≡ min n (workloadIn τ τ.period e L) → narrow * a ≡ coresIn τ e L n
+    → a ≡ min n (workload_in τ τ.period e L) → narrow * a ≡ cores_in τ e L n
 cores-one τ e L n narrow wide a nq wq same aq =
     let none : widest τ - narrowest τ ≡ 0 = omega arith in
     ap₂ (λ (x y : ℕ). x * y) nq aq ∙ sym (rw none (omega arith))
 
 pub cores-two :
     (τ : model.Task) (e L n narrow wide a b : ℕ) → narrow ≡ narrowest τ → wide ≡ widest τ
-    → a ≡ min n (workloadIn τ τ.period e L) → b ≡ min n (workloadIn τ (2 * τ.period) e L) → narrow * a + (wide - narrow) * b ≡ coresIn τ e L n
+    → a ≡ min n (workload_in τ τ.period e L) → b ≡ min n (workload_in τ (2 * τ.period) e L) → narrow * a + (wide - narrow) * b ≡ cores_in τ e L n
 cores-two τ e L n narrow wide a b nq wq aq bq = rw (nq, wq, aq, bq) refl
 
 -- the sum over the places passed
 pub record Summed (tasks : List Task) (ends : List ℕ) (window waits sum i : ℕ) : Type 0 where
-  pub most : sum ≤ mostCoresIn * i
-  pub value : sum ≡ sumBelow i (part tasks ends window waits)
+  pub most : sum ≤ most_cores_in * i
+  pub value : sum ≡ sum_below i (part tasks ends window waits)
 
 pub summed-none : (tasks : List Task) (ends : List ℕ) (window waits : ℕ) → Summed tasks ends window waits 0 0
-summed-none tasks ends window waits = record { most = omega arith; value = unfold sumBelow in refl }
+summed-none tasks ends window waits = record { most = omega arith; value = unfold sum_below in refl }
 
 pub summed-more :
     (tasks : List Task) (ends : List ℕ) (window waits sum i c : ℕ) → Summed tasks ends window waits sum i → c ≡ part tasks ends window waits i
-    → c ≤ mostCoresIn → Summed tasks ends window waits (sum + c) (i + 1)
+    → c ≤ most_cores_in → Summed tasks ends window waits (sum + c) (i + 1)
 summed-more tasks ends window waits sum i c s is few = record {
   most = omega (arith, s.most);
-  value = rw (add-one i) (unfold sumBelow in ap₂ (λ (a b : ℕ). a + b) s.value is);
+  value = rw (add-one i) (unfold sum_below in ap₂ (λ (a b : ℕ). a + b) s.value is);
 }
 
 module _ (t : Loaded) (fit : Fit t) where
-  pub place_at : (i : ℕ) → i < t.count → task (loadedTable t) i ≡ task_of (get_or t.tasks i noTask)
+  pub place_at : (i : ℕ) → i < t.count → task (loaded_table t) i ≡ task_of (get_or t.tasks i no_task)
   place_at i l = task-at t.tasks t.count i l
 
   -- a place's job and its deadline, in the table and in the tasks that code keeps
   pub place-limits :
       (i : ℕ) → i < t.count
-      → ((task (loadedTable t) i).length ≡ (get_or t.tasks i noTask).length) × ((task (loadedTable t) i).deadline ≡ (get_or t.tasks i noTask).deadline)
-      × ((get_or t.tasks i noTask).deadline ≤ mostTime) × (1 ≤ (get_or t.tasks i noTask).length)
+      → ((task (loaded_table t) i).length ≡ (get_or t.tasks i no_task).length) × ((task (loaded_table t) i).deadline ≡ (get_or t.tasks i no_task).deadline)
+      × ((get_or t.tasks i no_task).deadline ≤ most_time) × (1 ≤ (get_or t.tasks i no_task).length)
   place-limits i h =
       let τ = place_at i h in
       let ok = fit.valid i (omega (arith, tasks-length t.tasks t.count (omega (arith, fit.few, fit.places)))) in
@@ -94,9 +94,9 @@ module _ (t : Loaded) (fit : Fit t) where
   -- a place above: what its workload needs
   pub place-ready :
       (ends : List ℕ) (place i : ℕ) → place ≤ t.count → Above t ends place → i < place
-      → (1 ≤ (get_or t.tasks i noTask).period) × ((get_or t.tasks i noTask).period ≤ mostTime)
-      × ((get_or t.tasks i noTask).length ≤ (get_or t.tasks i noTask).period) × ((get_or t.tasks i noTask).length ≤ get_or ends i 0)
-      × (get_or ends i 0 ≤ mostTime)
+      → (1 ≤ (get_or t.tasks i no_task).period) × ((get_or t.tasks i no_task).period ≤ most_time)
+      × ((get_or t.tasks i no_task).length ≤ (get_or t.tasks i no_task).period) × ((get_or t.tasks i no_task).length ≤ get_or ends i 0)
+      × (get_or ends i 0 ≤ most_time)
   place-ready ends place i l above h =
       let here : i < t.count = omega arith in
       let τ = place_at i here in
@@ -115,9 +115,9 @@ module _ (t : Loaded) (fit : Fit t) where
   -- over all places above it is what the definition says
   pub summed-all :
       (ends : List ℕ) (place window waits sum : ℕ) → place ≤ t.count → Summed t.tasks ends window waits sum place
-      → sum ≡ interferenceIn (loadedTable t) (λ i. get_or ends i 0) place window waits
-  unfolding interferenceIn
+      → sum ≡ interference_in (loaded_table t) (λ i. get_or ends i 0) place window waits
+  unfolding interference_in
   summed-all ends place window waits sum l s =
       s.value
-      ∙ sum_same place (part t.tasks ends window waits) (λ i. coresIn (task (loadedTable t) i) (get_or ends i 0) window waits)
-      (λ i h. ap (λ τ. coresIn τ (get_or ends i 0) window waits) (sym (place_at i (omega arith))))
+      ∙ sum_same place (part t.tasks ends window waits) (λ i. cores_in (task (loaded_table t) i) (get_or ends i 0) window waits)
+      (λ i h. ap (λ τ. cores_in τ (get_or ends i 0) window waits) (sym (place_at i (omega arith))))

@@ -1,10 +1,10 @@
 // The interference test: a table that passes misses no deadline, and is not simulated. One that does not pass may still be met.
 ghost use Rattle.std.specs.Prelude.{cond, ◌≡◌, suc, ◌-◌, ◌≤◌};
-ghost use Rattle.model.specs.Sizes.{mostCores};
-ghost use Rattle.table.specs.Fit.{loadedTable, Fit};
-ghost use Rattle.interference.specs.Bounds.{BoundsOf, TestedOf, noBounds, notMet};
+ghost use Rattle.model.specs.Sizes.{most_cores};
+ghost use Rattle.table.specs.Fit.{loaded_table, Fit};
+ghost use Rattle.interference.specs.Bounds.{BoundsOf, TestedOf, no_bounds, not_met};
 
-use model::{MOST_TASKS, extremes};
+use model::MOST_TASKS;
 use table::{Answer, Loaded};
 
 mod search; // search.rt: the window of a place
@@ -27,7 +27,7 @@ pub struct Bounds {
 
 // How many cores the places above are given at least while a job waits, where `free` cores are unfenced and a width of `refused` does not fit.
 fn need_of(free: u32, refused: u32) -> u32
-    requires { free ≤ mostCores }
+    requires { free ≤ most_cores }
     ensures { (result ≡ suc free - refused) × (result ≤ 65) }
 {
     if free < refused {
@@ -48,7 +48,7 @@ fn refused_width(ends: bool, widest: u32, own: u32) -> u32
 
 // A table that does not pass.
 fn unmet() -> Tested
-    ensures { result ≡ notMet }
+    ensures { result ≡ not_met }
 {
     let bounds = [0u32; MOST_TASKS];
     Tested {
@@ -60,7 +60,7 @@ fn unmet() -> Tested
 // The test of a table, place by place.
 pub fn test(table: Loaded) -> Tested
     requires { Fit table }
-    ensures { TestedOf (loadedTable table) result }
+    ensures { TestedOf (loaded_table table) result }
 {
     let tasks = table.tasks;
     let count = table.count;
@@ -71,8 +71,8 @@ pub fn test(table: Loaded) -> Tested
     let mut place: usize = 0;
     while place < count {
         let task = tasks[place];
-        let own = extremes::larger(task.width, task.second);
-        widest = extremes::larger(widest, own);
+        let own = workload::larger(task.width, task.second);
+        widest = workload::larger(widest, own);
         let refused = refused_width(ends_choosing, widest, own);
         let need = need_of(open, refused);
         let bound = search::bound_from(table, bounds, place, need);
@@ -91,7 +91,7 @@ pub fn test(table: Loaded) -> Tested
 
 // A refusal.
 fn refused(number: u32, position: u32) -> Bounds
-    ensures { result ≡ noBounds number position }
+    ensures { result ≡ no_bounds number position }
 {
     let tested = unmet();
     Bounds {
@@ -107,10 +107,10 @@ pub fn response_bounds(words: &[u32]) -> Bounds
     let table = table::load(words);
     let answer = table.answer;
     match answer {
-        Answer::Taken => {
+        Answer::Passed => {
             let tested = test(table);
             Bounds {
-                answer: Answer::Taken,
+                answer: Answer::Passed,
                 tested: tested,
             }
         }

@@ -1,13 +1,13 @@
 // The search for the window of a place: twice as many ticks of waiting until one passes, then halvings. At most 41 windows are tried.
 ghost use Rattle.std.specs.Prelude.{cond, ◌≡◌, ℕ, suc, ◌+◌, ◌/◌, ◌≤◌, ◌<◌, get_or};
-ghost use Rattle.model.specs.Interference.{boundFrom, firstWindow, mostHalvings, mostTries, need, shortenedWindow, suffices};
+ghost use Rattle.model.specs.Interference.{bound_from, first_window, most_halvings, most_tries, need, shortened_window, suffices};
 ghost use Rattle.model.specs.Task.{task};
-ghost use Rattle.table.specs.Limits.{mostTime};
-ghost use Rattle.table.specs.Fit.{loadedTable, Fit};
+ghost use Rattle.table.specs.Limits.{most_time};
+ghost use Rattle.table.specs.Fit.{loaded_table, Fit};
 ghost use Rattle.interference.specs.Bounds.{Above, Sought};
 
 use crate::workload;
-use model::{MOST_TASKS, extremes};
+use model::MOST_TASKS;
 use table::Loaded;
 
 // How many windows are tried upwards at most: the ticks of waiting double from 1 to past 1,000,000.
@@ -25,8 +25,8 @@ struct Range {
 
 // Whether a window of a place passes the test; `wanted` cores at least are given to the places above in a tick in which a job of it waits.
 fn passes(table: Loaded, ends: [u32; MOST_TASKS], place: usize, wanted: u32, window: u32) -> bool
-    requires { Sought table ends place wanted × ((task (loadedTable table) place).length ≤ window) × (window ≤ (task (loadedTable table) place).deadline) }
-    ensures { result ≡ suffices (loadedTable table) (λ i. get_or ends i 0) place window }
+    requires { Sought table ends place wanted × ((task (loaded_table table) place).length ≤ window) × (window ≤ (task (loaded_table table) place).deadline) }
+    ensures { result ≡ suffices (loaded_table table) (λ i. get_or ends i 0) place window }
 {
     let tasks = table.tasks;
     let task = tasks[place];
@@ -38,7 +38,7 @@ fn passes(table: Loaded, ends: [u32; MOST_TASKS], place: usize, wanted: u32, win
 // The first window of a place that passes, from its length on with twice the ticks of waiting each time, or one more than its deadline.
 fn first_window(table: Loaded, ends: [u32; MOST_TASKS], place: usize, wanted: u32) -> u32
     requires { Sought table ends place wanted }
-    ensures { result ≡ firstWindow (loadedTable table) (λ i. get_or ends i 0) place mostTries (task (loadedTable table) place).length }
+    ensures { result ≡ first_window (loaded_table table) (λ i. get_or ends i 0) place most_tries (task (loaded_table table) place).length }
 {
     let tasks = table.tasks;
     let task = tasks[place];
@@ -56,7 +56,7 @@ fn first_window(table: Loaded, ends: [u32; MOST_TASKS], place: usize, wanted: u3
         if deadline <= window {
             return deadline + 1;
         }
-        window = extremes::smaller(deadline, window + (window + 1 - length));
+        window = workload::smaller(deadline, window + (window + 1 - length));
         tries += 1;
     }
     deadline + 1
@@ -71,10 +71,9 @@ fn halve(
     low: u32,
     high: u32,
 ) -> Range
-    requires { Sought table ends place wanted × ((task (loadedTable table) place).length ≤ low) × (low < high)
-        × (high ≤ suc (task (loadedTable table) place).deadline) }
-    ensures { (result.low ≡ cond (suffices (loadedTable table) (λ i. get_or ends i 0) place ((low + high) / 2)) low (suc ((low + high) / 2)))
-        × (result.high ≡ cond (suffices (loadedTable table) (λ i. get_or ends i 0) place ((low + high) / 2)) ((low + high) / 2) high) }
+    requires { Sought table ends place wanted × ((task (loaded_table table) place).length ≤ low) × (low < high) × (high ≤ suc (task (loaded_table table) place).deadline) }
+    ensures { (result.low ≡ cond (suffices (loaded_table table) (λ i. get_or ends i 0) place ((low + high) / 2)) low (suc ((low + high) / 2)))
+        × (result.high ≡ cond (suffices (loaded_table table) (λ i. get_or ends i 0) place ((low + high) / 2)) ((low + high) / 2) high) }
 {
     let middle = (low + high) / 2;
     if passes(table, ends, place, wanted, middle) {
@@ -92,7 +91,7 @@ fn halve(
 // A window of a place: one that passes, or one more than its deadline where none is found.
 pub(crate) fn bound_from(table: Loaded, ends: [u32; MOST_TASKS], place: usize, wanted: u32) -> u32
     requires { Sought table ends place wanted }
-    ensures { result ≡ boundFrom (loadedTable table) (λ i. get_or ends i 0) place }
+    ensures { result ≡ bound_from (loaded_table table) (λ i. get_or ends i 0) place }
 {
     let tasks = table.tasks;
     let task = tasks[place];

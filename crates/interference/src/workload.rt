@@ -1,43 +1,55 @@
 // The interference on a place: how many cores the places above are given in a window at most.
-ghost use Rattle.std.specs.Prelude.{◌≡◌, ◌+◌, ◌*◌, ◌≤◌, min, get_or};
-ghost use Rattle.model.specs.Interference.{coresIn, interferenceIn};
-ghost use Rattle.table.specs.Limits.{mostTime};
+ghost use Rattle.std.specs.Prelude.{◌≡◌, ◌+◌, ◌*◌, ◌≤◌, max, min, get_or};
+ghost use Rattle.model.specs.Interference.{cores_in, interference_in};
+ghost use Rattle.table.specs.Limits.{most_time};
 ghost use Rattle.table.specs.Task.{task_of};
-ghost use Rattle.table.specs.Fit.{loadedTable, Fit};
-ghost use Rattle.interference.specs.Bounds.{Above, mostCoresIn, mostInterference, mostSpan};
+ghost use Rattle.table.specs.Fit.{loaded_table, Fit};
+ghost use Rattle.interference.specs.Bounds.{Above, most_cores_in, most_interference, most_span};
 
-use model::{MOST_TASKS, extremes};
+use model::MOST_TASKS;
 use table::{Loaded, Task};
+
+// The larger of two numbers.
+pub(crate) fn larger(a: u32, b: u32) -> u32
+    ensures { result ≡ max a b }
+{
+    if a < b { b } else { a }
+}
+
+// The smaller of two numbers.
+pub(crate) fn smaller(a: u32, b: u32) -> u32
+    ensures { result ≡ min a b }
+{
+    if a < b { a } else { b }
+}
 
 // In how many ticks jobs of this length are given cores at most, where `whole` jobs are in the window and `rest` ticks of one more.
 fn ticks_of(length: u32, whole: u32, rest: u32) -> u32
-    requires { (whole * length ≤ mostSpan) × (length ≤ mostTime) }
+    requires { (whole * length ≤ most_span) × (length ≤ most_time) }
     ensures { result ≡ whole * length + min length rest }
 {
-    let last = extremes::smaller(length, rest);
+    let last = smaller(length, rest);
     whole * length + last
 }
 
-// How many cores a task is given at most in `waits` ticks of a window, summed over the ticks; one division gives the workload of all jobs and of every second
-// one.
+// How many cores a task is given at most in `waits` ticks of a window, summed over the ticks; one division gives the workload of all jobs and of every second one.
 fn cores_in(task: Task, end: u32, window: u32, waits: u32) -> u64
-    requires { (1 ≤ task.period) × (task.period ≤ mostTime) × (task.length ≤ task.period) × (task.length ≤ end) × (end ≤ mostTime) × (window ≤ mostTime)
-        × (waits ≤ mostTime) }
-    ensures { (result ≡ coresIn (task_of task) end window waits) × (result ≤ mostCoresIn) }
+    requires { (1 ≤ task.period) × (task.period ≤ most_time) × (task.length ≤ task.period) × (task.length ≤ end) × (end ≤ most_time) × (window ≤ most_time) × (waits ≤ most_time) }
+    ensures { (result ≡ cores_in (task_of task) end window waits) × (result ≤ most_cores_in) }
 {
     let length = task.length;
     let period = task.period;
-    let narrow = extremes::smaller(task.width, task.second);
-    let wide = extremes::larger(task.width, task.second);
+    let narrow = smaller(task.width, task.second);
+    let wide = larger(task.width, task.second);
     let span = window + end - length;
     let whole = span / period;
     let rest = span % period;
-    let all = extremes::smaller(waits, ticks_of(length, whole, rest));
+    let all = smaller(waits, ticks_of(length, whole, rest));
     let sum = narrow as u64 * all as u64;
     if wide == narrow {
         return sum;
     }
-    let second = extremes::smaller(
+    let second = smaller(
         waits,
         ticks_of(length, whole / 2, whole % 2 * period + rest),
     );
@@ -52,8 +64,8 @@ pub(crate) fn interference_in(
     window: u32,
     waits: u32,
 ) -> u64
-    requires { Fit table × (place ≤ table.count) × Above table ends place × (window ≤ mostTime) × (waits ≤ mostTime) }
-    ensures { (result ≡ interferenceIn (loadedTable table) (λ i. get_or ends i 0) place window waits) × (result ≤ mostInterference) }
+    requires { Fit table × (place ≤ table.count) × Above table ends place × (window ≤ most_time) × (waits ≤ most_time) }
+    ensures { (result ≡ interference_in (loaded_table table) (λ i. get_or ends i 0) place window waits) × (result ≤ most_interference) }
 {
     let tasks = table.tasks;
     let mut sum: u64 = 0;

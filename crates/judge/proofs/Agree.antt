@@ -8,12 +8,12 @@ use Rattle.model.specs.Refusals as book
 use Rattle.model.specs.Task.{Table}
 use Rattle.model.specs.Verdict as model
 use Rattle.model.proofs.Bools.{not-true-false}
-use Rattle.table.specs.AnswerMeaning.{answerMeaning}
+use Rattle.table.specs.Load.{load_meaning}
 use Rattle.table.specs.Words.{table_of}
 use Rattle.judge.specs.declared.Verdict.{Verdict}
 use Rattle.judge.specs.declared.Missed.{Missed}
 use Rattle.judge.specs.FirstMiss.{MissedOf}
-use Rattle.judge.specs.JudgeAnswer.{judged, verdictMeaning}
+use Rattle.judge.specs.JudgeAnswer.{judged, verdict_meaning}
 use Rattle.judge.specs.Judged.{Judged}
 use Rattle.interference.specs.declared.Bounds.{Bounds}
 use Rattle.interference.specs.Bounds.{BoundsOf}
@@ -37,14 +37,14 @@ first-misses-agree s end chosen ticks events a b c = (misses-agree s end chosen 
 
 -- LAW: a table that is not refused and passes the test is accepted, by every judge
 pub test-accepts :
-    (ws : List ℕ) (r : Bounds) → BoundsOf ws r → answerMeaning r.answer ≡ book.taken → r.tested.met ≡ true → (v : Verdict) → Judged ws v
-    → (s p : ℕ) × ((verdictMeaning v ≡ judged (model.Firm s p)) ⊎ (verdictMeaning v ≡ judged (model.Full s p)))
+    (ws : List ℕ) (r : Bounds) → BoundsOf ws r → load_meaning r.answer ≡ book.taken → r.tested.met ≡ true → (v : Verdict) → Judged ws v
+    → (s p : ℕ) × ((verdict_meaning v ≡ judged (model.Firm s p)) ⊎ (verdict_meaning v ≡ judged (model.Full s p)))
 test-accepts ws r b passed met v j = j.accepted.1 (b.passed.0 passed, (b.tested passed).meets met)
 
 -- LAW: a table with a miss fails the test
 pub miss-fails :
-    (ws : List ℕ) (r : Bounds) → BoundsOf ws r → answerMeaning r.answer ≡ book.taken → (v : Verdict) → Judged ws v → (t p : ℕ)
-    → verdictMeaning v ≡ judged (model.Miss t p) → r.tested.met ≡ false
+    (ws : List ℕ) (r : Bounds) → BoundsOf ws r → load_meaning r.answer ≡ book.taken → (v : Verdict) → Judged ws v → (t p : ℕ)
+    → verdict_meaning v ≡ judged (model.Miss t p) → r.tested.met ≡ false
 miss-fails ws r b passed v j t p e =
     let first = ((j.miss t p).0 e).1 in
     not-true-false r.tested.met (λ met. (b.tested passed).meets met first.place.0 t first.missed)

@@ -1,48 +1,45 @@
 -- The contract of the verdict of the words follows from the numbers of the table and from the model's theorem on its verdict.
-use native.Mathlib.Numerals.{add-one}
 use native.Mathlib.Omega.{arith}
 use mathlib.Core.Path.{◌≡◌, refl, sym, ap, ◌∙◌, subst}
 use mathlib.Core.List.{List}
 use mathlib.Core.Logic.{◌⊎◌, ◌↔◌, inl, inr, ⊎_elim}
-use Prim.Native.Nat.{ℕ, zero, suc, ◌+◌, ◌≤◌}
-use Rattle.model.specs.Task.{Table, Rule, greedy, limited, idling, lending, ruleOf}
+use Prim.Native.Nat.{ℕ, zero, suc, ◌≤◌}
+use Rattle.model.specs.Task.{Table, Rule, greedy, limited, idling, lending, rule_of}
 use Rattle.model.specs.Lists.{NeverMissed}
 use Rattle.model.specs.Firm.{FirmRule}
 use Rattle.model.specs.Verdict.{Exact, verdict}
 use Rattle.model.specs.Verdict as model
 use Rattle.model.proofs.Verdict.{verdict-exact}
 use Rattle.table.specs.declared.Answer.{Answer}
-use Rattle.table.specs.declared.Answer.TheVariants.{Taken}
+use Rattle.table.specs.declared.Answer.TheVariants.{Passed}
 use Rattle.table.specs.declared.Answer.TheVariants as table
 use Rattle.table.specs.declared.Loaded.{Loaded}
 use Rattle.table.specs.Words.{rule, table_of}
 use Rattle.table.specs.Numbers.{NoneApplies}
 use Rattle.table.specs.Answer.{answer_of}
-use Rattle.table.specs.AnswerMeaning.{answerMeaning}
-use Rattle.table.specs.Load.{LoadOf}
+use Rattle.table.specs.Load.{LoadOf, load_meaning}
 use Rattle.table.proofs.Exact.{refusal-exact, passed-exact}
 use Rattle.table.proofs.Passed.{passed-rule, passed-valid}
 use Rattle.table.proofs.Fit.{fit, same-table}
 use Rattle.judge.specs.declared.Verdict.{Verdict}
 use Rattle.judge.specs.declared.Verdict.TheVariants.{Firm, Full, Miss, Refused}
-use Rattle.judge.specs.declared.Missed.{Missed}
-use Rattle.judge.specs.JudgeAnswer.{JudgeAnswer, judged, verdictMeaning, verdictCase}
+use Rattle.judge.specs.JudgeAnswer.{JudgeAnswer, judged, verdict_meaning, verdict_case}
 use Rattle.judge.specs.JudgeAnswer as meaning
-use Rattle.table.specs.Fit.{loadedTable}
-use Rattle.judge.specs.Judged.{judgedBy, verdictOf, FirmWords, Judged, acceptedOf}
-use Rattle.judge.specs.FirstMiss.{missedBefore, MissedOf, byMiss}
+use Rattle.table.specs.Fit.{loaded_table}
+use Rattle.judge.specs.Judged.{judged_by, verdict_of, FirmWords, Judged, accepted_of}
+use Rattle.judge.specs.FirstMiss.{missed_before, by_miss}
 use Rattle.judge.proofs.FirstMiss.{verdict-by}
 
 -- THE CASES OF THE ANSWER
 
 -- the case of a meaning has that meaning, and a case is that of its meaning
-pub meaning-case : (x : JudgeAnswer) → verdictMeaning (verdictCase x) ≡ x
+pub meaning-case : (x : JudgeAnswer) → verdict_meaning (verdict_case x) ≡ x
 meaning-case (judged (model.Firm a b)) = refl
 meaning-case (judged (model.Full a b)) = refl
 meaning-case (judged (model.Miss a b)) = refl
 meaning-case (meaning.refused n p) = refl
 
-pub case-meaning : (v : Verdict) → verdictCase (verdictMeaning v) ≡ v
+pub case-meaning : (v : Verdict) → verdict_case (verdict_meaning v) ≡ v
 case-meaning (Firm a b) = refl
 case-meaning (Full a b) = refl
 case-meaning (Miss a b) = refl
@@ -57,9 +54,9 @@ not-refused e = let z : ◌≡◌ {A = ℕ} 0 1 = cc in omega arith
 
 -- THE CONDITION FOR FIRM, by the rule's number
 
-rule-of : (ws : List ℕ) (n : ℕ) → rule ws ≡ n → (table_of ws).rule ≡ ruleOf n
+rule-of : (ws : List ℕ) (n : ℕ) → rule ws ≡ n → (table_of ws).rule ≡ rule_of n
 unfolding table_of
-rule-of ws n e = ap ruleOf e
+rule-of ws n e = ap rule_of e
 
 pub firm-words : (ws : List ℕ) → NoneApplies ws → FirmRule (table_of ws) ↔ FirmWords ws
 firm-words ws none = (says, found)
@@ -93,16 +90,16 @@ firm-words ws none = (says, found)
 
 -- THE CONTRACT
 
-pub passed_is : (ws : List ℕ) → answer_of ws ≡ Taken → verdictOf ws ≡ verdictCase (judged (verdict (table_of ws)))
-unfolding verdictOf
-passed_is ws e = ap (λ (a : Answer). verdictCase (judgedBy a (table_of ws))) e
+pub passed_is : (ws : List ℕ) → answer_of ws ≡ Passed → verdict_of ws ≡ verdict_case (judged (verdict (table_of ws)))
+unfolding verdict_of
+passed_is ws e = ap (λ (a : Answer). verdict_case (judged_by a (table_of ws))) e
 
-pub refused-is : (ws : List ℕ) (n p : ℕ) → answer_of ws ≡ table.Refused n p → verdictOf ws ≡ Refused n p
-unfolding verdictOf
-refused-is ws n p e = ap (λ (a : Answer). verdictCase (judgedBy a (table_of ws))) e
+pub refused-is : (ws : List ℕ) (n p : ℕ) → answer_of ws ≡ table.Refused n p → verdict_of ws ≡ Refused n p
+unfolding verdict_of
+refused-is ws n p e = ap (λ (a : Answer). verdict_case (judged_by a (table_of ws))) e
 
 -- words that pass
-by-passed : (ws : List ℕ) → answer_of ws ≡ Taken → Judged ws (verdictOf ws)
+by-passed : (ws : List ℕ) → answer_of ws ≡ Passed → Judged ws (verdict_of ws)
 by-passed ws e = record {
   value = refl;
   refused = λ n p. (λ q. absurd (not-refused (sym is ∙ q)), λ f. absurd (none n p f.0));
@@ -131,23 +128,23 @@ by-passed ws e = record {
     none : NoneApplies ws
     none = (passed-exact ws).0 e
 
-    is : verdictMeaning (verdictOf ws) ≡ judged (verdict s)
-    is = ap verdictMeaning (passed_is ws e) ∙ meaning-case (judged (verdict s))
+    is : verdict_meaning (verdict_of ws) ≡ judged (verdict s)
+    is = ap verdict_meaning (passed_is ws e) ∙ meaning-case (judged (verdict s))
 
     exact : Exact s (verdict s)
     exact = verdict-exact s (passed-valid ws none)
 
-    x-never : (a b : ℕ) → (verdictMeaning (verdictOf ws) ≡ judged (model.Firm a b)) ⊎ (verdictMeaning (verdictOf ws) ≡ judged (model.Full a b)) → NeverMissed s
+    x-never : (a b : ℕ) → (verdict_meaning (verdict_of ws) ≡ judged (model.Firm a b)) ⊎ (verdict_meaning (verdict_of ws) ≡ judged (model.Full a b)) → NeverMissed s
     x-never a b (inl q) = exact.accepted.0 (a, b, inl (same-verdict (sym is ∙ q)))
     x-never a b (inr q) = exact.accepted.0 (a, b, inr (same-verdict (sym is ∙ q)))
 
 -- words that a number turns down
-by-refused : (ws : List ℕ) (m q : ℕ) → answer_of ws ≡ table.Refused m q → Judged ws (verdictOf ws)
+by-refused : (ws : List ℕ) (m q : ℕ) → answer_of ws ≡ table.Refused m q → Judged ws (verdict_of ws)
 by-refused ws m q e = record {
   value = refl;
   refused = λ n p. (
     λ x. (refusal-exact ws n p).0 (e ∙ same n p (sym is ∙ x)),
-    λ f. ap verdictMeaning (refused-is ws n p ((refusal-exact ws n p).1 f)),
+    λ f. ap verdict_meaning (refused-is ws n p ((refusal-exact ws n p).1 f)),
   );
   accepted = (λ x. absurd (neither x.0 x.1 x.2), λ y. absurd (some y.0));
   miss = λ t p. (λ x. absurd (not-refused (sym x ∙ is)), λ y. absurd (some y.0));
@@ -155,8 +152,8 @@ by-refused ws m q e = record {
   full = λ a b. (λ x. absurd (not-refused (sym x ∙ is)), λ y. absurd (some y.0));
 }
   where
-    is : verdictMeaning (verdictOf ws) ≡ meaning.refused m q
-    is = ap verdictMeaning (refused-is ws m q e)
+    is : verdict_meaning (verdict_of ws) ≡ meaning.refused m q
+    is = ap verdict_meaning (refused-is ws m q e)
 
     some : ¬ NoneApplies ws
     some none = none m q ((refusal-exact ws m q).0 e).0
@@ -164,36 +161,30 @@ by-refused ws m q e = record {
     same : (n p : ℕ) → meaning.refused m q ≡ meaning.refused n p → table.Refused m q ≡ table.Refused n p
     same n p x = cc
 
-    neither : (a b : ℕ) → ¬ ((verdictMeaning (verdictOf ws) ≡ judged (model.Firm a b)) ⊎ (verdictMeaning (verdictOf ws) ≡ judged (model.Full a b)))
+    neither : (a b : ℕ) → ¬ ((verdict_meaning (verdict_of ws) ≡ judged (model.Firm a b)) ⊎ (verdict_meaning (verdict_of ws) ≡ judged (model.Full a b)))
     neither a b (inl x) = not-refused (sym x ∙ is)
     neither a b (inr x) = not-refused (sym x ∙ is)
 
 -- THE THEOREM: the verdict of the words meets its contract
-pub judged-exact : (ws : List ℕ) → Judged ws (verdictOf ws)
+pub judged-exact : (ws : List ℕ) → Judged ws (verdict_of ws)
 judged-exact ws = go (answer_of ws) refl
   where
-    go : (a : Answer) → answer_of ws ≡ a → Judged ws (verdictOf ws)
-    go Taken e = by-passed ws e
+    go : (a : Answer) → answer_of ws ≡ a → Judged ws (verdict_of ws)
+    go Passed e = by-passed ws e
     go (table.Refused n p) e = by-refused ws n p e
 
 -- THE VERDICT on a table that was loaded
 
 -- one that passed has the verdict of the words
 pub run_value :
-    (ws : List ℕ) (r : Loaded) → LoadOf ws r → r.answer ≡ Taken → (v : Verdict)
-    → v ≡ byMiss (missedBefore (loadedTable r) (suc r.horizon)) (acceptedOf r) → Judged ws v
+    (ws : List ℕ) (r : Loaded) → LoadOf ws r → r.answer ≡ Passed → (v : Verdict)
+    → v ≡ by_miss (missed_before (loaded_table r) (suc r.horizon)) (accepted_of r) → Judged ws v
 run_value ws r l e v q =
     subst (Judged ws)
-    (passed_is ws ((passed-exact ws).1 (l.passed.0 (ap answerMeaning e)))
-    ∙ (ap (λ (s : Table). verdictCase (judged (verdict s))) (sym (same-table ws r l e)) ∙ sym (q ∙ verdict-by r (fit ws r l e))))
+    (passed_is ws ((passed-exact ws).1 (l.passed.0 (ap load_meaning e)))
+    ∙ (ap (λ (s : Table). verdict_case (judged (verdict s))) (sym (same-table ws r l e)) ∙ sym (q ∙ verdict-by r (fit ws r l e))))
     (judged-exact ws)
-
--- .. by the first miss that is found up to and including the horizon
-pub found-value :
-    (ws : List ℕ) (r : Loaded) → LoadOf ws r → r.answer ≡ Taken → (m : Missed) (v : Verdict)
-    → MissedOf (loadedTable r) (r.horizon + 1) m → v ≡ byMiss m (acceptedOf r) → Judged ws v
-found-value ws r l e m v f q = run_value ws r l e v (rw (q, f.value, add-one))
 
 -- a refusal is the verdict of the words
 pub refused-value : (ws : List ℕ) (r : Loaded) → LoadOf ws r → (n p : ℕ) → r.answer ≡ table.Refused n p → Judged ws (Refused n p)
-refused-value ws r l n p e = subst (Judged ws) (refused-is ws n p ((refusal-exact ws n p).1 ((l.refused n p).0 (ap answerMeaning e)))) (judged-exact ws)
+refused-value ws r l n p e = subst (Judged ws) (refused-is ws n p ((refusal-exact ws n p).1 ((l.refused n p).0 (ap load_meaning e)))) (judged-exact ws)

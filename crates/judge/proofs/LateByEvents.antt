@@ -8,7 +8,7 @@ use native.Mathlib.Omega.{arith}
 use lib.Bits.{bit_and, and_le_r}
 use lib.ListN.{length, get_or}
 use lib.Dec.{eqb}
-use borrow.Author.Tests.{eqb-true, eqb-false}
+use borrow.Author.Tests.{eqb-true}
 use Rattle.model.specs.Search.{bit}
 use Rattle.model.specs.Task.{Table, task}
 use Rattle.model.specs.Lists.{full, Missed}
@@ -18,12 +18,12 @@ use Rattle.model.proofs.Digits.{bit-none, and-bit}
 use Rattle.model.proofs.Runs.{missed-at}
 use Rattle.table.specs.declared.Loaded.{Loaded}
 use Rattle.simulation.specs.Machine.{Machine}
-use Rattle.table.specs.Fit.{loadedTable, Fit}
+use Rattle.table.specs.Fit.{loaded_table, Fit}
 use Rattle.simulation.specs.EventState.{EventState, StateRepresents}
 use Rattle.simulation.proofs.DuePlaces.{due-small}
 use Rattle.simulation.proofs.JumpLands.{due-exact, due-inside, missed-due}
 use Rattle.simulation.proofs.Handled.{late-has}
-use Rattle.model.proofs.SetWalk.{lowest, others, Off, off-turn}
+use Rattle.simulation.proofs.SetWalk.{lowest, others, Off, off-turn}
 use Rattle.simulation.proofs.Represents.{none_left}
 
 -- what is left of the due places to be handled: the others have no tick left
@@ -48,11 +48,15 @@ module _ (m : Machine) (due rest : ℕ) (h : RemainingDue m due rest) (some : 0 
       go q e f true x =
           let z : get_or m.left (lowest rest) 0 ≡ 0 = omega arith in
           ap (λ (p : ℕ). get_or m.left p 0) (eqb-true q (lowest rest) x) ∙ z
-      go q e f false x = h.seen q e (sym (at-lowest.unmoved q (eqb-false q (lowest rest) x)) ∙ f)
+      go q e f false x = h.seen q e (off (bit rest q) refl)
+        where
+          off : (b : Bool) → bit rest q ≡ b → bit rest q ≡ false
+          off true y = absurd (true≢false (sym (at-lowest.bits q ∙ rw (y, x)) ∙ f))
+          off false y = y
 
 module _ (t : Loaded) (fit : Fit t) (s : EventState) (h : StateRepresents t s) where
   abbrev book : Table
-  book = loadedTable t
+  book = loaded_table t
 
   -- at first the due places that do not claim are left out: they have no tick left
   pub walk_begins : RemainingDue s.machine s.due (bit_and s.machine.claiming s.due)

@@ -7,7 +7,6 @@ pub mod LateByEvents
 pub mod FirstMiss
 pub mod ByJumps
 pub mod OneStep
-pub mod ToEvent
 pub mod Contract
 pub mod OffChain
 pub mod Fence

@@ -10,15 +10,15 @@ pub data JudgeAnswer : Type 0 where
   refused : ℕ → ℕ → JudgeAnswer
 
 -- the meaning of each case of the answer
-abbrev pub verdictMeaning : Verdict → JudgeAnswer
-verdictMeaning (Firm s p) = judged (model.Firm s p)
-verdictMeaning (Full s p) = judged (model.Full s p)
-verdictMeaning (Miss t p) = judged (model.Miss t p)
-verdictMeaning (Refused n p) = refused n p
+abbrev pub verdict_meaning : Verdict → JudgeAnswer
+verdict_meaning (Firm s p) = judged (model.Firm s p)
+verdict_meaning (Full s p) = judged (model.Full s p)
+verdict_meaning (Miss t p) = judged (model.Miss t p)
+verdict_meaning (Refused n p) = refused n p
 
 -- the case with this meaning: the inverse (`meaning-case`, `case-meaning`)
-abbrev pub verdictCase : JudgeAnswer → Verdict
-verdictCase (judged (model.Firm s p)) = Firm s p
-verdictCase (judged (model.Full s p)) = Full s p
-verdictCase (judged (model.Miss t p)) = Miss t p
-verdictCase (refused n p) = Refused n p
+abbrev pub verdict_case : JudgeAnswer → Verdict
+verdict_case (judged (model.Firm s p)) = Firm s p
+verdict_case (judged (model.Full s p)) = Full s p
+verdict_case (judged (model.Miss t p)) = Miss t p
+verdict_case (refused n p) = Refused n p

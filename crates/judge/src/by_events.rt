@@ -2,8 +2,8 @@
 ghost use Rattle.std.specs.Prelude.{◌+◌, ◌≤◌};
 ghost use Rattle.table.specs.declared.Loaded.{Loaded};
 ghost use Rattle.table.specs.Fit.{Fit};
-ghost use Rattle.simulation.specs.TickState.{numbersBy};
-ghost use Rattle.simulation.specs.EventState.{eventStateOf};
+ghost use Rattle.simulation.specs.TickState.{numbers_by};
+ghost use Rattle.simulation.specs.EventState.{event_state_of};
 ghost use Rattle.judge.specs.FirstMiss.{MissedByJumps};
 ghost use Rattle.judge.specs.Judged.{Judged};
 ghost use Rattle.judge.specs.RunOn.{JumpsBegin, JumpsRun};
@@ -32,9 +32,9 @@ pub fn run_on(
     places: &mut [u32; TRIPLE],
     end: u32,
 ) -> Ran
-    requires { (t : Loaded) × JumpsBegin t (numbersBy setting widths.now times.now) (eventStateOf start places.old) end }
-    ensures { JumpsRun (numbersBy setting widths.now times.now) (eventStateOf start places.old) end
-        result.missed (eventStateOf result.registers places.new) }
+    requires { (t : Loaded) × JumpsBegin t (numbers_by setting widths.now times.now) (event_state_of start places.old) end }
+    ensures { JumpsRun (numbers_by setting widths.now times.now) (event_state_of start places.old) end
+        result.missed (event_state_of result.registers places.new) }
 {
     let mut registers = start;
     'jumps: loop {

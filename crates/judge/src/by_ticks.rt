@@ -1,8 +1,8 @@
 // The full-length run of a table that passed, tick by tick, up to its first missed deadline.
 ghost use Rattle.std.specs.Prelude.{◌+◌, ◌≤◌};
 ghost use Rattle.table.specs.declared.Loaded.{Loaded};
-ghost use Rattle.table.specs.Fit.{loadedTable, Fit};
-ghost use Rattle.simulation.specs.TickState.{numbersBy, tickStateOf};
+ghost use Rattle.table.specs.Fit.{loaded_table, Fit};
+ghost use Rattle.simulation.specs.TickState.{numbers_by, tick_state_of};
 ghost use Rattle.judge.specs.FirstMiss.{MissedOf};
 ghost use Rattle.judge.specs.Judged.{Judged};
 ghost use Rattle.judge.specs.RunOn.{TicksBegin, TicksRun};
@@ -21,8 +21,8 @@ pub struct Ran {
     pub missed: Missed,
 }
 
-// The full-length run from a tick on, to tick `end` or to the first deadline that it misses before. Of all that `query` links,
-// this loop alone calls `step`, which is then compiled into it.
+// The full-length run from a tick on, to tick `end` or to the first deadline that it misses before. All that goes tick by tick in a program goes through this
+// loop: it is the only one that calls `step`, which is then compiled into it.
 pub fn run_on(
     setting: Setting,
     widths: &[u32; PAIR],
@@ -31,9 +31,9 @@ pub fn run_on(
     places: &mut [u32; TRIPLE],
     end: u32,
 ) -> Ran
-    requires { (t : Loaded) × TicksBegin t (numbersBy setting widths.now times.now) (tickStateOf start places.old) end }
-    ensures { TicksRun (numbersBy setting widths.now times.now) (tickStateOf start places.old) end
-        result.missed (tickStateOf result.registers places.new) }
+    requires { (t : Loaded) × TicksBegin t (numbers_by setting widths.now times.now) (tick_state_of start places.old) end }
+    ensures { TicksRun (numbers_by setting widths.now times.now) (tick_state_of start places.old) end
+        result.missed (tick_state_of result.registers places.new) }
 {
     let mut registers = start;
     'ticks: loop {
@@ -64,7 +64,7 @@ pub fn run_on(
 // The first deadline that the full-length run misses before tick `end`, at equal ticks the first in priority.
 pub fn first_miss(table: Loaded, end: u32) -> Missed
     requires { Fit table × (end ≤ table.horizon + 1) }
-    ensures { MissedOf (loadedTable table) end result }
+    ensures { MissedOf (loaded_table table) end result }
 {
     let columns = simulation::columns::columns_of(table);
     let setting = columns.setting;

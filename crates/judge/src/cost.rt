@@ -1,6 +1,6 @@
 // Which of the two judges is the faster one for a table.
 ghost use Rattle.std.specs.Prelude.{◌≡◌, ◌≤◌};
-ghost use Rattle.judge.specs.Cost.{jobsOf, eventCost, tickCost, ticksCheaper};
+ghost use Rattle.judge.specs.Cost.{jobs_of, event_cost, tick_cost, ticks_cheaper};
 
 use model::MOST_TASKS;
 use table::{Loaded, Task};
@@ -19,7 +19,7 @@ const CONSTRAINED_DEADLINE: u32 = 36;
 
 // The jobs of a task in the sample; none where there is no task.
 fn jobs_of(task: Task) -> u32
-    ensures { (result ≡ jobsOf task) × (result ≤ 1000000) }
+    ensures { (result ≡ jobs_of task) × (result ≤ 1000000) }
 {
     let period = task.period;
     if period == 0 {
@@ -30,7 +30,7 @@ fn jobs_of(task: Task) -> u32
 
 // The cost of a task for the event judge.
 fn event_cost(task: Task) -> u32
-    ensures { (result ≡ eventCost task) × (result ≤ 36000000) }
+    ensures { (result ≡ event_cost task) × (result ≤ 36000000) }
 {
     let jobs = jobs_of(task);
     let deadline = task.deadline;
@@ -43,15 +43,15 @@ fn event_cost(task: Task) -> u32
 
 // Its cost for the tick judge.
 fn tick_cost(task: Task) -> u64
-    ensures { (result ≡ tickCost task) × (result ≤ 4294967296000000) }
+    ensures { (result ≡ tick_cost task) × (result ≤ 4294967296000000) }
 {
     let jobs = jobs_of(task);
     jobs as u64 * task.length as u64
 }
 
 // Whether the tick judge is the faster one.
-pub fn ticks_cheaper(table: Loaded) -> bool
-    ensures { result ≡ ticksCheaper table }
+pub(crate) fn ticks_cheaper(table: Loaded) -> bool
+    ensures { result ≡ ticks_cheaper table }
 {
     let tasks = table.tasks;
     let mut work: u64 = 0;

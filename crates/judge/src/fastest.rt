@@ -2,7 +2,7 @@
 // Else the faster of the two judges answers. The choice depends on the table alone: on the number of events of its tasks in a sample of
 // ticks. Where nearly every tick is an event, the tick judge is faster, else the event judge.
 ghost use Rattle.std.specs.Prelude.{◌+◌, ◌≤◌};
-ghost use Rattle.table.specs.Fit.{loadedTable, Fit};
+ghost use Rattle.table.specs.Fit.{loaded_table, Fit};
 ghost use Rattle.judge.specs.FirstMiss.{MissedOf};
 
 use crate::Missed;
@@ -11,7 +11,7 @@ use table::Loaded;
 // The first deadline that the full-length run misses before tick `end`, at equal ticks the first in priority.
 pub fn first_miss(table: Loaded, end: u32) -> Missed
     requires { Fit table × (end ≤ table.horizon + 1) }
-    ensures { MissedOf (loadedTable table) end result }
+    ensures { MissedOf (loaded_table table) end result }
 {
     let tested = interference::test(table);
     if tested.met {

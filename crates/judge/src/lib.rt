@@ -1,19 +1,19 @@
 // The verdict on a table's words, from its full-length run: tick by tick, event by event, or by the fastest way.
-ghost use Rattle.std.specs.Prelude.{◌≡◌, ◌+◌, suc, ◌≤◌};
-ghost use Rattle.model.specs.Task.{ruleOf};
-ghost use Rattle.model.specs.Firm.{parallelismMonotonic, firm};
-ghost use Rattle.model.specs.Sizes.{mostTasks};
-ghost use Rattle.table.specs.Task.{tasksOf};
-ghost use Rattle.table.specs.Fit.{loadedTable, Fit};
-ghost use Rattle.judge.specs.FirstMiss.{MissedOf, missedBefore, byMiss};
-ghost use Rattle.judge.specs.Judged.{Judged, acceptedOf};
+ghost use Rattle.std.specs.Prelude.{◌≡◌, ◌+◌, suc, ◌≤◌, max, min};
+ghost use Rattle.model.specs.Task.{rule_of};
+ghost use Rattle.model.specs.Firm.{parallelism_monotonic, firm};
+ghost use Rattle.model.specs.Sizes.{most_tasks};
+ghost use Rattle.table.specs.Task.{tasks_of};
+ghost use Rattle.table.specs.Fit.{loaded_table, Fit};
+ghost use Rattle.judge.specs.FirstMiss.{MissedOf, missed_before, by_miss};
+ghost use Rattle.judge.specs.Judged.{Judged, accepted_of};
 
-use model::{MOST_TASKS, extremes, rules};
+use model::MOST_TASKS;
 use table::{Answer, Loaded, Task};
 
 pub mod by_events; // by_events.rt: the first miss, from event to event
 pub mod by_ticks; // by_ticks.rt: the first miss, tick by tick
-pub mod cost; // cost.rt: which of the two is the faster one for a table
+mod cost; // cost.rt: which of the two is the faster one for a table
 pub mod fastest; // fastest.rt: the first miss, by the interference test or by the faster of the two
 
 // The judge's answer: Firm with S and P, Full with S and P, Miss with tick and position, or Refused with number and position.
@@ -40,18 +40,30 @@ pub enum Way {
     Fastest,
 }
 
+// The larger of a task's two widths.
+pub fn wider(a: u32, b: u32) -> u32
+    ensures { result ≡ max a b }
+{
+    if a < b { b } else { a }
+}
+
+// The smaller of a task's two widths.
+pub fn narrower(a: u32, b: u32) -> u32
+    ensures { result ≡ min a b }
+{
+    if a < b { a } else { b }
+}
+
 // Whether widths never fall along the first `count` tasks: the larger of each is at most the smaller of the next.
 fn parallelism_monotonic(tasks: [Task; MOST_TASKS], count: usize) -> bool
-    requires { count ≤ mostTasks }
-    ensures { result ≡ parallelismMonotonic (tasksOf tasks count) }
+    requires { count ≤ most_tasks }
+    ensures { result ≡ parallelism_monotonic (tasks_of tasks count) }
 {
     let mut i: usize = 1;
     while i < count {
         let above = tasks[i - 1];
         let here = tasks[i];
-        if extremes::smaller(here.width, here.second)
-            < extremes::larger(above.width, above.second)
-        {
+        if narrower(here.width, here.second) < wider(above.width, above.second) {
             return false;
         }
         i += 1;
@@ -62,19 +74,19 @@ fn parallelism_monotonic(tasks: [Task; MOST_TASKS], count: usize) -> bool
 // Whether the rule and the widths of the first `count` tasks are firm, that is predictable for shorter jobs too: rules 2, 3 and 4, and any other where widths
 // never fall. The verdict tests it of a table, number 21 of a run.
 pub fn is_firm(rule: u32, tasks: [Task; MOST_TASKS], count: usize) -> bool
-    requires { count ≤ mostTasks }
-    ensures { result ≡ firm (ruleOf rule) (tasksOf tasks count) }
+    requires { count ≤ most_tasks }
+    ensures { result ≡ firm (rule_of rule) (tasks_of tasks count) }
 {
-    if (rules::LIMITED <= rule) & (rule <= rules::LENDING) {
+    if (2 <= rule) & (rule <= 4) {
         return true;
     }
     parallelism_monotonic(tasks, count)
 }
 
 // The verdict on a table that misses no deadline.
-fn accepted(table: Loaded) -> Verdict
-    requires { table.count ≤ mostTasks }
-    ensures { result ≡ acceptedOf table }
+pub fn accepted(table: Loaded) -> Verdict
+    requires { table.count ≤ most_tasks }
+    ensures { result ≡ accepted_of table }
 {
     let tasks = table.tasks;
     if is_firm(table.rule, tasks, table.count) {
@@ -84,9 +96,9 @@ fn accepted(table: Loaded) -> Verdict
 }
 
 // The verdict on a table by the first miss of its full-length run up to and including the horizon: that miss, or accepted.
-pub fn verdict_by(table: Loaded, missed: Missed) -> Verdict
-    requires { table.count ≤ mostTasks }
-    ensures { result ≡ byMiss missed (acceptedOf table) }
+fn verdict_by(table: Loaded, missed: Missed) -> Verdict
+    requires { table.count ≤ most_tasks }
+    ensures { result ≡ by_miss missed (accepted_of table) }
 {
     match missed {
         Missed::Never => accepted(table),
@@ -97,7 +109,7 @@ pub fn verdict_by(table: Loaded, missed: Missed) -> Verdict
 // The first deadline that the full-length run misses before tick `end`, at equal ticks the first in priority: found in this way.
 fn first_miss_by(way: Way, table: Loaded, end: u32) -> Missed
     requires { Fit table × (end ≤ table.horizon + 1) }
-    ensures { MissedOf (loadedTable table) end result }
+    ensures { MissedOf (loaded_table table) end result }
 {
     match way {
         Way::Ticks => by_ticks::first_miss(table, end),
@@ -113,7 +125,7 @@ pub fn judge_by(way: Way, words: &[u32]) -> Verdict
     let table = table::load(words);
     let answer = table.answer;
     match answer {
-        Answer::Taken => {
+        Answer::Passed => {
             let missed = first_miss_by(way, table, table.horizon + 1);
             verdict_by(table, missed)
         }

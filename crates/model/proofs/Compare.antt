@@ -16,7 +16,7 @@ use Rattle.model.proofs.Jobs.{mk}
 use Rattle.model.proofs.Runs.{BookBounds, WholeBook, bounds-book, whole-empty}
 use Rattle.model.specs.Jobs.{Book, Job}
 use Rattle.model.specs.Advance.{Entry}
-use Rattle.model.specs.Lists.{book, noReports}
+use Rattle.model.specs.Lists.{book, no_reports}
 use Rattle.model.specs.Compare.{Behind, FullLongest, Sustainable, Longer, NoneLonger, behind, longer}
 use Rattle.model.specs.Task.{AllValid, Table, greedy}
 use Rattle.model.specs.Verdict.{Full, verdict}
@@ -143,23 +143,22 @@ none-longer s a b good whole p k l (e, x) = go x
 
 -- THE THEOREM: under every rule, Firm or not, no book is longer than the full-length one
 pub full-longest : (s : Table) → AllValid s → FullLongest s
-full-longest s ok xs n = none-longer s (book s xs) (book s (replicate n noReports)) (bounds-book s ok xs) (whole-empty s n)
+full-longest s ok xs n = none-longer s (book s xs) (book s (replicate n no_reports)) (bounds-book s ok xs) (whole-empty s n)
 
 -- B UNDER GREEDY
 
 valid-B : AllValid (B greedy)
 valid-B zero l = record { odd_pos = omega arith; even-pos = omega arith; length-pos = omega arith; deadline-pos = omega arith; constrained = omega arith }
 valid-B (suc zero) l = record { odd_pos = omega arith; even-pos = omega arith; length-pos = omega arith; deadline-pos = omega arith; constrained = omega arith }
-valid-B (suc (suc zero)) l =
-    record { odd_pos = omega arith; even-pos = omega arith; length-pos = omega arith; deadline-pos = omega arith; constrained = omega arith }
+valid-B (suc (suc zero)) l = record { odd_pos = omega arith; even-pos = omega arith; length-pos = omega arith; deadline-pos = omega arith; constrained = omega arith }
 valid-B (suc (suc (suc p))) l = absurd (omega arith)
 
 -- position 1 reported in tick 0, and the same ticks at full length
 abbrev one-reported : List Entry
-one-reported = reports 1 ∷ noReports ∷ []
+one-reported = reports 1 ∷ no_reports ∷ []
 
 abbrev none-reported : List Entry
-none-reported = noReports ∷ noReports ∷ []
+none-reported = no_reports ∷ no_reports ∷ []
 
 -- at tick 2 the job of position 3 has ended at full length, and has had one tick where position 1 was reported in tick 0
 pub B-behind : Behind ((book (B greedy) one-reported).job 2 0) ((book (B greedy) none-reported).job 2 0)

@@ -9,22 +9,22 @@ use lib.Dec.{eqb}
 use lib.ListN.{get_or, length}
 use borrow.Author.Tests.{eq-eqb}
 use Rattle.model.specs.Firm.{ParallelismMonotonic}
-use Rattle.model.specs.Task.{Task, cycle, absentTask, width_of}
+use Rattle.model.specs.Task.{Task, cycle, absent_task, width_of}
 
-pub equal-width : (τ : Task) → τ.oddWidth ≡ τ.evenWidth → (k : ℕ) → width_of τ k ≡ τ.oddWidth
+pub equal-width : (τ : Task) → τ.odd_width ≡ τ.even_width → (k : ℕ) → width_of τ k ≡ τ.odd_width
 equal-width τ e k = go (eqb (k % 2) 0)
   where
-    go : (b : Bool) → cond b τ.oddWidth τ.evenWidth ≡ τ.oddWidth
+    go : (b : Bool) → cond b τ.odd_width τ.even_width ≡ τ.odd_width
     go true = omega arith
     go false = sym e
 
-pub equal-cycle : (τ : Task) → τ.oddWidth ≡ τ.evenWidth → cycle τ ≡ τ.period
-equal-cycle τ e = rw (eq-eqb τ.oddWidth τ.evenWidth e)
+pub equal-cycle : (τ : Task) → τ.odd_width ≡ τ.even_width → cycle τ ≡ τ.period
+equal-cycle τ e = rw (eq-eqb τ.odd_width τ.even_width e)
 
 -- each width is at most the next
 pub equal-monotonic :
-    (τs : List Task) → ((p : ℕ) → p < length τs → (get_or τs p absentTask).oddWidth ≡ (get_or τs p absentTask).evenWidth)
-    → ParallelismMonotonic τs ↔ ((p : ℕ) → suc p < length τs → (get_or τs p absentTask).oddWidth ≤ (get_or τs (suc p) absentTask).oddWidth)
+    (τs : List Task) → ((p : ℕ) → p < length τs → (get_or τs p absent_task).odd_width ≡ (get_or τs p absent_task).even_width)
+    → ParallelismMonotonic τs ↔ ((p : ℕ) → suc p < length τs → (get_or τs p absent_task).odd_width ≤ (get_or τs (suc p) absent_task).odd_width)
 equal-monotonic τs e = (
   (λ h p l. omega (arith, h p l, e p (omega arith), e (suc p) l)),
   (λ h p l. omega (arith, h p l, e p (omega arith), e (suc p) l)),

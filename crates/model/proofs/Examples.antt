@@ -6,31 +6,31 @@ use mathlib.Core.List.{List, [], map, ◌∷◌}
 use mathlib.Core.Path.{refl, ◌≡◌}
 use Prim.Native.Nat.{ℕ}
 use Prim.Native.String.{String}
-use Rattle.model.proofs.Computing.{Computes, Equal, computing}
-use Rattle.model.specs.Jobs.{emptyBook, fresh}
+use Rattle.model.proofs.Computing.{computing}
+use Rattle.model.specs.Jobs.{empty_book, fresh}
 use Rattle.model.specs.Claims.{claims}
 use Rattle.model.specs.Advance.{Entry, advance}
-use Rattle.model.specs.Refusals.{Answer, Asked, refused, rowRefused, shown, taken}
-use Rattle.model.specs.Lists.{answersFrom, rows_from, taken_of}
-use Rattle.model.specs.Fence.{unfencedTable, spread}
+use Rattle.model.specs.Refusals.{Answer, Asked, refused, row_refused, shown, taken}
+use Rattle.model.specs.Lists.{answers_from, rows_from, taken_of}
+use Rattle.model.specs.Fence.{unfenced_table, spread}
 use Rattle.model.specs.Search.{filtered, up_from}
 use Rattle.model.specs.Task.{Rule, Table, Task, greedy, idling, limited}
 use Rattle.model.specs.Verdict.{Firm, Full, Miss, Verdict, verdict}
 
 -- a task as (O, v, C, D, T), with both widths v; and with widths v and w
 abbrev pub t : ℕ → ℕ → ℕ → ℕ → ℕ → Task
-t o v c d p = record { offset = o; oddWidth = v; length = c; deadline = d; period = p; evenWidth = v }
+t o v c d p = record { offset = o; odd_width = v; length = c; deadline = d; period = p; even_width = v }
 
 abbrev pub t₂ : ℕ → ℕ → ℕ → ℕ → ℕ → ℕ → Task
-t₂ o v w c d p = record { offset = o; oddWidth = v; length = c; deadline = d; period = p; evenWidth = w }
+t₂ o v w c d p = record { offset = o; odd_width = v; length = c; deadline = d; period = p; even_width = w }
 
 -- a table of m cores under a rule
 abbrev pub on : ℕ → Rule → List Task → Table
 on m r τs = record { tasks = τs; cores = m; fence = 0; rule = r }
 
 -- and with a fence
-abbrev pub fencedOn : ℕ → ℕ → Rule → List Task → Table
-fencedOn m f r τs = record { tasks = τs; cores = m; fence = f; rule = r }
+abbrev pub fenced_on : ℕ → ℕ → Rule → List Task → Table
+fenced_on m f r τs = record { tasks = τs; cores = m; fence = f; rule = r }
 
 -- the tasks of A, and of B, under each rule
 abbrev pub A : Rule → Table
@@ -55,8 +55,8 @@ worked l = record {
   table = l.table;
   entries = l.entries;
   result = verdict l.table;
-  answers = answersFrom l.table emptyBook l.entries;
-  rows = rows_from l.table emptyBook l.entries;
+  answers = answers_from l.table empty_book l.entries;
+  rows = rows_from l.table empty_book l.entries;
 }
 
 -- an advance with reports alone
@@ -86,20 +86,20 @@ lines =
     (three 1 1 3 ∷ three 1 1 3 ∷ three 2 2 3 ∷ three 2 2 3 ∷ three 2 2 0 ∷ [])
     ∷ line "A2: the deadline on the horizon counts"
     (A limited) (Miss 5 3) (0 ∷ 0 ∷ 0 ∷ 0 ∷ 0 ∷ 0 ∷ []) (taken ∷ taken ∷ taken ∷ taken ∷ taken ∷ refused 15 3 ∷ [])
-    (three 1 1 0 ∷ three 1 1 0 ∷ three 2 2 3 ∷ three 2 2 3 ∷ three 2 2 3 ∷ rowRefused 15 3 ∷ rowRefused 15 3 ∷ [])
+    (three 1 1 0 ∷ three 1 1 0 ∷ three 2 2 3 ∷ three 2 2 3 ∷ three 2 2 3 ∷ row_refused 15 3 ∷ row_refused 15 3 ∷ [])
     ∷ line "A3"
     (A idling) (Firm 0 5) [] [] (three 1 1 3 ∷ [])
     ∷ line "B, with position 1 reported in tick 0: tick 1 goes to position 2, then 15 with position 3"
-    (B greedy) (Full 0 4) (1 ∷ 0 ∷ 0 ∷ []) (taken ∷ taken ∷ refused 15 3 ∷ []) (two 1 3 ∷ two 2 2 ∷ rowRefused 15 3 ∷ rowRefused 15 3 ∷ [])
+    (B greedy) (Full 0 4) (1 ∷ 0 ∷ 0 ∷ []) (taken ∷ taken ∷ refused 15 3 ∷ []) (two 1 3 ∷ two 2 2 ∷ row_refused 15 3 ∷ row_refused 15 3 ∷ [])
     ∷ line "a report for a position that is not in the row"
     (B greedy) (Full 0 4) (2 ∷ 0 ∷ []) (refused 16 0 ∷ taken ∷ []) (two 1 3 ∷ two 1 3 ∷ two 1 3 ∷ [])
     ∷ line "two positions are late at one tick: 15 with the lowest; and 15 comes before 16, for bits that may not be set"
     (on 3 greedy (t 0 1 3 3 4 ∷ t 0 3 1 4 4 ∷ t 0 1 2 2 4 ∷ t 0 1 2 2 4 ∷ [])) (Full 0 4) (1 ∷ 0 ∷ 0 ∷ 8 ∷ 16 ∷ [])
     (taken ∷ taken ∷ refused 15 3 ∷ refused 15 3 ∷ refused 15 3 ∷ [])
-    (three 1 3 4 ∷ three 2 2 2 ∷ rowRefused 15 3 ∷ rowRefused 15 3 ∷ rowRefused 15 3 ∷ rowRefused 15 3 ∷ [])
+    (three 1 3 4 ∷ three 2 2 2 ∷ row_refused 15 3 ∷ row_refused 15 3 ∷ row_refused 15 3 ∷ row_refused 15 3 ∷ [])
     ∷ line "two positions miss at one tick: the verdict names the first in priority"
     (on 1 greedy (t 0 1 1 2 2 ∷ t 0 1 2 2 2 ∷ t 0 1 1 2 2 ∷ [])) (Miss 2 2) (0 ∷ 0 ∷ 0 ∷ []) (taken ∷ taken ∷ refused 15 2 ∷ [])
-    (shown (1 ∷ []) ∷ shown (2 ∷ []) ∷ rowRefused 15 2 ∷ rowRefused 15 2 ∷ [])
+    (shown (1 ∷ []) ∷ shown (2 ∷ []) ∷ row_refused 15 2 ∷ row_refused 15 2 ∷ [])
     ∷ line "B2"
     (B limited) (Miss 2 3) [] [] (two 1 0 ∷ [])
     ∷ line "B3"
@@ -115,11 +115,11 @@ lines =
     ∷ line "E: the repeat starts at 3, not at the largest offset"
     (on 1 limited (t 1 1 1 1 2 ∷ t 0 1 1 2 3 ∷ [])) (Firm 3 6) [] [] (shown (2 ∷ []) ∷ [])
     ∷ line "F"
-    (on 1 greedy (t 0 1 2 1 2 ∷ [])) (Miss 1 1) (0 ∷ 0 ∷ []) (taken ∷ refused 15 1 ∷ []) (shown (1 ∷ []) ∷ rowRefused 15 1 ∷ rowRefused 15 1 ∷ [])
+    (on 1 greedy (t 0 1 2 1 2 ∷ [])) (Miss 1 1) (0 ∷ 0 ∷ []) (taken ∷ refused 15 1 ∷ []) (shown (1 ∷ []) ∷ row_refused 15 1 ∷ row_refused 15 1 ∷ [])
     ∷ line "A on five cores of which 0 and 3 are fenced"
-    (fencedOn 5 9 greedy (A greedy).tasks) (Full 0 5) (0 ∷ []) (taken ∷ []) (shown (255 ∷ 1 ∷ 1 ∷ 255 ∷ 3 ∷ []) ∷ shown (255 ∷ 1 ∷ 1 ∷ 255 ∷ 3 ∷ []) ∷ [])
+    (fenced_on 5 9 greedy (A greedy).tasks) (Full 0 5) (0 ∷ []) (taken ∷ []) (shown (255 ∷ 1 ∷ 1 ∷ 255 ∷ 3 ∷ []) ∷ shown (255 ∷ 1 ∷ 1 ∷ 255 ∷ 3 ∷ []) ∷ [])
     ∷ line "the same under limited, one tick before the miss"
-    (fencedOn 5 9 limited (A greedy).tasks) (Miss 5 3) [] [] (shown (255 ∷ 1 ∷ 1 ∷ 255 ∷ 0 ∷ []) ∷ [])
+    (fenced_on 5 9 limited (A greedy).tasks) (Miss 5 3) [] [] (shown (255 ∷ 1 ∷ 1 ∷ 255 ∷ 0 ∷ []) ∷ [])
     ∷ []
 
 -- every line is its value by the definitions: one table with one check
@@ -128,13 +128,21 @@ unfolding computing
 examples = refl
 
 -- A on five cores with that fence is A with just its unfenced cores, and its rows are A's spread over them; with no fence a table is itself
-pub just-open : Computes unfencedTable ((fencedOn 5 9 greedy (A greedy).tasks, A greedy) ∷ (A limited, A limited) ∷ [])
+pub just-open : unfenced_table (fenced_on 5 9 greedy (A greedy).tasks) ≡ A greedy
 unfolding filtered up_from
 just-open = refl
 
-pub spread-rows : Equal ((spread 9 5 (1 ∷ 1 ∷ 3 ∷ []), 255 ∷ 1 ∷ 1 ∷ 255 ∷ 3 ∷ []) ∷ (spread 0 3 (1 ∷ 1 ∷ 3 ∷ []), 1 ∷ 1 ∷ 3 ∷ []) ∷ [])
+pub just-all : unfenced_table (A limited) ≡ A limited
+unfolding filtered up_from
+just-all = refl
+
+pub spread_row : spread 9 5 (1 ∷ 1 ∷ 3 ∷ []) ≡ 255 ∷ 1 ∷ 1 ∷ 255 ∷ 3 ∷ []
 unfolding spread filtered up_from
-spread-rows = refl
+spread_row = refl
+
+pub spread_none : spread 0 3 (1 ∷ 1 ∷ 3 ∷ []) ≡ 1 ∷ 1 ∷ 3 ∷ []
+unfolding spread filtered up_from
+spread_none = refl
 
 -- a job released at 1 with D 3 claims in ticks 1, 2 and 3, and not when it is due at 4 or later
 pub window : map (λ n. claims greedy (t 1 1 5 3 5) 0 n fresh) (up_from 0 6) ≡ false ∷ true ∷ true ∷ true ∷ false ∷ false ∷ []

@@ -18,28 +18,28 @@ use Rattle.model.proofs.Search.{any_of, any_some}
 use Rattle.model.proofs.Starts.{Periods, S-release, hyperperiod-cycles, hyperperiod-least, hyperperiod-pos, release-first, release-from}
 use Rattle.model.specs.Jobs.{Book, Job}
 use Rattle.model.specs.Claims.{claims}
-use Rattle.model.specs.Advance.{step, advanced, Entry, advance, afterTaken}
+use Rattle.model.specs.Advance.{step, advanced, Entry, advance, after_taken}
 use Rattle.model.specs.Refusals.{Answer, answer}
-use Rattle.model.specs.Lists.{AllTaken, Missed, answersFrom, book, bookFrom}
-use Rattle.model.specs.Jobs.{emptied, emptyBook, emptyIn, endedWith}
-use Rattle.model.specs.Claims.{jobClaims}
+use Rattle.model.specs.Lists.{AllTaken, Missed, answers_from, book, book_from}
+use Rattle.model.specs.Jobs.{emptied, empty_book, empty_in, ended_with}
+use Rattle.model.specs.Claims.{job_claims}
 use Rattle.model.specs.Advance.{singleton}
-use Rattle.model.specs.Refusals.{emptiable, late, wrongEmpties, wrongReports, refused}
+use Rattle.model.specs.Refusals.{emptiable, late, wrong_empties, wrong_reports, refused}
 use Rattle.model.specs.Lists.{enter, entered, full, keep}
-use Rattle.model.specs.Claims.{taskClaims}
-use Rattle.model.specs.Advance.{withdraw, withdrawAll, withWithdrawn}
-use Rattle.model.specs.Refusals.{reportable, unknownPositions, taken}
-use Rattle.model.specs.Lists.{takenFrom, takenIn, taken_of, ticksOf}
-use Rattle.model.specs.Horizon.{Later, LeastCommonMultiple, S, hyperperiod, releaseFrom}
+use Rattle.model.specs.Claims.{task_claims}
+use Rattle.model.specs.Advance.{withdraw, withdraw_all, with_withdrawn}
+use Rattle.model.specs.Refusals.{reportable, unknown_positions, taken}
+use Rattle.model.specs.Lists.{taken_from, taken_in, taken_of, ticks_of}
+use Rattle.model.specs.Horizon.{Later, LeastCommonMultiple, S, hyperperiod, release_from}
 use Rattle.model.specs.Search.{any, bit}
 use Rattle.model.specs.Task.{AllValid, Rule, ValidTask, Table, Task, due, newest, release, task}
-use Rattle.model.specs.Verdict.{missedAt, missedIn}
+use Rattle.model.specs.Verdict.{missed_at, missed_in}
 
 -- CLAIMS
 
 -- only the newest job of a task claims ..
 pub only-newest :
-    (s : Table) → AllValid s → (b : Book) (p k : ℕ) → p < length s.tasks → jobClaims s b p k ≡ true → newest (task s p) b.tick ≡ k
+    (s : Table) → AllValid s → (b : Book) (p k : ℕ) → p < length s.tasks → job_claims s b p k ≡ true → newest (task s p) b.tick ≡ k
 only-newest s ok b p k l c =
     newest-is (task s p) k b.tick (ok p l).constrained
     (after-release s.rule (task s p) k b.tick (b.job p k) c)
@@ -48,10 +48,10 @@ only-newest s ok b p k l c =
 -- .. so a task claims exactly if some job of it does
 pub claims-exact :
     (s : Table) → AllValid s → (b : Book) (p : ℕ) → p < length s.tasks
-    → (taskClaims s b p ≡ true) ↔ ((k : ℕ) × (jobClaims s b p k ≡ true))
+    → (task_claims s b p ≡ true) ↔ ((k : ℕ) × (job_claims s b p k ≡ true))
 claims-exact s ok b p l = (
   λ e. (newest (task s p) b.tick, e),
-  λ x. subst (λ (k : ℕ). jobClaims s b p k ≡ true) (sym (only-newest s ok b p x.0 l x.1)) x.1,
+  λ x. subst (λ (k : ℕ). job_claims s b p k ≡ true) (sym (only-newest s ok b p x.0 l x.1)) x.1,
 )
 
 -- a job does not claim at its deadline or later, whatever its line
@@ -99,20 +99,20 @@ set-exact x f = (
 -- a report set is refused by 16 exactly if some bit of it, however high, is set for a position that may not be reported
 pub wrong-reports-exact :
     (s : Table) (b : Book) (x : ℕ)
-    → (wrongReports s b x ≡ true) ↔ ((p : ℕ) × (bit x p ≡ true) × (reportable s b p ≡ false))
-unfolding wrongReports
+    → (wrong_reports s b x ≡ true) ↔ ((p : ℕ) × (bit x p ≡ true) × (reportable s b p ≡ false))
+unfolding wrong_reports
 wrong-reports-exact s b x = set-exact x (reportable s b)
 
 -- and a set of empty jobs by 20, where some bit is set for a position that may not be empty
 pub wrong-empties-exact :
     (s : Table) (b : Book) (e : ℕ)
-    → (wrongEmpties s b e ≡ true) ↔ ((p : ℕ) × (bit e p ≡ true) × (emptiable s b p ≡ false))
-unfolding wrongEmpties
+    → (wrong_empties s b e ≡ true) ↔ ((p : ℕ) × (bit e p ≡ true) × (emptiable s b p ≡ false))
+unfolding wrong_empties
 wrong-empties-exact s b e = set-exact e (emptiable s b)
 
 -- and a set to be withdrawn by 22, where some bit is set for a position that is none of the table's
-pub unknown-positions-exact : (s : Table) (x : ℕ) → (unknownPositions s x ≡ true) ↔ ((p : ℕ) × (bit x p ≡ true) × (length s.tasks ≤ p))
-unfolding unknownPositions
+pub unknown-positions-exact : (s : Table) (x : ℕ) → (unknown_positions s x ≡ true) ↔ ((p : ℕ) × (bit x p ≡ true) × (length s.tasks ≤ p))
+unfolding unknown_positions
 unknown-positions-exact s x = (
   λ e. let y = (set-exact x (λ p. ltb p (length s.tasks))).0 e in (y.0, y.1, ltb-false y.0 (length s.tasks) y.2),
   λ y. (set-exact x (λ p. ltb p (length s.tasks))).1 (y.0, y.1, le-ltb y.0 (length s.tasks) y.2),
@@ -159,12 +159,12 @@ pub empty-ends :
     → (emptied s e (book s xs)).job p k ≡ mk 0 0 true
 unfolding emptied
 empty-ends s xs e p k h r =
-    rw (h, eq-eqb (release (task s p) k) (book s xs).tick r) (ap endedWith (early-book s xs p k (le_of_eq (sym r))))
+    rw (h, eq-eqb (release (task s p) k) (book s xs).tick r) (ap ended_with (early-book s xs p k (le_of_eq (sym r))))
 
 -- a deadline of place p is found missed at t exactly if it is
 pub missed-exact :
-    (s : Table) → AllValid s → (t p : ℕ) → p < length s.tasks → (missedAt s t p ≡ true) ↔ Missed s p t
-unfolding missedAt
+    (s : Table) → AllValid s → (t p : ℕ) → p < length s.tasks → (missed_at s t p ≡ true) ↔ Missed s p t
+unfolding missed_at
 missed-exact s ok t p l = (
   λ e. let x = any_some (suc t) (λ k. eqb (due (task s p) k) t && not ((full s t).job p k).ended) e in
       missed-at s p t x.0 l
@@ -179,72 +179,72 @@ missed-exact s ok t p l = (
 
 -- and at some place of the table
 pub missed-in-exact :
-    (s : Table) → AllValid s → (t : ℕ) → (missedIn s t ≡ true) ↔ ((p : ℕ) × Missed s p t)
-unfolding missedIn
+    (s : Table) → AllValid s → (t : ℕ) → (missed_in s t ≡ true) ↔ ((p : ℕ) × Missed s p t)
+unfolding missed_in
 missed-in-exact s ok t = (
-  λ e. let x = any_some (length s.tasks) (missedAt s t) e in (x.0, (missed-exact s ok t x.0 x.1).0 x.2),
-  λ x. any_of (length s.tasks) (missedAt s t) x.0 x.1.0 ((missed-exact s ok t x.0 x.1.0).1 x.1),
+  λ e. let x = any_some (length s.tasks) (missed_at s t) e in (x.0, (missed-exact s ok t x.0 x.1).0 x.2),
+  λ x. any_of (length s.tasks) (missed_at s t) x.0 x.1.0 ((missed-exact s ok t x.0 x.1.0).1 x.1),
 )
 
 -- THE LIST'S TICK is the number of advances in it that were not refused
-tick-from : (s : Table) (xs : List Entry) (b : Book) → (bookFrom s b xs).tick ≡ b.tick + takenIn xs (answersFrom s b xs)
-unfolding bookFrom answersFrom takenIn enter afterTaken step emptied
+tick-from : (s : Table) (xs : List Entry) (b : Book) → (book_from s b xs).tick ≡ b.tick + taken_in xs (answers_from s b xs)
+unfolding book_from answers_from taken_in enter after_taken step emptied
 tick-from s [] b = sym (add-zero b.tick)
 tick-from s (x ∷ xs) b = go x (answer s b x) (tick-from s xs)
   where
-    go : (x : Entry) (w : Answer) → ((b : Book) → (bookFrom s b xs).tick ≡ b.tick + takenIn xs (answersFrom s b xs))
-        → (bookFrom s (entered w (afterTaken s x b) b) xs).tick ≡ b.tick + (ticksOf x w + takenIn xs (answersFrom s (entered w (afterTaken s x b) b) xs))
-    go (advance x e) taken ih = ih (advanced s (bit x) (emptyIn b e) b) ∙ omega arith
+    go : (x : Entry) (w : Answer) → ((b : Book) → (book_from s b xs).tick ≡ b.tick + taken_in xs (answers_from s b xs))
+        → (book_from s (entered w (after_taken s x b) b) xs).tick ≡ b.tick + (ticks_of x w + taken_in xs (answers_from s (entered w (after_taken s x b) b) xs))
+    go (advance x e) taken ih = ih (advanced s (bit x) (empty_in b e) b) ∙ omega arith
     go (advance x e) (refused n p) ih = ih b ∙ omega arith
-    go (withdraw p) taken ih = ih (withWithdrawn (singleton p) b) ∙ omega arith
+    go (withdraw p) taken ih = ih (with_withdrawn (singleton p) b) ∙ omega arith
     go (withdraw p) (refused n q) ih = ih b ∙ omega arith
-    go (withdrawAll x) taken ih = ih (withWithdrawn x b) ∙ omega arith
-    go (withdrawAll x) (refused n q) ih = ih b ∙ omega arith
+    go (withdraw_all x) taken ih = ih (with_withdrawn x b) ∙ omega arith
+    go (withdraw_all x) (refused n q) ih = ih b ∙ omega arith
 
-pub tick-taken : (s : Table) (xs : List Entry) → (book s xs).tick ≡ takenIn xs (answersFrom s emptyBook xs)
-tick-taken s xs = tick-from s xs emptyBook ∙ zero-add (takenIn xs (answersFrom s emptyBook xs))
+pub tick-taken : (s : Table) (xs : List Entry) → (book s xs).tick ≡ taken_in xs (answers_from s empty_book xs)
+tick-taken s xs = tick-from s xs empty_book ∙ zero-add (taken_in xs (answers_from s empty_book xs))
 
 -- THE TAKEN ENTRIES of a list: the book of these alone is the book of the list ..
-taken-book-from : (s : Table) (xs : List Entry) (b : Book) → bookFrom s b (takenFrom s b xs) ≡ bookFrom s b xs
-unfolding bookFrom takenFrom enter
+taken-book-from : (s : Table) (xs : List Entry) (b : Book) → book_from s b (taken_from s b xs) ≡ book_from s b xs
+unfolding book_from taken_from enter
 taken-book-from s [] b = refl
 taken-book-from s (x ∷ xs) b = go (answer s b x) refl (taken-book-from s xs)
   where
-    go : (w : Answer) → answer s b x ≡ w → ((b : Book) → bookFrom s b (takenFrom s b xs) ≡ bookFrom s b xs)
-        → bookFrom s b (keep w x (takenFrom s (entered w (afterTaken s x b) b) xs)) ≡ bookFrom s (entered w (afterTaken s x b) b) xs
-    go taken e ih = ap (λ (w : Answer). bookFrom s (entered w (afterTaken s x b) b) (takenFrom s (afterTaken s x b) xs)) e ∙ ih (afterTaken s x b)
+    go : (w : Answer) → answer s b x ≡ w → ((b : Book) → book_from s b (taken_from s b xs) ≡ book_from s b xs)
+        → book_from s b (keep w x (taken_from s (entered w (after_taken s x b) b) xs)) ≡ book_from s (entered w (after_taken s x b) b) xs
+    go taken e ih = ap (λ (w : Answer). book_from s (entered w (after_taken s x b) b) (taken_from s (after_taken s x b) xs)) e ∙ ih (after_taken s x b)
     go (refused n p) e ih = ih b
 
 pub taken-book : (s : Table) (xs : List Entry) → book s (taken_of s xs) ≡ book s xs
-taken-book s xs = taken-book-from s xs emptyBook
+taken-book s xs = taken-book-from s xs empty_book
 
 -- .. each of them is taken ..
-taken-all-from : (s : Table) (xs : List Entry) (b : Book) → AllTaken s b (takenFrom s b xs)
-unfolding answersFrom takenFrom enter
+taken-all-from : (s : Table) (xs : List Entry) (b : Book) → AllTaken s b (taken_from s b xs)
+unfolding answers_from taken_from enter
 taken-all-from s [] b = refl
 taken-all-from s (x ∷ xs) b = go (answer s b x) refl (taken-all-from s xs)
   where
-    go : (w : Answer) → answer s b x ≡ w → ((b : Book) → AllTaken s b (takenFrom s b xs))
-        → AllTaken s b (keep w x (takenFrom s (entered w (afterTaken s x b) b) xs))
+    go : (w : Answer) → answer s b x ≡ w → ((b : Book) → AllTaken s b (taken_from s b xs))
+        → AllTaken s b (keep w x (taken_from s (entered w (after_taken s x b) b) xs))
     go taken e ih =
-        ap (λ (w : Answer). w ∷ answersFrom s (entered w (afterTaken s x b) b) (takenFrom s (afterTaken s x b) xs)) e
-        ∙ ap (λ (ws : List Answer). taken ∷ ws) (ih (afterTaken s x b))
+        ap (λ (w : Answer). w ∷ answers_from s (entered w (after_taken s x b) b) (taken_from s (after_taken s x b) xs)) e
+        ∙ ap (λ (ws : List Answer). taken ∷ ws) (ih (after_taken s x b))
     go (refused n p) e ih = ih b
 
-pub taken-all : (s : Table) (xs : List Entry) → AllTaken s emptyBook (taken_of s xs)
-taken-all s xs = taken-all-from s xs emptyBook
+pub taken-all : (s : Table) (xs : List Entry) → AllTaken s empty_book (taken_of s xs)
+taken-all s xs = taken-all-from s xs empty_book
 
 -- .. and of a list whose entries are all taken none is dropped
-taken-same-from : (s : Table) (xs : List Entry) (b : Book) → AllTaken s b xs → takenFrom s b xs ≡ xs
-unfolding answersFrom takenFrom enter
+taken-same-from : (s : Table) (xs : List Entry) (b : Book) → AllTaken s b xs → taken_from s b xs ≡ xs
+unfolding answers_from taken_from enter
 taken-same-from s [] b e = refl
 taken-same-from s (x ∷ xs) b e =
     let h : answer s b x ≡ taken = cc in
-    let t : answersFrom s (entered (answer s b x) (afterTaken s x b) b) xs ≡ replicate (length xs) taken = cc in
-    rw h (ap (λ (l : List Entry). x ∷ l) (taken-same-from s xs (afterTaken s x b) (rw h at t)))
+    let t : answers_from s (entered (answer s b x) (after_taken s x b) b) xs ≡ replicate (length xs) taken = cc in
+    rw h (ap (λ (l : List Entry). x ∷ l) (taken-same-from s xs (after_taken s x b) (rw h at t)))
 
-pub taken-same : (s : Table) (xs : List Entry) → AllTaken s emptyBook xs → taken_of s xs ≡ xs
-taken-same s xs e = taken-same-from s xs emptyBook e
+pub taken-same : (s : Table) (xs : List Entry) → AllTaken s empty_book xs → taken_of s xs ≡ xs
+taken-same s xs e = taken-same-from s xs empty_book e
 
 -- S AND P
 
@@ -258,7 +258,7 @@ unfolding S
 S-later s ok p l =
     let τ : Task = task s (suc p) in
     let pos : 0 < τ.period = le_trans (ok (suc p) l).deadline-pos (ok (suc p) l).constrained in
-    let at_zero : (h : S s.tasks p ≤ τ.offset) → releaseFrom τ (S s.tasks p) ≤ release τ 0 = λ h. release-first τ (S s.tasks p) 0 pos (omega arith) in
+    let at_zero : (h : S s.tasks p ≤ τ.offset) → release_from τ (S s.tasks p) ≤ release τ 0 = λ h. release-first τ (S s.tasks p) 0 pos (omega arith) in
     record {
       released = S-release s.tasks (suc p);
       not-before = release-from τ (S s.tasks p) pos;

@@ -15,17 +15,17 @@ use Rattle.model.proofs.Runs.{full-stays, missed-at}
 use Rattle.model.proofs.Search.{least-found}
 use Rattle.model.proofs.Sustain.{sustained-lists, finished, none-behind}
 use Rattle.model.proofs.Verdict.{verdict-exact}
-use Rattle.model.specs.Jobs.{Book, emptied, emptyIn}
+use Rattle.model.specs.Jobs.{Book, emptied, empty_in}
 use Rattle.model.specs.Advance.{Entry, advance}
-use Rattle.model.specs.Refusals.{Answer, Asked, answer, asked, askedBy, firstLate, late}
+use Rattle.model.specs.Refusals.{Answer, Asked, answer, asked, asked_by, first_late, late}
 use Rattle.model.specs.Lists.{NeverMissed, book, full}
-use Rattle.model.specs.Claims.{bookRow}
-use Rattle.model.specs.Advance.{withdraw, withdrawAll}
-use Rattle.model.specs.Refusals.{wrongEmpties, wrongReports, refused, rowRefused, shown, taken, unknownPosition, unknownPositions}
-use Rattle.model.specs.Lists.{noReports}
+use Rattle.model.specs.Claims.{book_row}
+use Rattle.model.specs.Advance.{withdraw, withdraw_all}
+use Rattle.model.specs.Refusals.{wrong_empties, wrong_reports, refused, row_refused, shown, taken, unknown_position, unknown_positions}
+use Rattle.model.specs.Lists.{no_reports}
 use Rattle.model.specs.Compare.{NoneBehind}
 use Rattle.model.specs.FirmGuarantee.{FirmGuarantee}
-use Rattle.model.specs.Sets.{setsAsked, bookSets}
+use Rattle.model.specs.Sets.{sets_asked, book_sets}
 use Rattle.model.specs.Task.{AllValid, Table, due, task}
 use Rattle.model.specs.Firm.{FirmRule, firm}
 use Rattle.model.specs.Verdict.{Firm, verdict}
@@ -41,20 +41,20 @@ module _ (s : Table) (ok : AllValid s) (firmly : FirmRule s) (accepted : NeverMi
       (subst (λ (n : ℕ). ((full s n).job p k).ended ≡ true) d.1 (full-stays s (due (task s p) k) d.0 p k met))
 
   -- so no task is late
-  none-late : (xs : List Entry) → ltb (firstLate s (book s xs)) (length s.tasks) ≡ false
-  none-late xs = not-true-false (ltb (firstLate s (book s xs)) (length s.tasks)) (λ e.
-      let l = ltb-true (firstLate s (book s xs)) (length s.tasks) e in
-      let x = late-job s (book s xs) (firstLate s (book s xs)) (least-found (length s.tasks) (late s (book s xs)) l) in
-      true≢false (sym (met-due xs (firstLate s (book s xs)) x.0 l x.1) ∙ x.2))
+  none-late : (xs : List Entry) → ltb (first_late s (book s xs)) (length s.tasks) ≡ false
+  none-late xs = not-true-false (ltb (first_late s (book s xs)) (length s.tasks)) (λ e.
+      let l = ltb-true (first_late s (book s xs)) (length s.tasks) e in
+      let x = late-job s (book s xs) (first_late s (book s xs)) (least-found (length s.tasks) (late s (book s xs)) l) in
+      true≢false (sym (met-due xs (first_late s (book s xs)) x.0 l x.1) ∙ x.2))
 
   -- an answer's number
   number : Answer → ℕ
   number taken = 0
   number (refused n p) = n
 
-  refusalNumber : Asked → ℕ
-  refusalNumber (shown r) = 0
-  refusalNumber (rowRefused n p) = n
+  refusal_number : Asked → ℕ
+  refusal_number (shown r) = 0
+  refusal_number (row_refused n p) = n
 
   no-15-out : (u v : Bool) → number (cond u (cond v (refused 22 0) taken) (refused 21 0)) ≡ 15 → ⊥
   unfolding number
@@ -66,26 +66,25 @@ module _ (s : Table) (ok : AllValid s) (firmly : FirmRule s) (accepted : NeverMi
   unfolding answer number
   no-15 xs (advance x g) p e =
       let b : Book = book s xs in
-      go (wrongEmpties s b g) (wrongReports s (emptied s (emptyIn b g) b) x) (rw (none-late xs) at (ap number e))
+      go (wrong_empties s b g) (wrong_reports s (emptied s (empty_in b g) b) x) (rw (none-late xs) at (ap number e))
     where
       go : (u v : Bool) → number (cond u (refused 20 0) (cond v (refused 16 0) taken)) ≡ 15 → ⊥
       go true v q = omega arith
       go false true q = omega arith
       go false false q = omega arith
-  no-15 xs (withdraw q) p e = no-15-out (firm s.rule s.tasks) (unknownPosition s q) (ap number e)
-  no-15 xs (withdrawAll x) p e = no-15-out (firm s.rule s.tasks) (unknownPositions s x) (ap number e)
+  no-15 xs (withdraw q) p e = no-15-out (firm s.rule s.tasks) (unknown_position s q) (ap number e)
+  no-15 xs (withdraw_all x) p e = no-15-out (firm s.rule s.tasks) (unknown_positions s x) (ap number e)
 
-  no-15-shown : (show : Book → List ℕ) (xs : List Entry) (e p : ℕ) → ¬ (askedBy show s (book s xs) e ≡ rowRefused 15 p)
-  unfolding refusalNumber
-  no-15-shown show xs e p q =
-      go (wrongEmpties s (book s xs) e) (show (emptied s (emptyIn (book s xs) e) (book s xs))) (rw (none-late xs) at (ap refusalNumber q))
+  no-15-shown : (show : Book → List ℕ) (xs : List Entry) (e p : ℕ) → ¬ (asked_by show s (book s xs) e ≡ row_refused 15 p)
+  unfolding refusal_number
+  no-15-shown show xs e p q = go (wrong_empties s (book s xs) e) (show (emptied s (empty_in (book s xs) e) (book s xs))) (rw (none-late xs) at (ap refusal_number q))
     where
-      go : (u : Bool) (r : List ℕ) → refusalNumber (cond u (rowRefused 20 0) (shown r)) ≡ 15 → ⊥
+      go : (u : Bool) (r : List ℕ) → refusal_number (cond u (row_refused 20 0) (shown r)) ≡ 15 → ⊥
       go true r q = omega arith
       go false r q = omega arith
 
   -- the full-length run is the book of empty sets, at every tick
-  scope-full : (n : ℕ) → book s (replicate n noReports) ≡ full s n
+  scope-full : (n : ℕ) → book s (replicate n no_reports) ≡ full s n
   scope-full n = full-length s n (λ q t g. accepted q t)
 
   -- THE THEOREM
@@ -96,8 +95,8 @@ module _ (s : Table) (ok : AllValid s) (firmly : FirmRule s) (accepted : NeverMi
     finished = λ p k l e. finished s ok firmly xs p k l (subst (λ (b : Book). (b.job p k).ended ≡ true) (scope-full (book s xs).tick) e);
     met = λ ys zs e p m. true≢false (sym (met-due ys p m.1.0 m.0 (le_of_eq m.1.1)) ∙ m.1.2);
     never-15 = no-15 xs;
-    never-15-row = unfold asked in no-15-shown (bookRow s) xs;
-    never-15-sets = unfold setsAsked in no-15-shown (bookSets s) xs;
+    never-15-row = unfold asked in no-15-shown (book_row s) xs;
+    never-15-sets = unfold sets_asked in no-15-shown (book_sets s) xs;
   }
 
 -- the same from the verdict

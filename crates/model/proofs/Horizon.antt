@@ -4,8 +4,7 @@ use mathlib.Core.List.{List, []}
 use mathlib.Core.Logic.{⊎_elim}
 use mathlib.Core.Path.{ap, refl, subst, sym, ◌∙◌, ◌≡◌}
 use Prim.Native.Nat.{◌*◌, ◌+◌, ◌-◌, ◌/◌, ◌<◌, suc, zero, ℕ, ◌≤◌}
-use native.Mathlib.Nat.{add-mul-div_right, div-mul-le_self, eq-or-lt_of_le, le_dest, le-div_iff_mul-le, le_of_suc-le-suc, le_refl, le_trans}
-use native.Mathlib.Nat.{lt_of_mul-lt-mul_right, mul-le-mul_right, not-suc-le-zero}
+use native.Mathlib.Nat.{add-mul-div_right, div-mul-le_self, eq-or-lt_of_le, le_dest, le-div_iff_mul-le, le_of_suc-le-suc, le_refl, le_trans, lt_of_mul-lt-mul_right, mul-le-mul_right, not-suc-le-zero}
 use native.Mathlib.Omega.{arith}
 use lib.Dec.{leb}
 use lib.ListN.{get_or, length, take}
@@ -18,12 +17,12 @@ use Rattle.model.proofs.Lists.{map_first}
 use Rattle.model.proofs.Runs.{full-fresh, full-next, full-tick, missed-at}
 use Rattle.model.proofs.Starts.{Periods, S-last, S-release, S-monotonic, hyperperiod-divides, hyperperiod-pos, width-shift}
 use Rattle.model.specs.Jobs.{Job}
-use Rattle.model.specs.Claims.{claims, in_row, jobClaims, served, taskClaims, widths}
+use Rattle.model.specs.Claims.{claims, in_row, job_claims, served, task_claims, widths}
 use Rattle.model.specs.Lists.{Missed, NeverMissed, full}
 use Rattle.model.specs.Grants.{claimants, grants, some}
 use Rattle.model.specs.Horizon.{S, horizon, hyperperiod}
-use Rattle.model.specs.Fence.{unfencedCores}
-use Rattle.model.specs.Task.{AllValid, Rule, Table, Task, due, newest, absentTask, release, task, width_of}
+use Rattle.model.specs.Fence.{unfenced_cores}
+use Rattle.model.specs.Task.{AllValid, Rule, Table, Task, due, newest, absent_task, release, task, width_of}
 
 -- claims at a tick and P later are the same
 claims-shift :
@@ -78,7 +77,7 @@ module _ (s : Table) (ok : AllValid s) where
   -- so its claims repeat
   claims-repeat :
       (p : ℕ) → p < length s.tasks → Repeats p → (t : ℕ) → S s.tasks p ≤ t
-      → taskClaims s (full s t) p ≡ taskClaims s (full s (t + P)) p
+      → task_claims s (full s t) p ≡ task_claims s (full s (t + P)) p
   claims-repeat p l rep t h =
       rw (full-tick s t, full-tick s (t + P), later, ← same)
       (claims-shift s.rule τ k m t P ((full s t).job p k) mm.1)
@@ -130,7 +129,7 @@ module _ (s : Table) (ok : AllValid s) where
 
   widths-repeat : (p : ℕ) → p < length s.tasks → (t : ℕ) → S s.tasks p ≤ t → take (suc p) (widths s t) ≡ take (suc p) (widths s (t + P))
   widths-repeat p l t h =
-      map_first (λ τ. width_of τ (newest τ t)) (λ τ. width_of τ (newest τ (t + P))) absentTask (suc p) s.tasks
+      map_first (λ τ. width_of τ (newest τ t)) (λ τ. width_of τ (newest τ (t + P))) absent_task (suc p) s.tasks
       (λ q g i. width-repeat q i t (le_trans (S-monotonic s.tasks q p periods (le_of_suc-le-suc g) l) h))
 
   module _ (p : ℕ) (l : p < length s.tasks) (above : (q : ℕ) → q < p → Repeats q) (m : ℕ) (e : P ≡ m * (task s p).period) where
@@ -140,28 +139,27 @@ module _ (s : Table) (ok : AllValid s) where
         → served s (full s t) p k ≡ served s (full s (t + P)) p (k + m)
     unfolding served
     served-repeat k t h same =
-        same-and (jobClaims s (full s t) p k) (jobClaims s (full s (t + P)) p (k + m))
+        same-and (job_claims s (full s t) p k) (job_claims s (full s (t + P)) p (k + m))
         (in_row s (full s t) p) (in_row s (full s (t + P)) p) own
-        (λ c. ap some (row-local s.rule (widths s (full s t).tick) (widths s (full s (t + P)).tick) (unfencedCores s) (taskClaims s (full s t))
-        (taskClaims s (full s (t + P))) p
+        (λ c. ap some (row-local s.rule (widths s (full s t).tick) (widths s (full s (t + P)).tick) (unfenced_cores s) (task_claims s (full s t)) (task_claims s (full s (t + P))) p
         (rw (full-tick s t, full-tick s (t + P)) (widths-repeat p l t h)) (all c)))
       where
-        own : jobClaims s (full s t) p k ≡ jobClaims s (full s (t + P)) p (k + m)
+        own : job_claims s (full s t) p k ≡ job_claims s (full s (t + P)) p (k + m)
         own = rw (full-tick s t, full-tick s (t + P), ← same) (claims-shift s.rule (task s p) k m t P ((full s t).job p k) e)
 
-        new : (n i : ℕ) → jobClaims s (full s n) p i ≡ true → newest (task s p) (full s n).tick ≡ i
+        new : (n i : ℕ) → job_claims s (full s n) p i ≡ true → newest (task s p) (full s n).tick ≡ i
         new n i c =
             newest-is (task s p) i (full s n).tick (ok p l).constrained
             (after-release s.rule (task s p) i (full s n).tick ((full s n).job p i) c)
             (before-due s.rule (task s p) i (full s n).tick ((full s n).job p i) c)
 
-        all : jobClaims s (full s t) p k ≡ true → (q : ℕ) → q ≤ p → taskClaims s (full s t) q ≡ taskClaims s (full s (t + P)) q
+        all : job_claims s (full s t) p k ≡ true → (q : ℕ) → q ≤ p → task_claims s (full s t) q ≡ task_claims s (full s (t + P)) q
         all c q g =
             ⊎_elim
             (λ (i : q ≡ p).
-            subst (λ (x : ℕ). taskClaims s (full s t) x ≡ taskClaims s (full s (t + P)) x) (sym i)
-            (ap (λ (x : ℕ). jobClaims s (full s t) p x) (new t k c)
-            ∙ (own ∙ ap (λ (x : ℕ). jobClaims s (full s (t + P)) p x) (sym (new (t + P) (k + m) (sym own ∙ c))))))
+            subst (λ (x : ℕ). task_claims s (full s t) x ≡ task_claims s (full s (t + P)) x) (sym i)
+            (ap (λ (x : ℕ). job_claims s (full s t) p x) (new t k c)
+            ∙ (own ∙ ap (λ (x : ℕ). job_claims s (full s (t + P)) p x) (sym (new (t + P) (k + m) (sym own ∙ c))))))
             (λ (i : q < p).
             claims-repeat q (le_trans i (le_trans (omega arith) l)) (above q i) t
             (le_trans (S-monotonic s.tasks q p periods g l) h))
@@ -228,8 +226,7 @@ module _ (s : Table) (ok : AllValid s) where
 
       go : (t : Bool) → leb (due τ k) (horizon s) ≡ t
           → ((i : ℕ) → i < n → ((full s (due τ i)).job p i).ended ≡ true) → ((full s (due τ k)).job p k).ended ≡ true
-      go true q ih =
-          not-false-true ((full s (due τ k)).job p k).ended (λ o. hyp p (due τ k) (leb-true (due τ k) (horizon s) q) (missed-at s p (due τ k) k l refl o))
+      go true q ih = not-false-true ((full s (due τ k)).job p k).ended (λ o. hyp p (due τ k) (leb-true (due τ k) (horizon s) q) (missed-at s p (due τ k) k l refl o))
       go false q ih =
           let past : horizon s < due τ k = leb-false (due τ k) (horizon s) q in
           let cover : S s.tasks p + P ≤ horizon s = covers s periods p l in

@@ -12,14 +12,14 @@ use borrow.Author.Tests.{leb-false, leb-true, ltb-true}
 use Rattle.model.proofs.Bools.{and_left, and_right, not-false-true, not-true-false}
 use Rattle.model.proofs.Jobs.{before-due, claims-if, mk, newest-is, next, next-ended}
 use Rattle.model.proofs.Runs.{full-next, full-stays, full-tick, bounds-full}
-use Rattle.model.proofs.Waiting.{isWider, kept-waiting, once, sum-add, sum-le, widerParity}
-use Rattle.model.proofs.Shares.{ServedWithin, every, everySecond, got, got-most, served-claims, served-open}
+use Rattle.model.proofs.Waiting.{is_wider, kept-waiting, once, sum-add, sum-le, wider_parity}
+use Rattle.model.proofs.Shares.{ServedWithin, every, every_second, got, got-most, served-claims, served-open}
 use Rattle.model.specs.Jobs.{Job}
-use Rattle.model.specs.Claims.{claims, in_row, jobClaims, served}
+use Rattle.model.specs.Claims.{claims, in_row, job_claims, served}
 use Rattle.model.specs.Advance.{work}
 use Rattle.model.specs.Lists.{NeverMissed, full}
 use Rattle.model.specs.Grants.{given}
-use Rattle.model.specs.Interference.{EndsWithin, coresIn, interferenceIn, need, suffices, sumBelow, waitsIn}
+use Rattle.model.specs.Interference.{EndsWithin, cores_in, interference_in, need, suffices, sum_below, waits_in}
 use Rattle.model.specs.Task.{AllValid, Table, Task, due, narrowest, newest, release, task, widest}
 
 -- A JOB THAT HAS NOT ENDED
@@ -47,28 +47,27 @@ module _ (s : Table) (ok : AllValid s) (p : ℕ) (l : p < length s.tasks) (k : �
   all i z = got s (λ k. true) r i z
 
   abbrev wider : ℕ → ℕ → ℕ
-  wider i z = got s (isWider (task s i)) r i z
+  wider i z = got s (is_wider (task s i)) r i z
 
   -- the cores given to the places above in at most n of the z ticks from its release on
   abbrev load : ℕ → ℕ → ℕ
-  load n z = sumBelow p (λ i. narrowest (task s i) * min n (all i z) + (widest (task s i) - narrowest (task s i)) * min n (wider i z))
+  load n z = sum_below p (λ i. narrowest (task s i) * min n (all i z) + (widest (task s i) - narrowest (task s i)) * min n (wider i z))
 
   abbrev serving : ℕ → ℕ → Bool
   serving t i = in_row s (full s t) i
 
-  abbrev servingWider : ℕ → ℕ → Bool
-  servingWider t i = in_row s (full s t) i && isWider (task s i) (newest (task s i) (full s t).tick)
+  abbrev serving_wider : ℕ → ℕ → Bool
+  serving_wider t i = in_row s (full s t) i && is_wider (task s i) (newest (task s i) (full s t).tick)
 
   abbrev busy : ℕ → ℕ
   busy t =
-      sumBelow p (λ i. narrowest (task s i) * once (serving t i) + (widest (task s i) - narrowest (task s i)) * once (servingWider t i))
+      sum_below p (λ i. narrowest (task s i) * once (serving t i) + (widest (task s i) - narrowest (task s i)) * once (serving_wider t i))
 
   load-more : (n z : ℕ) → load n z ≤ load n (suc z)
   load-more n z =
       sum-le p (λ i. narrowest (task s i) * min n (all i z) + (widest (task s i) - narrowest (task s i)) * min n (wider i z))
       (λ i. narrowest (task s i) * min n (all i (suc z)) + (widest (task s i) - narrowest (task s i)) * min n (wider i (suc z)))
-      (λ i g. unfold got in both (mul-le-mul_left (narrowest (task s i)) (omega arith))
-      (mul-le-mul_left (widest (task s i) - narrowest (task s i)) (omega arith)))
+      (λ i g. unfold got in both (mul-le-mul_left (narrowest (task s i)) (omega arith)) (mul-le-mul_left (widest (task s i) - narrowest (task s i)) (omega arith)))
     where
       both : {a b c d : ℕ} → a ≤ b → c ≤ d → a + c ≤ b + d
       both h g = omega arith
@@ -77,18 +76,17 @@ module _ (s : Table) (ok : AllValid s) (p : ℕ) (l : p < length s.tasks) (k : �
   load-next n z =
       le_trans (le_of_eq (sym (sum-add p
       (λ i. narrowest (task s i) * min n (all i z) + (widest (task s i) - narrowest (task s i)) * min n (wider i z))
-      (λ i. narrowest (task s i) * once (serving (r + z) i) + (widest (task s i) - narrowest (task s i)) * once (servingWider (r + z) i)))))
+      (λ i. narrowest (task s i) * once (serving (r + z) i) + (widest (task s i) - narrowest (task s i)) * once (serving_wider (r + z) i)))))
       (sum-le p
       (λ i.
       narrowest (task s i) * min n (all i z) + (widest (task s i) - narrowest (task s i)) * min n (wider i z)
-      + (narrowest (task s i) * once (serving (r + z) i) + (widest (task s i) - narrowest (task s i)) * once (servingWider (r + z) i)))
+      + (narrowest (task s i) * once (serving (r + z) i) + (widest (task s i) - narrowest (task s i)) * once (serving_wider (r + z) i)))
       (λ i. narrowest (task s i) * min (suc n) (all i (suc z)) + (widest (task s i) - narrowest (task s i)) * min (suc n) (wider i (suc z)))
       (λ i g. unfold got in
       spread
-      (narrowest (task s i)) (widest (task s i) - narrowest (task s i)) (min n (all i z)) (min n (wider i z)) (once (serving (r + z) i))
-      (once (servingWider (r + z) i))
+      (narrowest (task s i)) (widest (task s i) - narrowest (task s i)) (min n (all i z)) (min n (wider i z)) (once (serving (r + z) i)) (once (serving_wider (r + z) i))
       (rw (and-true (serving (r + z) i)) (min-next n (all i z) (serving (r + z) i)))
-      (min-next n (wider i z) (servingWider (r + z) i))))
+      (min-next n (wider i z) (serving_wider (r + z) i))))
     where
       and-true : (t : Bool) → (t && true) ≡ t
       and-true true = refl
@@ -104,7 +102,7 @@ module _ (s : Table) (ok : AllValid s) (p : ℕ) (l : p < length s.tasks) (k : �
       stays e = ap (λ (j : Job). j.ended) (full-next s t p k) ∙ (next-ended σ.length false (served s (full s t) p k) ((full s t).job p k) e).0
 
   -- inside its window a job that has not ended claims, and is its place's newest
-  open-claims : (t : ℕ) → r ≤ t → t < due σ k → ((full s t).job p k).ended ≡ false → jobClaims s (full s t) p k ≡ true
+  open-claims : (t : ℕ) → r ≤ t → t < due σ k → ((full s t).job p k).ended ≡ false → job_claims s (full s t) p k ≡ true
   open-claims t h g o = claims-if s.rule σ k (full s t).tick ((full s t).job p k) (omega (arith, full-tick s t)) (omega (arith, full-tick s t)) (rw o refl)
 
   open-newest : (t : ℕ) → r ≤ t → t < due σ k → newest σ (full s t).tick ≡ k
@@ -127,7 +125,7 @@ module _ (s : Table) (ok : AllValid s) (p : ℕ) (l : p < length s.tasks) (k : �
       j : Job
       j = (full s t).job p k
 
-      claiming : jobClaims s (full s t) p k ≡ true
+      claiming : job_claims s (full s t) p k ≡ true
       claiming = open-claims t (omega arith) (omega arith) now
 
       had : (u : Bool) → in_row s (full s t) p ≡ u → ((full s (suc t)).job p k).had ≡ cond u (suc j.had) j.had
@@ -147,21 +145,20 @@ module _ (s : Table) (ok : AllValid s) (p : ℕ) (l : p < length s.tasks) (k : �
             arith,
             ih n (omega (arith, had false q)),
             load-next n z,
-            kept-waiting s ok (full s t) p l (ap (λ (x : ℕ). jobClaims s (full s t) p x) (open-newest t (omega arith) (omega arith)) ∙ claiming) q,
+            kept-waiting s ok (full s t) p l (ap (λ (x : ℕ). job_claims s (full s t) p x) (open-newest t (omega arith) (omega arith)) ∙ claiming) q,
           )
 
 pub suffices-short : (s : Table) (e : ℕ → ℕ) (p L : ℕ) → suffices s e p L ≡ true → L ≤ (task s p).deadline
 unfolding suffices
 suffices-short s e p L q =
-    let n : ℕ = waitsIn (task s p) L in
-    leb-true L (task s p).deadline (and_left (leb L (task s p).deadline) (ltb (interferenceIn s e p L n) (n * need s p)) q)
+    let n : ℕ = waits_in (task s p) L in
+    leb-true L (task s p).deadline (and_left (leb L (task s p).deadline) (ltb (interference_in s e p L n) (n * need s p)) q)
 
-pub suffices-demand :
-    (s : Table) (e : ℕ → ℕ) (p L : ℕ) → suffices s e p L ≡ true → interferenceIn s e p L (waitsIn (task s p) L) < waitsIn (task s p) L * need s p
+pub suffices-demand : (s : Table) (e : ℕ → ℕ) (p L : ℕ) → suffices s e p L ≡ true → interference_in s e p L (waits_in (task s p) L) < waits_in (task s p) L * need s p
 unfolding suffices
 suffices-demand s e p L q =
-    let n : ℕ = waitsIn (task s p) L in
-    ltb-true (interferenceIn s e p L n) (n * need s p) (and_right (leb L (task s p).deadline) (ltb (interferenceIn s e p L n) (n * need s p)) q)
+    let n : ℕ = waits_in (task s p) L in
+    ltb-true (interference_in s e p L n) (n * need s p) (and_right (leb L (task s p).deadline) (ltb (interference_in s e p L n) (n * need s p)) q)
 
 factor : (n m : ℕ) {x : ℕ} → x < n * m → 1 ≤ n
 factor zero m h = absurd (omega arith)
@@ -178,22 +175,21 @@ place-ends s ok e p l above L ok-L k = not-false-true ((full s (release σ k + L
     σ = task s p
 
     n : ℕ
-    n = waitsIn σ L
+    n = waits_in σ L
 
-    enough : interferenceIn s e p L n < n * need s p
+    enough : interference_in s e p L n < n * need s p
     enough = suffices-demand s e p L ok-L
 
-    few : load s ok p l k n L ≤ interferenceIn s e p L n
-    few = unfold interferenceIn in
+    few : load s ok p l k n L ≤ interference_in s e p L n
+    few = unfold interference_in in
         sum-le p
         (λ i.
         narrowest (task s i) * min n (all s ok p l k i L) + (widest (task s i) - narrowest (task s i)) * min n (wider s ok p l k i L))
-        (λ i. coresIn (task s i) (e i) L n)
+        (λ i. cores_in (task s i) (e i) L n)
         (λ i g.
         capped (narrowest (task s i)) (widest (task s i) - narrowest (task s i)) n
         (got-most s ok i (omega arith) (λ k. true) (task s i).period (every (task s i)) (e i) (above i g).2 (above i g).0 (above i g).1 (release σ k) L)
-        (got-most s ok i (omega arith) (isWider (task s i)) (2 * (task s i).period) (everySecond (task s i) (widerParity (task s i))) (e i) (above i g).2
-        (above i g).0 (above i g).1 (release σ k) L))
+        (got-most s ok i (omega arith) (is_wider (task s i)) (2 * (task s i).period) (every_second (task s i) (wider_parity (task s i))) (e i) (above i g).2 (above i g).0 (above i g).1 (release σ k) L))
       where
         capped : (v w n : ℕ) {a b c d : ℕ} → a ≤ b → c ≤ d → v * min n a + w * min n c ≤ v * min n b + w * min n d
         capped v w n h g = omega (arith, mul-le-mul_left v (under n h), mul-le-mul_left w (under n g))
@@ -236,7 +232,7 @@ ends-meets s h p t (l, (k, e, o)) =
 
 -- a window that passes is no shorter than the job
 pub suffices-long : (s : Table) (e : ℕ → ℕ) (p L : ℕ) → suffices s e p L ≡ true → (task s p).length ≤ L
-suffices-long s e p L q = omega (arith, factor (waitsIn (task s p) L) (need s p) (suffices-demand s e p L q))
+suffices-long s e p L q = omega (arith, factor (waits_in (task s p) L) (need s p) (suffices-demand s e p L q))
 
 -- THE THEOREMS. With the deadlines of the places above, none of which is shorter than its job: each place by itself, whether the others pass or not
 pub deadline-ends :

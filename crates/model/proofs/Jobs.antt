@@ -8,9 +8,9 @@ use native.Mathlib.Omega.{arith}
 use lib.Dec.{leb, ltb}
 use borrow.Author.Tests.{le-leb, leb-false, leb-true, lt-ltb, ltb-true, not-true}
 use Rattle.model.proofs.Bools.{and_left, and_right, not-true-false, or-left-true, or_right_false}
-use Rattle.model.specs.Jobs.{Job, endedWith}
+use Rattle.model.specs.Jobs.{Job, ended_with}
 use Rattle.model.specs.Claims.{claims, holds}
-use Rattle.model.specs.Advance.{work, workLent}
+use Rattle.model.specs.Advance.{work, work_lent}
 use Rattle.model.specs.Compare.{Behind, Longer}
 use Rattle.model.specs.Task.{Rule, Task, due, greedy, idling, lending, limited, newest, release}
 
@@ -166,17 +166,17 @@ next-claimed C f true h c true = refl
 next-claimed C f true h c false = refl
 
 -- LENDING: a job after a tick in which it was given cores (s), or borrowed some (l), or neither
-abbrev pub lineStep : ℕ → Bool → Bool → Bool → Job → Job
-lineStep C f s l j = cond s (work C f j) (cond l (workLent C f j) j)
+abbrev pub line_step : ℕ → Bool → Bool → Bool → Job → Job
+line_step C f s l j = cond s (work C f j) (cond l (work_lent C f j) j)
 
-pub step-ended : (C : ℕ) (f s l : Bool) (j : Job) → j.ended ≡ true → ((lineStep C f s l j).ended ≡ true) × ((lineStep C f s l j).had ≡ j.had)
-unfolding workLent
+pub step-ended : (C : ℕ) (f s l : Bool) (j : Job) → j.ended ≡ true → ((line_step C f s l j).ended ≡ true) × ((line_step C f s l j).had ≡ j.had)
+unfolding work_lent
 step-ended C f true l j e = next-ended C f true j e
 step-ended C f false true j e = rw e (refl, refl)
 step-ended C f false false j e = (e, refl)
 
-pub step-bounds : (C : ℕ) (f s l : Bool) (h c : ℕ) (e : Bool) → LineBounds C (mk h c e) → LineBounds C (lineStep C f s l (mk h c e))
-unfolding workLent
+pub step-bounds : (C : ℕ) (f s l : Bool) (h c : ℕ) (e : Bool) → LineBounds C (mk h c e) → LineBounds C (line_step C f s l (mk h c e))
+unfolding work_lent
 step-bounds C f true l h c e g = bounds-next C f true h c e g
 step-bounds C f false false h c e g = g
 step-bounds C f false true h c true g = g
@@ -188,16 +188,16 @@ step-bounds C f false true h c false g = record {
 
 pub step-whole :
     (C : ℕ) (s l : Bool) (h c : ℕ) (e : Bool) → (e ≡ true → C ≤ h)
-    → (lineStep C false s l (mk h c e)).ended ≡ true → C ≤ (lineStep C false s l (mk h c e)).had
-unfolding workLent
+    → (line_step C false s l (mk h c e)).ended ≡ true → C ≤ (line_step C false s l (mk h c e)).had
+unfolding work_lent
 step-whole C true l h c e w o = whole-next C true h c e w o
 step-whole C false false h c e w o = w o
 step-whole C false true h c true w o = w o
 step-whole C false true h c false w o = leb-true C (suc h) o
 
 -- ticks claimed do not grow by lent ones
-pub step-claimed : (C : ℕ) (f s l : Bool) (h c : ℕ) (e : Bool) → (lineStep C f s l (mk h c e)).claimed ≡ cond s (suc c) c
-unfolding workLent
+pub step-claimed : (C : ℕ) (f s l : Bool) (h c : ℕ) (e : Bool) → (line_step C f s l (mk h c e)).claimed ≡ cond s (suc c) c
+unfolding work_lent
 step-claimed C f true l h c e = next-claimed C f true h c e
 step-claimed C f false false h c e = refl
 step-claimed C f false true h c true = refl
@@ -207,7 +207,7 @@ step-claimed C f false true h c false = refl
 
 -- a job before a tick, empty or not
 abbrev pub start : Bool → Job → Job
-start x j = cond x (endedWith j) j
+start x j = cond x (ended_with j) j
 
 pub start-claimed : (x : Bool) (j : Job) → (start x j).claimed ≡ j.claimed
 start-claimed true j = refl

@@ -15,11 +15,11 @@ use Rattle.model.proofs.Grants.{claimants-cut, given_nothing, grants-length, gra
 use Rattle.model.proofs.Jobs.{done-off}
 use Rattle.model.proofs.Lists.{take-map}
 use Rattle.model.specs.Jobs.{Book}
-use Rattle.model.specs.Claims.{borrowed, borrowing, borrows, grantsOf, in_row, jobClaims, lent_of, newestEnded, offer, seeks, shownOf}
-use Rattle.model.specs.Claims.{taskClaims, widths}
-use Rattle.model.specs.Fence.{unfencedCores}
+use Rattle.model.specs.Claims.{borrowed, borrowing, borrows, grants_of, in_row, job_claims, lent_of, newest_ended, offer, seeks, shown_of}
+use Rattle.model.specs.Claims.{task_claims, widths}
+use Rattle.model.specs.Fence.{unfenced_cores}
 use Rattle.model.specs.Grants.{Claimant, claimants, grants, some}
-use Rattle.model.specs.Lending.{among, merged, lendOnce, lends, lent, shownCores, tries, unlent}
+use Rattle.model.specs.Lending.{among, merged, lend_once, lends, lent, shown_cores, tries, unlent}
 use Rattle.model.specs.Search.{filtered, member}
 use Rattle.model.specs.Task.{Rule, Table, greedy, lending, limited, idling, newest, task, width_of}
 
@@ -91,7 +91,7 @@ lent-local n ws vs sk sk' o o' e es eo zero l =
     take-map (λ w. []) n ws ∙ (ap (λ (x : List ℕ). map {B = List ℕ} (λ w. []) x) e ∙ sym (take-map (λ w. []) n vs))
 lent-local n ws vs sk sk' o o' e es eo (suc m) l = go (lent ws sk o m) (lent vs sk' o' m) (lent-local n ws vs sk sk' o o' e es eo m (omega arith))
   where
-    go : (bs bs' : List (List ℕ)) → take n bs ≡ take n bs' → take n (lendOnce ws sk (o m) m bs) ≡ take n (lendOnce vs sk' (o' m) m bs')
+    go : (bs bs' : List (List ℕ)) → take n bs ≡ take n bs' → take n (lend_once ws sk (o m) m bs) ≡ take n (lend_once vs sk' (o' m) m bs')
     go bs bs' ih =
         beside-take n bs (grants greedy (claimants ws (tries sk m bs)) (o m))
         ∙ (ap₂ merged ih
@@ -112,7 +112,7 @@ unfolding lent
 lent-final ws sk o p zero = rw add-zero
 lent-final ws sk o p (suc d) = rw add-suc (later (lent ws sk o (p + d)) ∙ lent-final ws sk o p d)
   where
-    later : (bs : List (List ℕ)) → get_or (lendOnce ws sk (o (p + d)) (p + d) bs) p [] ≡ get_or bs p []
+    later : (bs : List (List ℕ)) → get_or (lend_once ws sk (o (p + d)) (p + d) bs) p [] ≡ get_or bs p []
     later bs =
         beside_at bs (grants greedy (claimants ws (tries sk (p + d) bs)) (o (p + d))) p
         (grants-none greedy ws (tries sk (p + d) bs) (o (p + d)) p (rw (le-ltb (p + d) p (omega arith))))
@@ -199,7 +199,7 @@ none_beside (b ∷ bs) (g ∷ gs) l e =
     ap₂ (λ (x : List ℕ) (l : List (List ℕ)). x ∷ l) (ap (λ (x : List ℕ). x ++ g) (e 0)) (none_beside bs gs (omega arith) (λ q. e (suc q)))
 
 pub shown-own :
-    (gs bs : List (List ℕ)) → length bs ≡ length gs → ((q : ℕ) → get_or bs q [] ≡ []) → shownCores gs bs ≡ gs
+    (gs bs : List (List ℕ)) → length bs ≡ length gs → ((q : ℕ) → get_or bs q [] ≡ []) → shown_cores gs bs ≡ gs
 shown-own gs bs l e =
     ap (merged bs) (map-id (unlent bs) (unlent-all bs e) gs) ∙ none_beside bs gs l e
 
@@ -216,16 +216,16 @@ borrowed-above s b p = lent-above (widths s b.tick) (seeks s b) (offer s b) (len
 
 -- a place that borrows has unfinished work, and is given no cores of its own
 pub record Borrower (s : Table) (b : Book) (p : ℕ) : Type 0 where
-  pub claiming : taskClaims s b p ≡ true
-  pub unfinished : newestEnded s b p ≡ false
+  pub claiming : task_claims s b p ≡ true
+  pub unfinished : newest_ended s b p ≡ false
   pub unserved : in_row s b p ≡ false
 
 pub borrower : (s : Table) (b : Book) (p : ℕ) → borrows s b p ≡ true → Borrower s b p
 unfolding borrowed seeks
 borrower s b p e =
     let h : seeks s b p ≡ true = lent-seeks (widths s b.tick) (seeks s b) (offer s b) (length s.tasks) p e in
-    let c : Bool = taskClaims s b p in
-    let u : Bool = newestEnded s b p in
+    let c : Bool = task_claims s b p in
+    let u : Bool = newest_ended s b p in
     let works : c && not u ≡ true = and_left (c && not u) (not (in_row s b p)) h in
     record {
       claiming = and_left c (not u) works;
@@ -248,14 +248,14 @@ module _ (s : Table) (b : Book) (nothing : (q : ℕ) → offer s b q ≡ []) whe
 
   pub not-borrowing : (p k : ℕ) → borrowing s b p k ≡ false
   unfolding borrowing
-  not-borrowing p k = rw (borrows-none p) (and-false (jobClaims s b p k))
+  not-borrowing p k = rw (borrows-none p) (and-false (job_claims s b p k))
 
   -- the row shows the cores that are given
-  pub shown-given : shownOf s b ≡ grantsOf s b
+  pub shown-given : shown_of s b ≡ grants_of s b
   shown-given =
-      shown-own (grantsOf s b) (lent_of s b)
+      shown-own (grants_of s b) (lent_of s b)
       (lent_length (widths s b.tick) (seeks s b) (offer s b) (length s.tasks)
-      ∙ sym (grants-length s.rule (widths s b.tick) (taskClaims s b) (unfencedCores s)))
+      ∙ sym (grants-length s.rule (widths s b.tick) (task_claims s b) (unfenced_cores s)))
       lent_none
 
 -- those of rules 1 to 3
@@ -268,16 +268,15 @@ pub offer-whole :
     (s : Table) (b : Book) → ((p k : ℕ) → (b.job p k).ended ≡ true → (task s p).length ≤ (b.job p k).claimed)
     → (q : ℕ) → offer s b q ≡ []
 unfolding offer
-offer-whole s b h q = go (newestEnded s b q) refl
+offer-whole s b h q = go (newest_ended s b q) refl
   where
     same : (t : Bool) → cond {A = List ℕ} t [] [] ≡ []
     same true = refl
     same false = refl
 
-    go : (t : Bool) → newestEnded s b q ≡ t → cond (lends s.rule && t) (get_or (grantsOf s b) q []) [] ≡ []
+    go : (t : Bool) → newest_ended s b q ≡ t → cond (lends s.rule && t) (get_or (grants_of s b) q []) [] ≡ []
     go false e = rw (and-false (lends s.rule))
     go true e =
         let k : ℕ = newest (task s q) b.tick in
-        rw (grants-none s.rule (widths s b.tick) (taskClaims s b) (unfencedCores s) q
-        (done-off s.rule (task s q) k b.tick (b.job q k) e (h q k e)))
+        rw (grants-none s.rule (widths s b.tick) (task_claims s b) (unfenced_cores s) q (done-off s.rule (task s q) k b.tick (b.job q k) e (h q k e)))
         (same (lends s.rule && true))

@@ -6,18 +6,18 @@ use mathlib.Core.Logic.{inl, inr}
 use mathlib.Core.Path.{ap, refl, subst₂, sym, ◌∙◌, ◌≡◌}
 use Prim.Native.Nat.{◌<◌, suc, zero, ℕ, ◌≤◌}
 use native.Mathlib.Omega.{arith}
-use Rattle.model.proofs.Computing.{Computes, computing}
+use Rattle.model.proofs.Computing.{computing}
 use Rattle.model.proofs.Examples.{on, reports, t}
 use Rattle.model.proofs.Jobs.{mk}
 use Rattle.model.proofs.Runs.{early-book}
 use Rattle.model.specs.Jobs.{Job}
-use Rattle.model.specs.Claims.{borrowed, grantsOf}
+use Rattle.model.specs.Claims.{borrowed, grants_of}
 use Rattle.model.specs.Advance.{Entry}
-use Rattle.model.specs.Refusals.{Asked, asked, shown}
-use Rattle.model.specs.Lists.{book, noReports}
+use Rattle.model.specs.Refusals.{asked, shown}
+use Rattle.model.specs.Lists.{book, no_reports}
 use Rattle.model.specs.Compare.{Behind, Sustainable, Longer, NoneLonger}
 use Rattle.model.specs.Local.{EqualAbove}
-use Rattle.model.specs.Sets.{setsAsked}
+use Rattle.model.specs.Sets.{sets_asked}
 use Rattle.model.specs.Task.{Table, lending, release, task}
 use Rattle.model.specs.Verdict.{Firm, verdict}
 
@@ -28,10 +28,10 @@ counterexample = on 2 lending (t 0 2 3 6 6 ∷ t 0 1 2 6 6 ∷ t 0 2 1 6 6 ∷ t
 
 -- the first list reports position 2 in tick 1, the second does not
 abbrev pub reporting : List Entry
-reporting = reports 1 ∷ reports 2 ∷ noReports ∷ []
+reporting = reports 1 ∷ reports 2 ∷ no_reports ∷ []
 
 abbrev pub unreported : List Entry
-unreported = reports 1 ∷ noReports ∷ noReports ∷ []
+unreported = reports 1 ∷ no_reports ∷ no_reports ∷ []
 
 -- the first jobs after each
 first : (xs : List Entry) → Job × Job × Job × Job
@@ -99,19 +99,19 @@ served-below = on 3 lending (t 0 3 2 4 4 ∷ t 0 2 2 4 4 ∷ [])
 pub equal-above-borrower : EqualAbove 1 alone served-below
 equal-above-borrower = record { rules = refl; cores = refl; fences = refl; tasks = refl }
 
--- after the report: the cores reserved, those that place 1 borrows, and the row
-abbrev after-report : Table → List (List ℕ) × List ℕ × Asked
-after-report s = let b = book s (reports 1 ∷ []) in (grantsOf s b, borrowed s b 1, asked s b 0)
-
 -- the cores reserved for position 1 are the same, and it borrows none; the row shows it on the one that it has not lent
-pub lending-shows : Computes after-report (
-    (alone, ((0 ∷ 1 ∷ 2 ∷ []) ∷ [], [], shown (1 ∷ 1 ∷ 1 ∷ [])))
-    ∷ (served-below, ((0 ∷ 1 ∷ 2 ∷ []) ∷ [] ∷ [], 0 ∷ 1 ∷ [], shown (2 ∷ 2 ∷ 1 ∷ [])))
-    ∷ [])
+pub lending-shows :
+    (grants_of alone (book alone (reports 1 ∷ [])) ≡ (0 ∷ 1 ∷ 2 ∷ []) ∷ [])
+    × (grants_of served-below (book served-below (reports 1 ∷ [])) ≡ (0 ∷ 1 ∷ 2 ∷ []) ∷ [] ∷ [])
+    × (borrowed served-below (book served-below (reports 1 ∷ [])) 1 ≡ 0 ∷ 1 ∷ [])
+    × (asked alone (book alone (reports 1 ∷ [])) 0 ≡ shown (1 ∷ 1 ∷ 1 ∷ []))
+    × (asked served-below (book served-below (reports 1 ∷ [])) 0 ≡ shown (2 ∷ 2 ∷ 1 ∷ []))
 unfolding computing
-lending-shows = refl
+lending-shows = (refl, refl, refl, refl, refl)
 
 -- .. and as sets: that of a holder, which has cores to lend, is another where some place borrows of them
-pub lending-sets : Computes (λ s. setsAsked s (book s (reports 1 ∷ [])) 0) ((alone, shown (7 ∷ [])) ∷ (served-below, shown (4 ∷ 3 ∷ [])) ∷ [])
+pub lending-sets :
+    (sets_asked alone (book alone (reports 1 ∷ [])) 0 ≡ shown (7 ∷ []))
+    × (sets_asked served-below (book served-below (reports 1 ∷ [])) 0 ≡ shown (4 ∷ 3 ∷ []))
 unfolding computing
-lending-sets = refl
+lending-sets = (refl, refl)

@@ -1,4 +1,5 @@
 -- The theorems on the definitions alone: computed examples, laws of searches, lists and digits, and those of the book, the horizon and the verdict.
+pub mod LineByLine
 pub mod Computing
 pub mod Examples
 pub mod EmptyExamples
@@ -12,7 +13,6 @@ pub mod Bools
 pub mod Search
 pub mod Lists
 pub mod Digits
-pub mod SetWalk
 pub mod Jobs
 pub mod Grants
 pub mod Lending

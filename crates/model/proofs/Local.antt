@@ -18,27 +18,27 @@ use Rattle.model.proofs.Lending.{borrowed-above, lent-local, shown-given}
 use Rattle.model.proofs.Lists.{take-map}
 use Rattle.model.proofs.Runs.{full-offer}
 use Rattle.model.proofs.Search.{none-at}
-use Rattle.model.specs.Jobs.{Book, Job, emptied, emptyBook}
+use Rattle.model.specs.Jobs.{Book, Job, emptied, empty_book}
 use Rattle.model.specs.Claims.{borrowed, borrowing}
-use Rattle.model.specs.Advance.{step, Entry, advance, afterTaken}
+use Rattle.model.specs.Advance.{step, Entry, advance, after_taken}
 use Rattle.model.specs.Refusals.{Answer, answer}
-use Rattle.model.specs.Lists.{book, bookFrom}
-use Rattle.model.specs.Jobs.{emptyIn}
-use Rattle.model.specs.Claims.{grantsOf, jobClaims, newestEnded, offer, bookRow, seeks}
+use Rattle.model.specs.Lists.{book, book_from}
+use Rattle.model.specs.Jobs.{empty_in}
+use Rattle.model.specs.Claims.{grants_of, job_claims, newest_ended, offer, book_row, seeks}
 use Rattle.model.specs.Advance.{singleton}
 use Rattle.model.specs.Refusals.{refused}
-use Rattle.model.specs.Lists.{enter, entered, full, keep, noPlaces, noReports}
-use Rattle.model.specs.Claims.{served, taskClaims, widths}
-use Rattle.model.specs.Advance.{withdraw, withdrawAll, withWithdrawn}
+use Rattle.model.specs.Lists.{enter, entered, full, keep, no_places, no_reports}
+use Rattle.model.specs.Claims.{served, task_claims, widths}
+use Rattle.model.specs.Advance.{withdraw, withdraw_all, with_withdrawn}
 use Rattle.model.specs.Refusals.{taken}
-use Rattle.model.specs.Lists.{takenFrom, taken_of}
-use Rattle.model.specs.Fence.{unfencedCores}
+use Rattle.model.specs.Lists.{taken_from, taken_of}
+use Rattle.model.specs.Fence.{unfenced_cores}
 use Rattle.model.specs.Grants.{claimants}
 use Rattle.model.specs.Lending.{lent}
-use Rattle.model.specs.Local.{EqualAbove, SameBits, SameCoresAbove, SameEntries, SameEntry, SameReports, relevant, relevantIf, up_to}
+use Rattle.model.specs.Local.{EqualAbove, SameBits, SameCoresAbove, SameEntries, SameEntry, SameReports, relevant, relevant_if, up_to}
 use Rattle.model.specs.Row.{byte_of, owner, row}
 use Rattle.model.specs.Search.{any, bit, member, up_from}
-use Rattle.model.specs.Task.{Table, Task, newest, absentTask, task, width_of}
+use Rattle.model.specs.Task.{Table, Task, newest, absent_task, task, width_of}
 
 -- two books with the same tick, and the same jobs and withdrawals of the first n places
 pub record Agree (n : ℕ) (b b' : Book) : Type 0 where
@@ -56,16 +56,16 @@ or-false false = refl
 -- THE BOOK OF ENTRIES THAT ARE ALL ENTERED, taken or not
 took : Table → Book → List Entry → Book
 took s b [] = b
-took s b (x ∷ xs) = took s (afterTaken s x b) xs
+took s b (x ∷ xs) = took s (after_taken s x b) xs
 
-book-took : (s : Table) (xs : List Entry) (b : Book) → bookFrom s b xs ≡ took s b (takenFrom s b xs)
-unfolding bookFrom takenFrom took enter
+book-took : (s : Table) (xs : List Entry) (b : Book) → book_from s b xs ≡ took s b (taken_from s b xs)
+unfolding book_from taken_from took enter
 book-took s [] b = refl
 book-took s (x ∷ xs) b = go (answer s b x) (book-took s xs)
   where
-    go : (w : Answer) → ((b : Book) → bookFrom s b xs ≡ took s b (takenFrom s b xs))
-        → bookFrom s (entered w (afterTaken s x b) b) xs ≡ took s b (keep w x (takenFrom s (entered w (afterTaken s x b) b) xs))
-    go taken ih = ih (afterTaken s x b)
+    go : (w : Answer) → ((b : Book) → book_from s b xs ≡ took s b (taken_from s b xs))
+        → book_from s (entered w (after_taken s x b) b) xs ≡ took s b (keep w x (taken_from s (entered w (after_taken s x b) b) xs))
+    go taken ih = ih (after_taken s x b)
     go (refused n p) ih = ih b
 
 -- WHAT THE FIRST PLACES CLAIM IN A TICK
@@ -121,25 +121,25 @@ owner-cut c (suc n) p (g ∷ gs) = go (member c g) (owner-cut c n (suc p) gs)
     go true ih = rw (lt-ltb p (p + suc n) (omega arith))
     go false ih = subst (λ (k : ℕ). cond (ltb (owner c (suc p) gs) k) (owner c (suc p) gs) 0 ≡ owner c (suc p) (take n gs)) more ih
 
-upTo-cut : (n byte : ℕ) → up_to n byte ≡ cut (1 + n) byte
+up_to-cut : (n byte : ℕ) → up_to n byte ≡ cut (1 + n) byte
 unfolding cut
-upTo-cut n byte = go (leb byte n) refl
+up_to-cut n byte = go (leb byte n) refl
   where
     go : (t : Bool) → leb byte n ≡ t → cond t byte 0 ≡ cond (ltb byte (1 + n)) byte 0
     go true e = rw (lt-ltb byte (1 + n) (omega (arith, leb-true byte n e)))
     go false e = rw (le-ltb byte (1 + n) (omega (arith, leb-false byte n e)))
 
 -- the same in two rows, where the first n places have the same cores
-row-upTo :
+row-up_to :
     (n f m : ℕ) (gs hs : List (List ℕ)) → take n gs ≡ take n hs
     → map (up_to n) (row f m gs) ≡ map (up_to n) (row f m hs)
 unfolding row
-row-upTo n f m gs hs e = each (up_from 0 m)
+row-up_to n f m gs hs e = each (up_from 0 m)
   where
     owners : (c : ℕ) → up_to n (owner c 1 gs) ≡ up_to n (owner c 1 hs)
     owners c =
-        upTo-cut n (owner c 1 gs) ∙ (owner-cut c n 1 gs ∙ (ap (owner c 1) e
-        ∙ sym (upTo-cut n (owner c 1 hs) ∙ owner-cut c n 1 hs)))
+        up_to-cut n (owner c 1 gs) ∙ (owner-cut c n 1 gs ∙ (ap (owner c 1) e
+        ∙ sym (up_to-cut n (owner c 1 hs) ∙ owner-cut c n 1 hs)))
 
     byte : (t : Bool) (c : ℕ) → up_to n (cond t 255 (owner c 1 gs)) ≡ up_to n (cond t 255 (owner c 1 hs))
     byte true c = refl
@@ -151,13 +151,12 @@ row-upTo n f m gs hs e = each (up_from 0 m)
 
 module _ (n : ℕ) (s s' : Table) (al : EqualAbove n s s') where
   same-task : (p : ℕ) → p < n → task s p ≡ task s' p
-  same-task p l =
-      sym (get_or-take n s.tasks p absentTask l) ∙ (ap (λ (x : List Task). get_or x p absentTask) al.tasks ∙ get_or-take n s'.tasks p absentTask l)
+  same-task p l = sym (get_or-take n s.tasks p absent_task l) ∙ (ap (λ (x : List Task). get_or x p absent_task) al.tasks ∙ get_or-take n s'.tasks p absent_task l)
 
-  same-job-claims : (b b' : Book) → Agree n b b' → (p k : ℕ) → p < n → jobClaims s b p k ≡ jobClaims s' b' p k
+  same-job-claims : (b b' : Book) → Agree n b b' → (p k : ℕ) → p < n → job_claims s b p k ≡ job_claims s' b' p k
   same-job-claims b b' ag p k l = rw (same-task p l, al.rules, ag.ticks, ag.jobs p k l)
 
-  same-claims : (b b' : Book) → Agree n b b' → (p : ℕ) → p < n → taskClaims s b p ≡ taskClaims s' b' p
+  same-claims : (b b' : Book) → Agree n b b' → (p : ℕ) → p < n → task_claims s b p ≡ task_claims s' b' p
   same-claims b b' ag p l =
       same-job-claims b b' ag p (newest (task s p) b.tick) l
       ∙ rw (same-task p l, ag.ticks)
@@ -165,26 +164,21 @@ module _ (n : ℕ) (s s' : Table) (al : EqualAbove n s s') where
   same-widths : (b b' : Book) → Agree n b b' → take n (widths s b.tick) ≡ take n (widths s' b'.tick)
   same-widths b b' ag = first-widths n b.tick s s' al.tasks ∙ ap (λ (t : ℕ). take n (widths s' t)) ag.ticks
 
-  same-grants : (b b' : Book) → Agree n b b' → take n (grantsOf s b) ≡ take n (grantsOf s' b')
+  same-grants : (b b' : Book) → Agree n b b' → take n (grants_of s b) ≡ take n (grants_of s' b')
   same-grants b b' ag =
       let ws = same-widths b b' ag in
-      grants-take s.rule n (claimants (widths s b.tick) (taskClaims s b)) (unfencedCores s)
-      ∙ (rw (
-        claimants-cut n (widths s b.tick) (widths s' b'.tick) (taskClaims s b) (taskClaims s' b') ws (same-claims b b' ag),
-        al.rules,
-        al.cores,
-        al.fences,
-      )
-      (sym (grants-take s'.rule n (claimants (widths s' b'.tick) (taskClaims s' b')) (unfencedCores s'))))
+      grants-take s.rule n (claimants (widths s b.tick) (task_claims s b)) (unfenced_cores s)
+      ∙ (rw (claimants-cut n (widths s b.tick) (widths s' b'.tick) (task_claims s b) (task_claims s' b') ws (same-claims b b' ag), al.rules, al.cores, al.fences)
+      (sym (grants-take s'.rule n (claimants (widths s' b'.tick) (task_claims s' b')) (unfenced_cores s'))))
 
-  same-cores : (b b' : Book) → Agree n b b' → (p : ℕ) → p < n → get_or (grantsOf s b) p [] ≡ get_or (grantsOf s' b') p []
+  same-cores : (b b' : Book) → Agree n b b' → (p : ℕ) → p < n → get_or (grants_of s b) p [] ≡ get_or (grants_of s' b') p []
   same-cores b b' ag p l =
-      sym (get_or-take n (grantsOf s b) p [] l)
+      sym (get_or-take n (grants_of s b) p [] l)
       ∙ (ap (λ (x : List (List ℕ)). get_or x p []) (same-grants b b' ag)
-      ∙ get_or-take n (grantsOf s' b') p [] l)
+      ∙ get_or-take n (grants_of s' b') p [] l)
 
   -- the places that have ended, that seek and that offer, and so what is borrowed
-  same_ended : (b b' : Book) → Agree n b b' → (p : ℕ) → p < n → newestEnded s b p ≡ newestEnded s' b' p
+  same_ended : (b b' : Book) → Agree n b b' → (p : ℕ) → p < n → newest_ended s b p ≡ newest_ended s' b' p
   same_ended b b' ag p l =
       ap (λ (j : Job). j.ended) (ag.jobs p (newest (task s p) b.tick) l)
       ∙ ap₂ (λ (τ : Task) (t : ℕ). (b'.job p (newest τ t)).ended) (same-task p l) ag.ticks
@@ -214,8 +208,8 @@ module _ (n : ℕ) (s s' : Table) (al : EqualAbove n s s') where
     borrows = same-borrowed b b' ag;
     bytes = λ keeps keeps'.
         ap (λ (gs : List (List ℕ)). map (up_to n) (row s.fence s.cores gs)) (shown-given s b keeps)
-        ∙ (row-upTo n s.fence s.cores (grantsOf s b) (grantsOf s' b') (same-grants b b' ag)
-        ∙ (ap₂ (λ (f m : ℕ). map (up_to n) (row f m (grantsOf s' b'))) al.fences al.cores
+        ∙ (row-up_to n s.fence s.cores (grants_of s b) (grants_of s' b') (same-grants b b' ag)
+        ∙ (ap₂ (λ (f m : ℕ). map (up_to n) (row f m (grants_of s' b'))) al.fences al.cores
         ∙ ap (λ (gs : List (List ℕ)). map (up_to n) (row s'.fence s'.cores gs)) (sym (shown-given s' b' keeps'))));
   }
 
@@ -236,43 +230,43 @@ module _ (n : ℕ) (s s' : Table) (al : EqualAbove n s s') where
     gone = ag.gone;
   }
 
-  start-agree : Agree n emptyBook emptyBook
+  start-agree : Agree n empty_book empty_book
   start-agree = record { ticks = refl; jobs = λ p k l. refl; gone = λ q l. refl }
 
   full-agree : (t : ℕ) → Agree n (full s t) (full s' t)
   unfolding full
   full-agree zero = start-agree
-  full-agree (suc t) = same_step noPlaces noPlaces (λ q l. refl) (full s t) (full s' t) (full-agree t)
+  full-agree (suc t) = same_step no_places no_places (λ q l. refl) (full s t) (full s' t) (full-agree t)
 
-  same-without : (b b' : Book) → Agree n b b' → (x y : ℕ) → SameBits n x y → Agree n (withWithdrawn x b) (withWithdrawn y b')
+  same-without : (b b' : Book) → Agree n b b' → (x y : ℕ) → SameBits n x y → Agree n (with_withdrawn x b) (with_withdrawn y b')
   same-without b b' ag x y h = record {
     ticks = ag.ticks;
     jobs = ag.jobs;
     gone = λ q l. or-bit b.withdrawn x q ∙ (rw (h q l, ag.gone q l) refl ∙ sym (or-bit b'.withdrawn y q));
   }
 
-  same-empty : (b b' : Book) → Agree n b b' → (e g : ℕ) → SameBits n e g → Agree n (emptied s (emptyIn b e) b) (emptied s' (emptyIn b' g) b')
-  same-empty b b' ag e g h = same-emptied (emptyIn b e) (emptyIn b' g) (λ q l. rw (h q l, ag.gone q l)) b b' ag
+  same-empty : (b b' : Book) → Agree n b b' → (e g : ℕ) → SameBits n e g → Agree n (emptied s (empty_in b e) b) (emptied s' (empty_in b' g) b')
+  same-empty b b' ag e g h = same-emptied (empty_in b e) (empty_in b' g) (λ q l. rw (h q l, ag.gone q l)) b b' ag
 
-  same_after : (x y : Entry) → SameEntry n x y → (b b' : Book) → Agree n b b' → Agree n (afterTaken s x b) (afterTaken s' y b')
-  unfolding afterTaken
+  same_after : (x y : Entry) → SameEntry n x y → (b b' : Book) → Agree n b b' → Agree n (after_taken s x b) (after_taken s' y b')
+  unfolding after_taken
   same_after (advance x e) (advance y g) h b b' ag =
-      same_step (bit x) (bit y) h.0 (emptied s (emptyIn b e) b) (emptied s' (emptyIn b' g) b') (same-empty b b' ag e g h.1)
+      same_step (bit x) (bit y) h.0 (emptied s (empty_in b e) b) (emptied s' (empty_in b' g) b') (same-empty b b' ag e g h.1)
   same_after (advance x e) (withdraw q) h b b' ag = absurd h
-  same_after (advance x e) (withdrawAll y) h b b' ag = absurd h
+  same_after (advance x e) (withdraw_all y) h b b' ag = absurd h
   same_after (withdraw p) (advance y g) h b b' ag = absurd h
   same_after (withdraw p) (withdraw q) h b b' ag = same-without b b' ag (singleton p) (singleton q) (λ i l. ap (λ (k : ℕ). bit (singleton k) i) h)
-  same_after (withdraw p) (withdrawAll y) h b b' ag = same-without b b' ag (singleton p) y h
-  same_after (withdrawAll x) (advance y g) h b b' ag = absurd h
-  same_after (withdrawAll x) (withdraw q) h b b' ag = same-without b b' ag x (singleton q) h
-  same_after (withdrawAll x) (withdrawAll y) h b b' ag = same-without b b' ag x y h
+  same_after (withdraw p) (withdraw_all y) h b b' ag = same-without b b' ag (singleton p) y h
+  same_after (withdraw_all x) (advance y g) h b b' ag = absurd h
+  same_after (withdraw_all x) (withdraw q) h b b' ag = same-without b b' ag x (singleton q) h
+  same_after (withdraw_all x) (withdraw_all y) h b b' ag = same-without b b' ag x y h
 
   took-agree : (xs ys : List Entry) → SameEntries n xs ys → (b b' : Book) → Agree n b b' → Agree n (took s b xs) (took s' b' ys)
   unfolding SameEntries took
   took-agree [] [] r b b' ag = ag
   took-agree [] (y ∷ ys) r b b' ag = absurd r
   took-agree (x ∷ xs) [] r b b' ag = absurd r
-  took-agree (x ∷ xs) (y ∷ ys) r b b' ag = took-agree xs ys r.1 (afterTaken s x b) (afterTaken s' y b') (same_after x y r.0 b b' ag)
+  took-agree (x ∷ xs) (y ∷ ys) r b b' ag = took-agree xs ys r.1 (after_taken s x b) (after_taken s' y b') (same_after x y r.0 b b' ag)
 
 -- WHAT IS WITHDRAWN BELOW POSITION n CHANGES NOTHING ABOVE
 
@@ -291,7 +285,7 @@ only_below : (n p q : ℕ) → leb p n ≡ false → q < n → bit (singleton p)
 only_below n p q h l = bit-power (p - 1) q ∙ ne_eqb q (p - 1) (λ e. omega (arith, leb-false p n h))
 
 -- a withdrawal of places from n on alone
-irrelevant-withdrawal : (n : ℕ) (b c : Book) → Agree n b c → (x : ℕ) → ((q : ℕ) → q < n → bit x q ≡ false) → Agree n (withWithdrawn x b) c
+irrelevant-withdrawal : (n : ℕ) (b c : Book) → Agree n b c → (x : ℕ) → ((q : ℕ) → q < n → bit x q ≡ false) → Agree n (with_withdrawn x b) c
 irrelevant-withdrawal n b c ag x off = record {
   ticks = ag.ticks;
   jobs = ag.jobs;
@@ -301,33 +295,33 @@ irrelevant-withdrawal n b c ag x off = record {
 -- an entry goes on with what is after it, or is left out
 relevant-step :
     (n : ℕ) (s : Table) (x : Entry) (xs : List Entry) (b c : Book) → Agree n b c
-    → ((d : Book) → Agree n (afterTaken s x b) d → Agree n (took s (afterTaken s x b) xs) (took s d (relevant n xs)))
-    → Agree n (took s (afterTaken s x b) xs) (took s c (relevantIf n x (relevant n xs)))
+    → ((d : Book) → Agree n (after_taken s x b) d → Agree n (took s (after_taken s x b) xs) (took s d (relevant n xs)))
+    → Agree n (took s (after_taken s x b) xs) (took s c (relevant_if n x (relevant n xs)))
 relevant-step n s (advance x e) xs b c ag more =
-    unfold took in more (afterTaken s (advance x e) c) (same_after n s s (equal-above-self n s) (advance x e) (advance x e) (λ q l. refl, λ q l. refl) b c ag)
+    unfold took in more (after_taken s (advance x e) c) (same_after n s s (equal-above-self n s) (advance x e) (advance x e) (λ q l. refl, λ q l. refl) b c ag)
 relevant-step n s (withdraw p) xs b c ag more = go (leb p n) refl
   where
     go : (t : Bool) → leb p n ≡ t
-        → Agree n (took s (afterTaken s (withdraw p) b) xs) (took s c (cond t (withdraw p ∷ relevant n xs) (relevant n xs)))
-    go true h = unfold took in more (afterTaken s (withdraw p) c) (same_after n s s (equal-above-self n s) (withdraw p) (withdraw p) refl b c ag)
-    go false h = more c (unfold afterTaken in irrelevant-withdrawal n b c ag (singleton p) (λ q l. only_below n p q h l))
-relevant-step n s (withdrawAll x) xs b c ag more = go (any n (bit x)) refl
+        → Agree n (took s (after_taken s (withdraw p) b) xs) (took s c (cond t (withdraw p ∷ relevant n xs) (relevant n xs)))
+    go true h = unfold took in more (after_taken s (withdraw p) c) (same_after n s s (equal-above-self n s) (withdraw p) (withdraw p) refl b c ag)
+    go false h = more c (unfold after_taken in irrelevant-withdrawal n b c ag (singleton p) (λ q l. only_below n p q h l))
+relevant-step n s (withdraw_all x) xs b c ag more = go (any n (bit x)) refl
   where
     go : (t : Bool) → any n (bit x) ≡ t
-        → Agree n (took s (afterTaken s (withdrawAll x) b) xs) (took s c (cond t (withdrawAll x ∷ relevant n xs) (relevant n xs)))
+        → Agree n (took s (after_taken s (withdraw_all x) b) xs) (took s c (cond t (withdraw_all x ∷ relevant n xs) (relevant n xs)))
     go true h =
-        unfold took in more (afterTaken s (withdrawAll x) c) (same_after n s s (equal-above-self n s) (withdrawAll x) (withdrawAll x) (λ q l. refl) b c ag)
-    go false h = more c (unfold afterTaken in irrelevant-withdrawal n b c ag x (λ q l. none-at n (bit x) q h l))
+        unfold took in more (after_taken s (withdraw_all x) c) (same_after n s s (equal-above-self n s) (withdraw_all x) (withdraw_all x) (λ q l. refl) b c ag)
+    go false h = more c (unfold after_taken in irrelevant-withdrawal n b c ag x (λ q l. none-at n (bit x) q h l))
 
 relevant-took : (n : ℕ) (s : Table) (xs : List Entry) (b c : Book) → Agree n b c → Agree n (took s b xs) (took s c (relevant n xs))
 unfolding relevant took
 relevant-took n s [] b c ag = ag
-relevant-took n s (x ∷ xs) b c ag = relevant-step n s x xs b c ag (relevant-took n s xs (afterTaken s x b))
+relevant-took n s (x ∷ xs) b c ag = relevant-step n s x xs b c ag (relevant-took n s xs (after_taken s x b))
 
-relevant-book : (n : ℕ) (s : Table) (xs : List Entry) → Agree n (book s xs) (took s emptyBook (relevant n (taken_of s xs)))
+relevant-book : (n : ℕ) (s : Table) (xs : List Entry) → Agree n (book s xs) (took s empty_book (relevant n (taken_of s xs)))
 relevant-book n s xs =
-    subst (λ (b : Book). Agree n b (took s emptyBook (relevant n (taken_of s xs)))) (sym (book-took s xs emptyBook))
-    (relevant-took n s (taken_of s xs) emptyBook emptyBook (start-agree n s s (equal-above-self n s)))
+    subst (λ (b : Book). Agree n b (took s empty_book (relevant n (taken_of s xs)))) (sym (book-took s xs empty_book))
+    (relevant-took n s (taken_of s xs) empty_book empty_book (start-agree n s s (equal-above-self n s)))
 
 module _ (n : ℕ) (s s' : Table) (al : EqualAbove n s s') where
   -- THE THEOREM, for the full-length runs
@@ -335,29 +329,29 @@ module _ (n : ℕ) (s s' : Table) (al : EqualAbove n s s') where
   local-full t = shown-same n s s' al (full s t) (full s' t) (full-agree n s s' al t)
 
   -- .. whose rows, since no place lends at full length, show them alike under every rule
-  pub local-rows : (t : ℕ) → map (up_to n) (bookRow s (full s t)) ≡ map (up_to n) (bookRow s' (full s' t))
+  pub local-rows : (t : ℕ) → map (up_to n) (book_row s (full s t)) ≡ map (up_to n) (book_row s' (full s' t))
   local-rows t = (local-full t).bytes (full-offer s t) (full-offer s' t)
 
   -- the same of books of empty sets: at every tick that both reach (up to the first miss, all: `full-length`)
   pub local-empty :
-      (t u : ℕ) → (book s (replicate t noReports)).tick ≡ (book s' (replicate u noReports)).tick
-      → SameCoresAbove n s (book s (replicate t noReports)) s' (book s' (replicate u noReports))
+      (t u : ℕ) → (book s (replicate t no_reports)).tick ≡ (book s' (replicate u no_reports)).tick
+      → SameCoresAbove n s (book s (replicate t no_reports)) s' (book s' (replicate u no_reports))
   local-empty t u e =
       subst₂ (λ (a b : Book). SameCoresAbove n s a s' b)
       (sym (empty-full s t)) (sym (empty-full s' u ∙ ap (full s') (sym e)))
-      (local-full (book s (replicate t noReports)).tick)
+      (local-full (book s (replicate t no_reports)).tick)
 
   -- THE THEOREM, for any two lists whose taken entries agree on positions 1 to n, and rows asked with empty jobs that do; what is refused
   -- changes nothing and is dropped
   pub local-lists :
       (xs ys : List Entry) → SameReports n (taken_of s xs) (taken_of s' ys) → (e e' : ℕ) → SameBits n e e'
-      → SameCoresAbove n s (emptied s (emptyIn (book s xs) e) (book s xs)) s' (emptied s' (emptyIn (book s' ys) e') (book s' ys))
+      → SameCoresAbove n s (emptied s (empty_in (book s xs) e) (book s xs)) s' (emptied s' (empty_in (book s' ys) e') (book s' ys))
   local-lists xs ys r e e' h =
       let b : Book = book s xs in
       let b' : Book = book s' ys in
       let ag : Agree n b b' =
-      agree_trans n b (took s emptyBook (relevant n (taken_of s xs))) b' (relevant-book n s xs)
-      (agree_trans n (took s emptyBook (relevant n (taken_of s xs))) (took s' emptyBook (relevant n (taken_of s' ys))) b'
-      (took-agree n s s' al (relevant n (taken_of s xs)) (relevant n (taken_of s' ys)) r emptyBook emptyBook (start-agree n s s' al))
-      (agree-sym n b' (took s' emptyBook (relevant n (taken_of s' ys))) (relevant-book n s' ys))) in
-      shown-same n s s' al (emptied s (emptyIn b e) b) (emptied s' (emptyIn b' e') b') (same-empty n s s' al b b' ag e e' h)
+      agree_trans n b (took s empty_book (relevant n (taken_of s xs))) b' (relevant-book n s xs)
+      (agree_trans n (took s empty_book (relevant n (taken_of s xs))) (took s' empty_book (relevant n (taken_of s' ys))) b'
+      (took-agree n s s' al (relevant n (taken_of s xs)) (relevant n (taken_of s' ys)) r empty_book empty_book (start-agree n s s' al))
+      (agree-sym n b' (took s' empty_book (relevant n (taken_of s' ys))) (relevant-book n s' ys))) in
+      shown-same n s s' al (emptied s (empty_in b e) b) (emptied s' (empty_in b' e') b') (same-empty n s s' al b b' ag e e' h)

@@ -9,10 +9,10 @@ use borrow.Author.Tests.{eq-eqb, eqb-true}
 use Rattle.model.proofs.Bools.{same_test}
 use Rattle.model.proofs.Grants.{claimants-same}
 use Rattle.model.proofs.Lists.{take-map}
-use Rattle.model.specs.Grants.{Claimant, claimants, endsChoosing, fits, given, grants, left, some}
-use Rattle.model.specs.Lending.{among, merged, lendOnce, lent, shownCores, tries, unlent}
+use Rattle.model.specs.Grants.{Claimant, claimants, ends_choosing, fits, given, grants, left, some}
+use Rattle.model.specs.Lending.{among, merged, lend_once, lent, shown_cores, tries, unlent}
 use Rattle.model.specs.Row.{owner}
-use Rattle.model.specs.Search.{filtered, consIf, member}
+use Rattle.model.specs.Search.{filtered, cons_if, member}
 use Rattle.model.specs.Task.{Rule, greedy}
 
 module _ (f : ℕ → ℕ) where
@@ -39,7 +39,7 @@ module _ (f : ℕ → ℕ) where
 
   left-map : (r : Rule) (b : Claimant) (F : List ℕ) → left r b (map f F) ≡ map f (left r b F)
   unfolding left
-  left-map r b F = rw (length-map F f) (go (fits b F) (b.claims && endsChoosing r))
+  left-map r b F = rw (length-map F f) (go (fits b F) (b.claims && ends_choosing r))
     where
       go : (t u : Bool) → cond {A = List ℕ} t (drop b.width (map f F)) (cond u [] (map f F)) ≡ map f (cond {A = List ℕ} t (drop b.width F) (cond u [] F))
       go true u = drop-with b.width F
@@ -72,7 +72,7 @@ module _ (f : ℕ → ℕ) where
   lent_map ws sk sk' o o' es eo zero = nils-map ws
   lent_map ws sk sk' o o' es eo (suc n) = go (lent ws sk o n) (lent ws sk' o' n) (lent_map ws sk sk' o o' es eo n)
     where
-      go : (bs bs' : List (List ℕ)) → bs ≡ map (map f) bs' → lendOnce ws sk (o n) n bs ≡ map (map f) (lendOnce ws sk' (o' n) n bs')
+      go : (bs bs' : List (List ℕ)) → bs ≡ map (map f) bs' → lend_once ws sk (o n) n bs ≡ map (map f) (lend_once ws sk' (o' n) n bs')
       go bs bs' ih =
           ap₂ merged ih
           (ap₂ (grants greedy) (claimants-same ws (tries sk n bs) (tries sk' n bs') (λ q l. same q)) (eo n)
@@ -108,7 +108,7 @@ module _ (f : ℕ → ℕ) where
     unlent-map bs [] = refl
     unlent-map bs (c ∷ g) = rw (among-map c bs, unlent-map bs g) (go (not (among c bs)))
       where
-        go : (t : Bool) → consIf t (f c) (map f (unlent bs g)) ≡ map f (consIf t c (unlent bs g))
+        go : (t : Bool) → cons_if t (f c) (map f (unlent bs g)) ≡ map f (cons_if t c (unlent bs g))
         go true = refl
         go false = refl
 
@@ -116,7 +116,7 @@ module _ (f : ℕ → ℕ) where
     unlents-map bs [] = refl
     unlents-map bs (g ∷ gs) = ap₂ (λ (x : List ℕ) (l : List (List ℕ)). x ∷ l) (unlent-map bs g) (unlents-map bs gs)
 
-    pub shown-map : (gs bs : List (List ℕ)) → shownCores (map (map f) gs) (map (map f) bs) ≡ map (map f) (shownCores gs bs)
+    pub shown-map : (gs bs : List (List ℕ)) → shown_cores (map (map f) gs) (map (map f) bs) ≡ map (map f) (shown_cores gs bs)
     shown-map gs bs = ap (merged (map (map f) bs)) (unlents-map bs gs) ∙ beside-map bs (map (unlent bs) gs)
 
     pub owner-map : (c p : ℕ) (gs : List (List ℕ)) → owner (f c) p (map (map f) gs) ≡ owner c p gs

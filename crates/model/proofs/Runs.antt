@@ -14,19 +14,19 @@ use Rattle.model.proofs.Jobs.{LineBounds, after-release, bounds-fresh, mk, next,
 use Rattle.model.proofs.Lending.{not-borrowing, offer-whole, shown-given}
 use Rattle.model.specs.Jobs.{Book, Job, emptied}
 use Rattle.model.specs.Claims.{borrowed, borrowing}
-use Rattle.model.specs.Advance.{step, work, advanced, Entry, advance, afterTaken}
+use Rattle.model.specs.Advance.{step, work, advanced, Entry, advance, after_taken}
 use Rattle.model.specs.Refusals.{Answer, answer}
-use Rattle.model.specs.Lists.{Missed, book, bookFrom}
-use Rattle.model.specs.Jobs.{emptyBook, emptyIn, fresh}
-use Rattle.model.specs.Claims.{grantsOf, jobClaims, offer}
+use Rattle.model.specs.Lists.{Missed, book, book_from}
+use Rattle.model.specs.Jobs.{empty_book, empty_in, fresh}
+use Rattle.model.specs.Claims.{grants_of, job_claims, offer}
 use Rattle.model.specs.Advance.{singleton}
 use Rattle.model.specs.Refusals.{refused}
-use Rattle.model.specs.Lists.{enter, entered, full, keep, noPlaces, noReports}
-use Rattle.model.specs.Jobs.{releasedNow}
-use Rattle.model.specs.Claims.{bookRow, seeks, served, shownOf}
-use Rattle.model.specs.Advance.{withdraw, withdrawAll, withWithdrawn}
+use Rattle.model.specs.Lists.{enter, entered, full, keep, no_places, no_reports}
+use Rattle.model.specs.Jobs.{released_now}
+use Rattle.model.specs.Claims.{book_row, seeks, served, shown_of}
+use Rattle.model.specs.Advance.{withdraw, withdraw_all, with_withdrawn}
 use Rattle.model.specs.Refusals.{taken}
-use Rattle.model.specs.Lists.{takenFrom, taken_of}
+use Rattle.model.specs.Lists.{taken_from, taken_of}
 use Rattle.model.specs.Row.{row}
 use Rattle.model.specs.Search.{bit}
 use Rattle.model.specs.Task.{AllValid, Table, due, release, task}
@@ -46,19 +46,19 @@ run s b [] = b
 run s b (m ∷ ms) = run s (moved s m b) ms
 
 -- an advance's, with the withdrawn set w
-abbrev pub moveWith : ℕ → ℕ → ℕ → Move
-moveWith w x e = record { reports = bit x; empties = λ p. bit e p || bit w p }
+abbrev pub move_with : ℕ → ℕ → ℕ → Move
+move_with w x e = record { reports = bit x; empties = λ p. bit e p || bit w p }
 
 -- those of a list: a withdrawal is none, and determines which jobs are empty in the advances that follow
-unfoldable pub movesWith : ℕ → List Entry → List Move
-movesWith w [] = []
-movesWith w (advance x e ∷ xs) = moveWith w x e ∷ movesWith w xs
-movesWith w (withdraw p ∷ xs) = movesWith (bit_or w (singleton p)) xs
-movesWith w (withdrawAll x ∷ xs) = movesWith (bit_or w x) xs
+unfoldable pub moves_with : ℕ → List Entry → List Move
+moves_with w [] = []
+moves_with w (advance x e ∷ xs) = move_with w x e ∷ moves_with w xs
+moves_with w (withdraw p ∷ xs) = moves_with (bit_or w (singleton p)) xs
+moves_with w (withdraw_all x ∷ xs) = moves_with (bit_or w x) xs
 
 -- those of a list's taken entries
 abbrev pub moves_of : Table → List Entry → List Move
-moves_of s xs = movesWith 0 (taken_of s xs)
+moves_of s xs = moves_with 0 (taken_of s xs)
 
 -- the book but for the withdrawn set, which nothing reads but the entries
 abbrev pub lines : Book → Book
@@ -78,14 +78,14 @@ before-release : (s : Table) (f : ℕ → Bool) (b : Book) (p k : ℕ) → b.tic
 unfolding step served borrowing
 before-release s f b p k h = rw off
   where
-    off : jobClaims s b p k ≡ false
-    off = not-true-false (jobClaims s b p k) (λ e. let r = after-release s.rule (task s p) k b.tick (b.job p k) e in omega arith)
+    off : job_claims s b p k ≡ false
+    off = not-true-false (job_claims s b p k) (λ e. let r = after-release s.rule (task s p) k b.tick (b.job p k) e in omega arith)
 
 -- so it is fresh until then
 pub full-fresh : (s : Table) (n p k : ℕ) → n ≤ release (task s p) k → (full s n).job p k ≡ fresh
 unfolding full
 full-fresh s zero p k h = refl
-full-fresh s (suc n) p k h = before-release s noPlaces (full s n) p k (omega (arith, full-tick s n)) ∙ full-fresh s n p k (omega arith)
+full-fresh s (suc n) p k h = before-release s no_places (full s n) p k (omega (arith, full-tick s n)) ∙ full-fresh s n p k (omega arith)
 
 -- every line of a book is good
 abbrev pub BookBounds : Table → Book → Type 0
@@ -99,12 +99,12 @@ module _ (s : Table) (ok : AllValid s) where
 
   pub bounds-emptied : (e : ℕ → Bool) (b : Book) → BookBounds s b → BookBounds s (emptied s e b)
   unfolding emptied
-  bounds-emptied e b g p k l = start-bounds (task s p).length (e p && releasedNow s b p k) (b.job p k) (g p k l)
+  bounds-emptied e b g p k l = start-bounds (task s p).length (e p && released_now s b p k) (b.job p k) (g p k l)
 
   bounds-moved : (m : Move) (b : Book) → BookBounds s b → BookBounds s (moved s m b)
   bounds-moved m b g = bounds-step m.reports (emptied s m.empties b) (bounds-emptied m.empties b g)
 
-  pub bounds-start : BookBounds s emptyBook
+  pub bounds-start : BookBounds s empty_book
   bounds-start p k l = bounds-fresh (task s p).length (ok p l).length-pos
 
   pub bounds-run : (ms : List Move) (b : Book) → BookBounds s b → BookBounds s (run s b ms)
@@ -115,21 +115,21 @@ module _ (s : Table) (ok : AllValid s) where
   pub bounds-full : (n : ℕ) → BookBounds s (full s n)
   unfolding full
   bounds-full zero = bounds-start
-  bounds-full (suc n) = bounds-step noPlaces (full s n) (bounds-full n)
+  bounds-full (suc n) = bounds-step no_places (full s n) (bounds-full n)
 
 -- the full-length run is the run of empty sets
-abbrev pub stillMove : Move
-stillMove = record { reports = noPlaces; empties = noPlaces }
+abbrev pub still_move : Move
+still_move = record { reports = no_places; empties = no_places }
 
-step-last : (s : Table) (n : ℕ) (b : Book) → run s (step s noPlaces b) (replicate n stillMove) ≡ step s noPlaces (run s b (replicate n stillMove))
+step-last : (s : Table) (n : ℕ) (b : Book) → run s (step s no_places b) (replicate n still_move) ≡ step s no_places (run s b (replicate n still_move))
 unfolding run emptied
 step-last s zero b = refl
-step-last s (suc n) b = step-last s n (step s noPlaces b)
+step-last s (suc n) b = step-last s n (step s no_places b)
 
-pub full-run : (s : Table) (n : ℕ) → run s emptyBook (replicate n stillMove) ≡ full s n
+pub full-run : (s : Table) (n : ℕ) → run s empty_book (replicate n still_move) ≡ full s n
 unfolding run full emptied
 full-run s zero = refl
-full-run s (suc n) = step-last s n emptyBook ∙ ap (step s noPlaces) (full-run s n)
+full-run s (suc n) = step-last s n empty_book ∙ ap (step s no_places) (full-run s n)
 
 -- in the full-length run no position is withdrawn
 pub full-withdrawn : (s : Table) (n : ℕ) → (full s n).withdrawn ≡ 0
@@ -138,21 +138,21 @@ full-withdrawn s zero = refl
 full-withdrawn s (suc n) = full-withdrawn s n
 
 -- where no position is withdrawn no bit of the empty set names an empty job, so an advance whose sets are both empty is a step with no report
-pub still-emptied : (s : Table) (b : Book) → b.withdrawn ≡ 0 → emptied s (emptyIn b 0) b ≡ b
+pub still-emptied : (s : Table) (b : Book) → b.withdrawn ≡ 0 → emptied s (empty_in b 0) b ≡ b
 unfolding emptied
-still-emptied s b w = ap (λ (f : ℕ → Bool). emptied s f b) (fun_ext absentTask)
+still-emptied s b w = ap (λ (f : ℕ → Bool). emptied s f b) (fun_ext absent_task)
   where
-    absentTask : (p : ℕ) → emptyIn b 0 p ≡ false
-    absentTask p = rw (w, bit-none p)
+    absent_task : (p : ℕ) → empty_in b 0 p ≡ false
+    absent_task p = rw (w, bit-none p)
 
-pub still-advance : (s : Table) (b : Book) → b.withdrawn ≡ 0 → advanced s (bit 0) (emptyIn b 0) b ≡ step s noPlaces b
+pub still-advance : (s : Table) (b : Book) → b.withdrawn ≡ 0 → advanced s (bit 0) (empty_in b 0) b ≡ step s no_places b
 still-advance s b w = ap₂ (λ (f : ℕ → Bool) (c : Book). step s f c) (fun_ext bit-none) (still-emptied s b w)
 
 -- every job that has ended in a book has had C ticks
 abbrev pub WholeBook : Table → Book → Type 0
 WholeBook s b = (p k : ℕ) → (b.job p k).ended ≡ true → (task s p).length ≤ (b.job p k).had
 
-whole-step : (s : Table) (b : Book) → WholeBook s b → WholeBook s (step s noPlaces b)
+whole-step : (s : Table) (b : Book) → WholeBook s b → WholeBook s (step s no_places b)
 unfolding step
 whole-step s b w p k =
     step-whole (task s p).length (served s b p k) (borrowing s b p k) (b.job p k).had (b.job p k).claimed (b.job p k).ended (w p k)
@@ -164,21 +164,21 @@ full-whole s zero p k e = absurd (false≢true e)
 full-whole s (suc n) p k e = whole-step s (full s n) (full-whole s n) p k e
 
 -- and so in the book of empty sets, past a miss too
-whole_from : (s : Table) (n : ℕ) (b : Book) → b.withdrawn ≡ 0 → WholeBook s b → WholeBook s (bookFrom s b (replicate n noReports))
-unfolding bookFrom enter afterTaken
+whole_from : (s : Table) (n : ℕ) (b : Book) → b.withdrawn ≡ 0 → WholeBook s b → WholeBook s (book_from s b (replicate n no_reports))
+unfolding book_from enter after_taken
 whole_from s zero b o w = w
-whole_from s (suc n) b o w = whole_from s n (enter s noReports b) (out (answer s b noReports)) (go (answer s b noReports))
+whole_from s (suc n) b o w = whole_from s n (enter s no_reports b) (out (answer s b no_reports)) (go (answer s b no_reports))
   where
-    out : (a : Answer) → (entered a (advanced s (bit 0) (emptyIn b 0) b) b).withdrawn ≡ 0
+    out : (a : Answer) → (entered a (advanced s (bit 0) (empty_in b 0) b) b).withdrawn ≡ 0
     out taken = unfold step emptied in o
     out (refused n p) = o
 
-    go : (a : Answer) → WholeBook s (entered a (advanced s (bit 0) (emptyIn b 0) b) b)
+    go : (a : Answer) → WholeBook s (entered a (advanced s (bit 0) (empty_in b 0) b) b)
     go taken = subst (WholeBook s) (sym (still-advance s b o)) (whole-step s b w)
     go (refused n p) = w
 
-pub whole-empty : (s : Table) (n : ℕ) → WholeBook s (book s (replicate n noReports))
-whole-empty s n = whole_from s n emptyBook refl (λ p k e. absurd (false≢true e))
+pub whole-empty : (s : Table) (n : ℕ) → WholeBook s (book s (replicate n no_reports))
+whole-empty s n = whole_from s n empty_book refl (λ p k e. absurd (false≢true e))
 
 -- the ticks claimed are no fewer than those had: no place lends, since a job that has ended has claimed C ticks
 had-claimed : (C : ℕ) (f s : Bool) (h c : ℕ) (e : Bool) → h ≤ c → (next C f s (mk h c e)).had ≤ (next C f s (mk h c e)).claimed
@@ -209,10 +209,10 @@ pub full-offer : (s : Table) (n q : ℕ) → offer s (full s n) q ≡ []
 full-offer s n = offer-whole s (full s n) (full-claimed s n)
 
 -- .. so the row shows the cores that are given ..
-pub full-shown : (s : Table) (n : ℕ) → shownOf s (full s n) ≡ grantsOf s (full s n)
+pub full-shown : (s : Table) (n : ℕ) → shown_of s (full s n) ≡ grants_of s (full s n)
 full-shown s n = shown-given s (full s n) (full-offer s n)
 
-pub full-row : (s : Table) (n : ℕ) → bookRow s (full s n) ≡ row s.fence s.cores (grantsOf s (full s n))
+pub full-row : (s : Table) (n : ℕ) → book_row s (full s n) ≡ row s.fence s.cores (grants_of s (full s n))
 full-row s n = ap (row s.fence s.cores) (full-shown s n)
 
 -- .. and a job goes on by these alone
@@ -237,7 +237,7 @@ run-tick s (m ∷ ms) b = run-tick s ms (moved s m b) ∙ omega arith
 abbrev pub Early : Table → Book → Type 0
 Early s b = (p k : ℕ) → b.tick ≤ release (task s p) k → b.job p k ≡ fresh
 
-pub early-start : (s : Table) → Early s emptyBook
+pub early-start : (s : Table) → Early s empty_book
 early-start s p k h = refl
 
 pub early-moved : (s : Table) (m : Move) (b : Book) → Early s b → Early s (moved s m b)
@@ -246,7 +246,7 @@ early-moved s m b e p k h = before-release s m.reports (emptied s m.empties b) p
     later : (emptied s m.empties b).tick < release (task s p) k
     later = unfold step emptied in h
 
-    now : releasedNow s b p k ≡ false
+    now : released_now s b p k ≡ false
     now = unfold step emptied in ne_eqb (release (task s p) k) b.tick (omega arith)
 
     same : (emptied s m.empties b).job p k ≡ fresh
@@ -258,36 +258,36 @@ early-run s [] b e = e
 early-run s (m ∷ ms) b e = early-run s ms (moved s m b) (early-moved s m b e)
 
 -- THE REFUSING LISTS: the book of a list is the run of those of its advances that are taken
-book-from : (s : Table) (xs : List Entry) (b : Book) → lines (bookFrom s b xs) ≡ run s (lines b) (movesWith b.withdrawn (takenFrom s b xs))
-unfolding bookFrom takenFrom movesWith run enter afterTaken step emptied served borrowing borrowed offer seeks
+book-from : (s : Table) (xs : List Entry) (b : Book) → lines (book_from s b xs) ≡ run s (lines b) (moves_with b.withdrawn (taken_from s b xs))
+unfolding book_from taken_from moves_with run enter after_taken step emptied served borrowing borrowed offer seeks
 book-from s [] b = refl
 book-from s (x ∷ xs) b = go x (answer s b x) (book-from s xs)
   where
     go : (x : Entry) (w : Answer)
-        → ((b : Book) → lines (bookFrom s b xs) ≡ run s (lines b) (movesWith b.withdrawn (takenFrom s b xs)))
-        → lines (bookFrom s (entered w (afterTaken s x b) b) xs)
-        ≡ run s (lines b) (movesWith b.withdrawn (keep w x (takenFrom s (entered w (afterTaken s x b) b) xs)))
-    go (advance x e) taken ih = ih (advanced s (bit x) (emptyIn b e) b)
+        → ((b : Book) → lines (book_from s b xs) ≡ run s (lines b) (moves_with b.withdrawn (taken_from s b xs)))
+        → lines (book_from s (entered w (after_taken s x b) b) xs)
+        ≡ run s (lines b) (moves_with b.withdrawn (keep w x (taken_from s (entered w (after_taken s x b) b) xs)))
+    go (advance x e) taken ih = ih (advanced s (bit x) (empty_in b e) b)
     go (advance x e) (refused n p) ih = ih b
-    go (withdraw p) taken ih = ih (withWithdrawn (singleton p) b)
+    go (withdraw p) taken ih = ih (with_withdrawn (singleton p) b)
     go (withdraw p) (refused n q) ih = ih b
-    go (withdrawAll x) taken ih = ih (withWithdrawn x b)
-    go (withdrawAll x) (refused n q) ih = ih b
+    go (withdraw_all x) taken ih = ih (with_withdrawn x b)
+    go (withdraw_all x) (refused n q) ih = ih b
 
-pub book-run : (s : Table) (xs : List Entry) → lines (book s xs) ≡ run s emptyBook (moves_of s xs)
-book-run s xs = book-from s xs emptyBook
+pub book-run : (s : Table) (xs : List Entry) → lines (book s xs) ≡ run s empty_book (moves_of s xs)
+book-run s xs = book-from s xs empty_book
 
 -- the list's tick is how many are taken
 pub book-tick : (s : Table) (xs : List Entry) → length (moves_of s xs) ≡ (book s xs).tick
 book-tick s xs =
     let ms : List Move = moves_of s xs in
-    sym (ap (λ (b : Book). b.tick) (book-run s xs) ∙ (run-tick s ms emptyBook ∙ zero-add (length ms)))
+    sym (ap (λ (b : Book). b.tick) (book-run s xs) ∙ (run-tick s ms empty_book ∙ zero-add (length ms)))
 
 -- so every line of it is good
 pub bounds-book : (s : Table) → AllValid s → (xs : List Entry) → BookBounds s (book s xs)
 bounds-book s ok xs =
-    subst (BookBounds s) (sym (book-run s xs)) (bounds-run s ok (moves_of s xs) emptyBook (bounds-start s ok))
+    subst (BookBounds s) (sym (book-run s xs)) (bounds-run s ok (moves_of s xs) empty_book (bounds-start s ok))
 
 -- and a job is fresh until its release
 pub early-book : (s : Table) (xs : List Entry) → Early s (book s xs)
-early-book s xs = subst (Early s) (sym (book-run s xs)) (early-run s (moves_of s xs) emptyBook (early-start s))
+early-book s xs = subst (Early s) (sym (book-run s xs)) (early-run s (moves_of s xs) empty_book (early-start s))

@@ -11,9 +11,9 @@ use lib.ListN.{length, length-map, length-replicate, replicate}
 use Rattle.model.proofs.Grants.{claimants-same}
 use Rattle.model.proofs.Jobs.{Reserving, idle-claims, start-claimed, step-claimed}
 use Rattle.model.proofs.Runs.{BookBounds, Move, book-run, book-tick, full-claimed, full-had, full-run, bounds-emptied, bounds-start, bounds-step}
-use Rattle.model.proofs.Runs.{lines, moved, moves_of, run, stillMove}
-use Rattle.model.specs.Jobs.{Book, emptied, emptyBook, releasedNow}
-use Rattle.model.specs.Claims.{borrowing, jobClaims, served, taskClaims, widths}
+use Rattle.model.proofs.Runs.{lines, moved, moves_of, run, still_move}
+use Rattle.model.specs.Jobs.{Book, emptied, empty_book, released_now}
+use Rattle.model.specs.Claims.{borrowing, job_claims, served, task_claims, widths}
 use Rattle.model.specs.Advance.{step, Entry}
 use Rattle.model.specs.Lists.{book, full}
 use Rattle.model.specs.Compare.{Behind, NoneBehind}
@@ -28,20 +28,20 @@ pub record SameClaims (s : Table) (a b : Book) : Type 0 where
 
 module _ (s : Table) (ok : AllValid s) (reserving : Reserving s.rule) where
   -- the claims, the cores that are given and so the jobs served are the same
-  same-claims : (a b : Book) → SameClaims s a b → (p k : ℕ) → p < length s.tasks → jobClaims s a p k ≡ jobClaims s b p k
+  same-claims : (a b : Book) → SameClaims s a b → (p k : ℕ) → p < length s.tasks → job_claims s a p k ≡ job_claims s b p k
   same-claims a b ab p k l =
       rw ab.same-tick
       (idle-claims s.rule reserving (task s p) k b.tick (a.job p k) (b.job p k) (ab.bounds-a p k l) (ab.bounds-b p k l) (ab.same-claimed p k l))
 
-  same-task-claims : (a b : Book) → SameClaims s a b → (p : ℕ) → p < length s.tasks → taskClaims s a p ≡ taskClaims s b p
+  same-task-claims : (a b : Book) → SameClaims s a b → (p : ℕ) → p < length s.tasks → task_claims s a p ≡ task_claims s b p
   same-task-claims a b ab p l =
       same-claims a b ab p (newest (task s p) a.tick) l
-      ∙ ap (λ (t : ℕ). jobClaims s b p (newest (task s p) t)) ab.same-tick
+      ∙ ap (λ (t : ℕ). job_claims s b p (newest (task s p) t)) ab.same-tick
 
-  pub same-claimants : (a b : Book) → SameClaims s a b → claimants (widths s a.tick) (taskClaims s a) ≡ claimants (widths s b.tick) (taskClaims s b)
+  pub same-claimants : (a b : Book) → SameClaims s a b → claimants (widths s a.tick) (task_claims s a) ≡ claimants (widths s b.tick) (task_claims s b)
   same-claimants a b ab =
-      claimants-same (widths s a.tick) (taskClaims s a) (taskClaims s b) (λ q h. same-task-claims a b ab q (rw length-map at h))
-      ∙ ap (λ (t : ℕ). claimants (widths s t) (taskClaims s b)) ab.same-tick
+      claimants-same (widths s a.tick) (task_claims s a) (task_claims s b) (λ q h. same-task-claims a b ab q (rw length-map at h))
+      ∙ ap (λ (t : ℕ). claimants (widths s t) (task_claims s b)) ab.same-tick
 
   pub same-served : (a b : Book) → SameClaims s a b → (p k : ℕ) → p < length s.tasks → served s a p k ≡ served s b p k
   unfolding served
@@ -68,8 +68,8 @@ module _ (s : Table) (ok : AllValid s) (reserving : Reserving s.rule) where
     bounds-a = bounds-emptied s ok e a ab.bounds-a;
     bounds-b = bounds-emptied s ok g b ab.bounds-b;
     same-claimed = λ p k l.
-        start-claimed (e p && releasedNow s a p k) (a.job p k)
-        ∙ (ab.same-claimed p k l ∙ sym (start-claimed (g p && releasedNow s b p k) (b.job p k)));
+        start-claimed (e p && released_now s a p k) (a.job p k)
+        ∙ (ab.same-claimed p k l ∙ sym (start-claimed (g p && released_now s b p k) (b.job p k)));
   }
 
   same-claims-runs : (ms ns : List Move) → length ms ≡ length ns → (a b : Book) → SameClaims s a b → SameClaims s (run s a ms) (run s b ns)
@@ -81,13 +81,13 @@ module _ (s : Table) (ok : AllValid s) (reserving : Reserving s.rule) where
       same-claims-runs ms ns (suc_inj e) (moved s m a) (moved s n b)
       (same-claims-step m.reports n.reports (emptied s m.empties a) (emptied s n.empties b) (same-claims-emptied m.empties n.empties a b ab))
 
-  pub same-claims-start : SameClaims s emptyBook emptyBook
+  pub same-claims-start : SameClaims s empty_book empty_book
   same-claims-start = record { same-tick = refl; bounds-a = bounds-start s ok; bounds-b = bounds-start s ok; same-claimed = λ p k l. refl }
 
-  same-claims-run : (ms : List Move) → SameClaims s (run s emptyBook ms) (full s (length ms))
+  same-claims-run : (ms : List Move) → SameClaims s (run s empty_book ms) (full s (length ms))
   same-claims-run ms =
-      subst (SameClaims s (run s emptyBook ms)) (full-run s (length ms))
-      (same-claims-runs ms (replicate (length ms) stillMove) (sym (length-replicate (length ms) stillMove)) emptyBook emptyBook same-claims-start)
+      subst (SameClaims s (run s empty_book ms)) (full-run s (length ms))
+      (same-claims-runs ms (replicate (length ms) still_move) (sym (length-replicate (length ms) still_move)) empty_book empty_book same-claims-start)
 
   -- THE THEOREM: every list, refused entries included, has the claims of the full-length run ..
   pub same-claims-full : (xs : List Entry) → SameClaims s (lines (book s xs)) (full s (book s xs).tick)
@@ -103,7 +103,7 @@ module _ (s : Table) (ok : AllValid s) (reserving : Reserving s.rule) where
     same-tick = ab.same-tick;
     bounds-a = bounds-emptied s ok e (book s xs) ab.bounds-a;
     bounds-b = ab.bounds-b;
-    same-claimed = λ p k l. start-claimed (e p && releasedNow s (book s xs) p k) ((book s xs).job p k) ∙ ab.same-claimed p k l;
+    same-claimed = λ p k l. start-claimed (e p && released_now s (book s xs) p k) ((book s xs).job p k) ∙ ab.same-claimed p k l;
   }
 
   -- so no list is behind the full-length run: what that has had it has claimed, and a job that has not ended has had what it has claimed

@@ -10,15 +10,15 @@ use native.Mathlib.Omega.{arith}
 use lib.Count.{ones}
 use lib.Dec.{eqb}
 use Rattle.model.proofs.Computing.{computing}
-use Rattle.model.proofs.EmptyExamples.{noPlaces}
-use Rattle.model.proofs.Examples.{B, fencedOn, on, t, t₂}
+use Rattle.model.proofs.EmptyExamples.{no_places}
+use Rattle.model.proofs.Examples.{B, fenced_on, on, t, t₂}
 use Rattle.model.proofs.LendExamples.{figure-3}
-use Rattle.model.specs.Advance.{Entry, advance, withdrawAll}
-use Rattle.model.specs.Refusals.{Asked, rowRefused, shown}
+use Rattle.model.specs.Advance.{Entry, advance, withdraw_all}
+use Rattle.model.specs.Refusals.{Asked, row_refused, shown}
 use Rattle.model.specs.Lists.{book}
 use Rattle.model.specs.Lending.{among}
 use Rattle.model.specs.Search.{filtered, member}
-use Rattle.model.specs.Sets.{SetsApart, SetsCount, SetsUnfenced, setOf, setsAsked}
+use Rattle.model.specs.Sets.{SetsApart, SetsCount, SetsUnfenced, set_of, sets_asked}
 use Rattle.model.specs.Task.{Rule, Table, greedy, idling, lending, limited}
 
 -- a line: its name, a table and a list, the empty jobs of the row asked after it; and the answer
@@ -36,7 +36,7 @@ answered l = record {
   table = l.table;
   entries = l.entries;
   empties = l.empties;
-  sets = setsAsked l.table (book l.table l.entries) l.empties;
+  sets = sets_asked l.table (book l.table l.entries) l.empties;
 }
 
 -- a line from its parts
@@ -54,24 +54,24 @@ all-wide r = on 2 r (t 0 2 1 3 3 ∷ t 0 1 1 3 3 ∷ [])
 abbrev pub sets-lines : List Line
 sets-lines =
     line "lent cores are the borrowers', and who has lent all has none" figure-3 (advance 1 0 ∷ []) 0 (shown (0 ∷ 0 ∷ 4 ∷ 1 ∷ 0 ∷ 2 ∷ []))
-    ∷ line "a tick later" figure-3 (advance 1 0 ∷ noPlaces ∷ []) 0 (shown (0 ∷ 0 ∷ 0 ∷ 4 ∷ 3 ∷ 0 ∷ []))
+    ∷ line "a tick later" figure-3 (advance 1 0 ∷ no_places ∷ []) 0 (shown (0 ∷ 0 ∷ 0 ∷ 4 ∷ 3 ∷ 0 ∷ []))
     ∷ line "a lender keeps what it has not lent" (early lending) (advance 1 0 ∷ []) 0 (shown (4 ∷ 3 ∷ []))
     ∷ line "a holder of whom nobody borrows has its width" (on 3 lending (t 0 2 2 6 6 ∷ t 0 3 1 6 6 ∷ [])) (advance 1 0 ∷ []) 0 (shown (3 ∷ 0 ∷ []))
-    ∷ line "withdrawn in a set: it lends at once" (early lending) (withdrawAll 1 ∷ []) 0 (shown (4 ∷ 3 ∷ []))
-    ∷ line "a set that is refused" (early lending) (withdrawAll 5 ∷ []) 0 (shown (7 ∷ 0 ∷ []))
+    ∷ line "withdrawn in a set: it lends at once" (early lending) (withdraw_all 1 ∷ []) 0 (shown (4 ∷ 3 ∷ []))
+    ∷ line "a set that is refused" (early lending) (withdraw_all 5 ∷ []) 0 (shown (7 ∷ 0 ∷ []))
     ∷ line "a holder under rule 3 keeps all" (early idling) (advance 1 0 ∷ []) 0 (shown (7 ∷ 0 ∷ []))
     ∷ line "under rules 1 and 2 it has none" (early limited) (advance 1 0 ∷ []) 0 (shown (0 ∷ 3 ∷ []))
     ∷ line "one that ended by lent ticks and has no cores reserved has none"
-    (on 2 lending (t 0 2 3 9 9 ∷ t 0 1 1 9 9 ∷ t 0 2 1 9 9 ∷ t 0 1 3 9 9 ∷ [])) (advance 1 0 ∷ noPlaces ∷ []) 0 (shown (0 ∷ 0 ∷ 3 ∷ 0 ∷ []))
-    ∷ line "a fenced core is in no set, lent or not" (fencedOn 5 5 lending figure-3.tasks) (advance 1 0 ∷ []) 0 (shown (0 ∷ 0 ∷ 16 ∷ 2 ∷ 0 ∷ 8 ∷ []))
-    ∷ line "all cores but the last are fenced" (fencedOn 64 (2 ^ 63 - 1) greedy (t 0 1 1 1 1 ∷ [])) [] 0 (shown (2 ^ 63 ∷ []))
+    (on 2 lending (t 0 2 3 9 9 ∷ t 0 1 1 9 9 ∷ t 0 2 1 9 9 ∷ t 0 1 3 9 9 ∷ [])) (advance 1 0 ∷ no_places ∷ []) 0 (shown (0 ∷ 0 ∷ 3 ∷ 0 ∷ []))
+    ∷ line "a fenced core is in no set, lent or not" (fenced_on 5 5 lending figure-3.tasks) (advance 1 0 ∷ []) 0 (shown (0 ∷ 0 ∷ 16 ∷ 2 ∷ 0 ∷ 8 ∷ []))
+    ∷ line "all cores but the last are fenced" (fenced_on 64 (2 ^ 63 - 1) greedy (t 0 1 1 1 1 ∷ [])) [] 0 (shown (2 ^ 63 ∷ []))
     ∷ line "a width of 64" (on 64 greedy (t 0 64 1 1 1 ∷ [])) [] 0 (shown ((2 ^ 64 - 1) ∷ []))
-    ∷ line "an even job has its own width" (on 2 greedy (t₂ 0 1 2 1 1 1 ∷ [])) (noPlaces ∷ []) 0 (shown (3 ∷ []))
+    ∷ line "an even job has its own width" (on 2 greedy (t₂ 0 1 2 1 1 1 ∷ [])) (no_places ∷ []) 0 (shown (3 ∷ []))
     ∷ line "empties before cores, under rule 1" (all-wide greedy) [] 1 (shown (0 ∷ 1 ∷ []))
     ∷ line ".. under rule 3" (all-wide idling) [] 1 (shown (3 ∷ 0 ∷ []))
     ∷ line ".. and under rule 4" (all-wide lending) [] 1 (shown (2 ∷ 1 ∷ []))
-    ∷ line "20: no job is released" (all-wide greedy) (noPlaces ∷ []) 1 (rowRefused 20 0)
-    ∷ line "15 before 20" (B greedy) (advance 1 0 ∷ noPlaces ∷ []) 8 (rowRefused 15 3)
+    ∷ line "20: no job is released" (all-wide greedy) (no_places ∷ []) 1 (row_refused 20 0)
+    ∷ line "15 before 20" (B greedy) (advance 1 0 ∷ no_places ∷ []) 8 (row_refused 15 3)
     ∷ []
 
 -- every line is its value by the definitions: one table with one check
@@ -96,7 +96,7 @@ not-counted h = ⊎_elim (λ (e : 1 ≡ 2). omega arith) (λ (e : 1 ≡ 0). omeg
 
 -- the borrower's core left in the holder's set
 pub not-kept : ¬ SetsCount (2 ∷ 1 ∷ []) (λ p. cond (eqb p 0) (0 ∷ 1 ∷ []) []) ([] ∷ (0 ∷ []) ∷ []) (3 ∷ 1 ∷ [])
-unfolding setOf filtered among member
+unfolding set_of filtered among member
 not-kept h = let e : ◌≡◌ {A = ℕ} 3 2 = h.lender 0 cons≢nil in omega arith
 
 -- a holder of width 2 that has one core to lend, of which no place borrows

@@ -3,8 +3,7 @@ use mathlib.Core.Bool.{Bool, ◌&&◌, cond, false, not, true, true≢false}
 use mathlib.Core.Logic.{⊎_elim}
 use mathlib.Core.Path.{ap, refl, subst, sym, ◌∙◌, ◌≡◌}
 use Prim.Native.Nat.{◌%◌, ◌*◌, ◌+◌, ◌-◌, ◌/◌, ◌<◌, min, suc, zero, ℕ, ◌≤◌}
-use native.Mathlib.Nat.{add-suc, add-zero, div-add-mod', div-mul-le_self, div-lt_iff_lt-mul, eq-or-lt_of_le, le_dest, le-div_iff_mul-le, le_of_suc-le-suc}
-use native.Mathlib.Nat.{le_trans}
+use native.Mathlib.Nat.{add-suc, add-zero, div-add-mod', div-mul-le_self, div-lt_iff_lt-mul, eq-or-lt_of_le, le_dest, le-div_iff_mul-le, le_of_suc-le-suc, le_trans}
 use native.Mathlib.Nat.{lt_of_mul-lt-mul_right, mul-le-mul_right, not-suc-le-zero}
 use native.Mathlib.Omega.{arith}
 use lib.Dec.{eqb, leb}
@@ -16,11 +15,11 @@ use Rattle.model.proofs.Jobs.{after-release, before-due, done-off, next-claimed}
 use Rattle.model.proofs.Runs.{full-claimed, full-next, full-tick, bounds-full}
 use Rattle.model.proofs.Waiting.{once}
 use Rattle.model.specs.Jobs.{Job}
-use Rattle.model.specs.Claims.{claims, in_row, jobClaims, served, taskClaims, widths}
+use Rattle.model.specs.Claims.{claims, in_row, job_claims, served, task_claims, widths}
 use Rattle.model.specs.Lists.{full}
-use Rattle.model.specs.Fence.{unfencedCores}
+use Rattle.model.specs.Fence.{unfenced_cores}
 use Rattle.model.specs.Grants.{given, left, some}
-use Rattle.model.specs.Interference.{workloadIn}
+use Rattle.model.specs.Interference.{workload_in}
 use Rattle.model.specs.Task.{AllValid, Table, Task, due, newest, release, task}
 
 -- HOW OFTEN A PLACE IS GIVEN CORES IN A WINDOW
@@ -53,8 +52,8 @@ pub every : (τ : Task) → Series τ (λ k. true) τ.period
 every τ = record { nth = λ j. j; begin = τ.offset; apart = λ j. refl; slow = omega arith; find = λ k h. (k, refl) }
 
 -- those of one parity
-pub everySecond : (τ : Task) (o : ℕ) → Series τ (λ k. eqb (k % 2) o) (2 * τ.period)
-everySecond τ o = record {
+pub every_second : (τ : Task) (o : ℕ) → Series τ (λ k. eqb (k % 2) o) (2 * τ.period)
+every_second τ o = record {
   nth = λ j. o + j * 2;
   begin = τ.offset + o * τ.period;
   apart = λ j. omega arith;
@@ -97,16 +96,16 @@ module _ (s : Table) (ok : AllValid s) (i : ℕ) (l : i < length s.tasks) where
   -- who is given cores has a job that claims, the newest
   in-row-served : (t : ℕ) → in_row s (full s t) i ≡ true → served s (full s t) i (newest τ (full s t).tick) ≡ true
   unfolding served
-  in-row-served t e = and_both (taskClaims s (full s t) i) (in_row s (full s t) i) (not-false-true (taskClaims s (full s t) i) off) e
+  in-row-served t e = and_both (task_claims s (full s t) i) (in_row s (full s t) i) (not-false-true (task_claims s (full s t) i) off) e
     where
-      off : taskClaims s (full s t) i ≡ false → ⊥
+      off : task_claims s (full s t) i ≡ false → ⊥
       off c =
           true≢false
-          (sym e ∙ ap some (grants-none s.rule (widths s (full s t).tick) (taskClaims s (full s t)) (unfencedCores s) i c))
+          (sym e ∙ ap some (grants-none s.rule (widths s (full s t).tick) (task_claims s (full s t)) (unfenced_cores s) i c))
 
-  pub served-claims : (t k : ℕ) → served s (full s t) i k ≡ true → jobClaims s (full s t) i k ≡ true
+  pub served-claims : (t k : ℕ) → served s (full s t) i k ≡ true → job_claims s (full s t) i k ≡ true
   unfolding served
-  served-claims t k e = and_left (jobClaims s (full s t) i k) (in_row s (full s t) i) e
+  served-claims t k e = and_left (job_claims s (full s t) i k) (in_row s (full s t) i) e
 
   -- at full length a job that has ended is given none
   pub served-open : (t k : ℕ) → served s (full s t) i k ≡ true → ((full s t).job i k).ended ≡ false
@@ -244,7 +243,7 @@ module _ (s : Table) (ok : AllValid s) (i : ℕ) (l : i < length s.tasks) where
                   omega (arith, far.1)
 
     -- the densest window
-    pub got-most : τ.length ≤ e → e ≤ τ.deadline → (x L : ℕ) → got s f x i L ≤ workloadIn τ T e L
+    pub got-most : τ.length ≤ e → e ≤ τ.deadline → (x L : ℕ) → got s f x i L ≤ workload_in τ T e L
     got-most long short x L = go d d-less d-more
       where
         C : ℕ
@@ -285,7 +284,7 @@ module _ (s : Table) (ok : AllValid s) (i : ℕ) (l : i < length s.tasks) where
         d-more : L + e - y < suc d * T
         d-more = (div-lt_iff_lt-mul T-pos).0 (omega arith)
 
-        go : (d : ℕ) → d * T ≤ L + e - y → L + e - y < suc d * T → got s f x i L ≤ workloadIn τ T e L
+        go : (d : ℕ) → d * T ≤ L + e - y → L + e - y < suc d * T → got s f x i L ≤ workload_in τ T e L
         go zero h g =
             densest-one C T L e y (got s f x i L) ((full s (x + L)).job i (κ a)).claimed T-pos long (got-window s f x i L) (claimed-most (x + L) (κ a))
             (omega (arith, claimed-since (x + L) (κ a), yy.1))

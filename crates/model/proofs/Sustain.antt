@@ -19,17 +19,17 @@ use Rattle.model.proofs.Lending.{not-borrowing, offer-none}
 use Rattle.model.proofs.SameClaims.{SameClaims, same-claims-emptied, same-claims-near, same-claims-start, same-claims-step, same-served}
 use Rattle.model.proofs.Lists.{map_at}
 use Rattle.model.proofs.Runs.{Early, BookBounds, Move, book-run, book-tick, early-moved, early-start, full-run, full-whole, bounds-emptied, bounds-run}
-use Rattle.model.proofs.Runs.{bounds-start, bounds-step, lines, moved, moves_of, run, stillMove}
-use Rattle.model.specs.Jobs.{Book, Job, emptied, emptyBook, fresh, releasedNow}
-use Rattle.model.specs.Claims.{borrowing, claims, in_row, jobClaims, served}
+use Rattle.model.proofs.Runs.{bounds-start, bounds-step, lines, moved, moves_of, run, still_move}
+use Rattle.model.specs.Jobs.{Book, Job, emptied, empty_book, fresh, released_now}
+use Rattle.model.specs.Claims.{borrowing, claims, in_row, job_claims, served}
 use Rattle.model.specs.Advance.{step, Entry}
 use Rattle.model.specs.Lists.{book, full}
-use Rattle.model.specs.Claims.{taskClaims, widths}
+use Rattle.model.specs.Claims.{task_claims, widths}
 use Rattle.model.specs.Compare.{Behind, Longer, NoneBehind, NoneLonger}
-use Rattle.model.specs.Fence.{unfencedCores}
+use Rattle.model.specs.Fence.{unfenced_cores}
 use Rattle.model.specs.Grants.{claimants, grants, some}
 use Rattle.model.specs.Lending.{lends}
-use Rattle.model.specs.Task.{AllValid, Rule, Table, Task, greedy, idling, lending, limited, narrowest, newest, absentTask, release, task, widest, width_of}
+use Rattle.model.specs.Task.{AllValid, Rule, Table, Task, greedy, idling, lending, limited, narrowest, newest, absent_task, release, task, widest, width_of}
 use Rattle.model.specs.Firm.{FirmRule, ParallelismMonotonic}
 
 -- fewer claims take no cores from a task that still claims
@@ -50,7 +50,7 @@ mono-greedy ws h c d F cd p cp e =
 between : (τ : Task) (k : ℕ) → (narrowest τ ≤ width_of τ k) × (width_of τ k ≤ widest τ)
 between τ k = go (eqb (k % 2) 0)
   where
-    go : (t : Bool) → (narrowest τ ≤ cond t τ.oddWidth τ.evenWidth) × (cond t τ.oddWidth τ.evenWidth ≤ widest τ)
+    go : (t : Bool) → (narrowest τ ≤ cond t τ.odd_width τ.even_width) × (cond t τ.odd_width τ.even_width ≤ widest τ)
     go true = (omega arith, omega arith)
     go false = (omega arith, omega arith)
 
@@ -59,7 +59,7 @@ pub monotonic-widths : (s : Table) → ParallelismMonotonic s.tasks → (t : ℕ
 monotonic-widths s h t p l =
     let l' : suc p < length s.tasks = rw length-map at l in
     let w : Task → ℕ = λ τ. width_of τ (newest τ t) in
-    rw (map_at w s.tasks p 0 absentTask (omega arith), map_at w s.tasks (suc p) 0 absentTask l')
+    rw (map_at w s.tasks p 0 absent_task (omega arith), map_at w s.tasks (suc p) 0 absent_task l')
     (le_trans (between (task s p) (newest (task s p) t)).1 (le_trans (h p l') (between (task s (suc p)) (newest (task s (suc p)) t)).0))
 
 -- what the firm rules have
@@ -79,7 +79,7 @@ releasing-lends : (r : Rule) → Releasing r → lends r ≡ false
 releasing-lends greedy h = refl
 releasing-lends limited h = refl
 releasing-lends idling h = refl
-releasing-lends lending h = absurd (true≢false (h (record { offset = 0; oddWidth = 1; length = 1; deadline = 1; period = 1; evenWidth = 1 }) fresh))
+releasing-lends lending h = absurd (true≢false (h (record { offset = 0; odd_width = 1; length = 1; deadline = 1; period = 1; even_width = 1 }) fresh))
 
 -- two books at one tick, of which the first is behind on no job; where ended jobs still claim they are level
 pub record SustainedBy (s : Table) (a b : Book) : Type 0 where
@@ -90,7 +90,7 @@ pub record SustainedBy (s : Table) (a b : Book) : Type 0 where
   pub same-claims : Reserving s.rule → SameClaims s a b
 
 module _ (s : Table) where
-  at-release : (b : Book) (p k : ℕ) → releasedNow s b p k ≡ true → b.tick ≤ release (task s p) k
+  at-release : (b : Book) (p k : ℕ) → released_now s b p k ≡ true → b.tick ≤ release (task s p) k
   at-release b p k q = le_of_eq (sym (eqb-true (release (task s p) k) b.tick q))
 
   same-moved : (m n : Move) (a b : Book) → a.tick ≡ b.tick → (moved s m a).tick ≡ (moved s n b).tick
@@ -108,20 +108,20 @@ module _ (s : Table) (ok : AllValid s) (keeps : lends s.rule ≡ false) where
       → (p k : ℕ) → p < length s.tasks → (a.job p k).ended ≡ false → served s b p k ≡ true → served s a p k ≡ true
   unfolding served
   follow-releasing a b ab mono let' p k l o e =
-      let cb : jobClaims s b p k ≡ true = and_left (jobClaims s b p k) (in_row s b p) e in
-      let rb : in_row s b p ≡ true = and_right (jobClaims s b p k) (in_row s b p) e in
+      let cb : job_claims s b p k ≡ true = and_left (job_claims s b p k) (in_row s b p) e in
+      let rb : in_row s b p ≡ true = and_right (job_claims s b p k) (in_row s b p) e in
       let ca : claims s.rule (task s p) k b.tick (a.job p k) ≡ true = claims-open s.rule (task s p) k b.tick (a.job p k) (b.job p k) cb o in
-      let ca' : jobClaims s a p k ≡ true = rw ab.same-tick ca in
+      let ca' : job_claims s a p k ≡ true = rw ab.same-tick ca in
       let nk : newest (task s p) a.tick ≡ k =
       newest-is (task s p) k a.tick (ok p l).constrained
       (after-release s.rule (task s p) k a.tick (a.job p k) ca')
       (before-due s.rule (task s p) k a.tick (a.job p k) ca') in
-      and_both (jobClaims s a p k) (in_row s a p) ca'
-      (subst (λ (t : ℕ). some (get_or (grants s.rule (claimants (widths s t) (taskClaims s a)) (unfencedCores s)) p []) ≡ true) (sym ab.same-tick)
-      (mono b.tick (taskClaims s a) (taskClaims s b) (unfencedCores s) subset p
-      (subst (λ (m : ℕ). jobClaims s a p m ≡ true) (sym nk) ca') rb))
+      and_both (job_claims s a p k) (in_row s a p) ca'
+      (subst (λ (t : ℕ). some (get_or (grants s.rule (claimants (widths s t) (task_claims s a)) (unfenced_cores s)) p []) ≡ true) (sym ab.same-tick)
+      (mono b.tick (task_claims s a) (task_claims s b) (unfenced_cores s) subset p
+      (subst (λ (m : ℕ). job_claims s a p m ≡ true) (sym nk) ca') rb))
     where
-      subset : (q : ℕ) → q < length (widths s b.tick) → taskClaims s a q ≡ true → taskClaims s b q ≡ true
+      subset : (q : ℕ) → q < length (widths s b.tick) → task_claims s a q ≡ true → task_claims s b q ≡ true
       subset q h c =
           claims-less s.rule (task s q) (newest (task s q) b.tick) b.tick
           (a.job q (newest (task s q) b.tick)) (b.job q (newest (task s q) b.tick)) let' (ab.near q (newest (task s q) b.tick) (rw length-map at h))
@@ -157,33 +157,33 @@ module _ (s : Table) (ok : AllValid s) (keeps : lends s.rule ≡ false) where
   unfolding emptied
   sustained-emptied e g a b ea eb ab nl = record {
     same-tick = ab.same-tick;
-    near = λ p k l. by-now p k l (releasedNow s a p k) refl (nl p k l);
+    near = λ p k l. by-now p k l (released_now s a p k) refl (nl p k l);
     bounds-a = bounds-emptied s ok e a ab.bounds-a;
     bounds-b = bounds-emptied s ok g b ab.bounds-b;
     same-claims = λ i. unfold emptied in same-claims-emptied s ok i e g a b (ab.same-claims i);
   }
     where
-      by-now : (p k : ℕ) → p < length s.tasks → (t : Bool) → releasedNow s a p k ≡ t
-          → ¬ Longer (start (e p && releasedNow s a p k) (a.job p k)) (start (g p && releasedNow s b p k) (b.job p k))
-          → ¬ Behind (start (e p && releasedNow s a p k) (a.job p k)) (start (g p && releasedNow s b p k) (b.job p k))
+      by-now : (p k : ℕ) → p < length s.tasks → (t : Bool) → released_now s a p k ≡ t
+          → ¬ Longer (start (e p && released_now s a p k) (a.job p k)) (start (g p && released_now s b p k) (b.job p k))
+          → ¬ Behind (start (e p && released_now s a p k) (a.job p k)) (start (g p && released_now s b p k) (b.job p k))
       by-now p k l true q =
           rw (ea p k (at-release s a p k q), eb p k (at-release s b p k (rw ab.same-tick at q)))
-          (fresh-not-behind (e p && releasedNow s a p k) (g p && releasedNow s b p k))
+          (fresh-not-behind (e p && released_now s a p k) (g p && released_now s b p k))
       by-now p k l false q =
-          let q' : releasedNow s b p k ≡ false = rw ab.same-tick at q in
+          let q' : released_now s b p k ≡ false = rw ab.same-tick at q in
           rw (q, q', and-false (e p), and-false (g p)) (λ nl'. ab.near p k l)
 
   longer-emptied :
       (e g : ℕ → Bool) (a b : Book) → Early s b → a.tick ≡ b.tick
       → (p k : ℕ) → Longer (a.job p k) (b.job p k) → Longer ((emptied s e a).job p k) ((emptied s g b).job p k)
   unfolding emptied
-  longer-emptied e g a b eb st p k h = by-now (releasedNow s b p k) refl
+  longer-emptied e g a b eb st p k h = by-now (released_now s b p k) refl
     where
-      by-now : (t : Bool) → releasedNow s b p k ≡ t
-          → Longer (start (e p && releasedNow s a p k) (a.job p k)) (start (g p && releasedNow s b p k) (b.job p k))
+      by-now : (t : Bool) → released_now s b p k ≡ t
+          → Longer (start (e p && released_now s a p k) (a.job p k)) (start (g p && released_now s b p k) (b.job p k))
       by-now true q = absurd (false≢true (sym (ap (λ (j : Job). j.ended) (eb p k (at-release s b p k q))) ∙ h.0))
       by-now false q =
-          let q' : releasedNow s a p k ≡ false = rw (← st) at q in
+          let q' : released_now s a p k ≡ false = rw (← st) at q in
           rw (q, q', and-false (e p), and-false (g p)) h
 
   -- a job once longer stays longer, where both books go on
@@ -228,7 +228,7 @@ module _ (s : Table) (ok : AllValid s) (keeps : lends s.rule ≡ false) where
       (sustained-emptied m.empties n.empties a b ea eb ab now) later)
       nl
 
-  start-sustained : SustainedBy s emptyBook emptyBook
+  start-sustained : SustainedBy s empty_book empty_book
   start-sustained = record {
     same-tick = refl;
     near = λ p k l x. never x;
@@ -243,13 +243,13 @@ module _ (s : Table) (ok : AllValid s) (keeps : lends s.rule ≡ false) where
 
 module _ (s : Table) (ok : AllValid s) (keeps : lends s.rule ≡ false) where
   -- no job of a run is longer than at full length, so a run goes abreast of the full-length run
-  sustained-run : Kind s → (ms : List Move) → SustainedBy s (run s emptyBook ms) (full s (length ms))
+  sustained-run : Kind s → (ms : List Move) → SustainedBy s (run s empty_book ms) (full s (length ms))
   sustained-run kd ms =
-      let still : List Move = replicate (length ms) stillMove in
-      subst (λ (b : Book). NoneLonger s (run s emptyBook ms) b → SustainedBy s (run s emptyBook ms) b) (full-run s (length ms))
-      (two_runs s ok keeps kd ms still (sym (length-replicate (length ms) stillMove)) emptyBook emptyBook
+      let still : List Move = replicate (length ms) still_move in
+      subst (λ (b : Book). NoneLonger s (run s empty_book ms) b → SustainedBy s (run s empty_book ms) b) (full-run s (length ms))
+      (two_runs s ok keeps kd ms still (sym (length-replicate (length ms) still_move)) empty_book empty_book
       (early-start s) (early-start s) (start-sustained s ok keeps))
-      (none-longer s (run s emptyBook ms) (full s (length ms)) (bounds-run s ok ms emptyBook (bounds-start s ok)) (full-whole s (length ms)))
+      (none-longer s (run s empty_book ms) (full s (length ms)) (bounds-run s ok ms empty_book (bounds-start s ok)) (full-whole s (length ms)))
 
   -- THE SAME OF LISTS, refused entries included
   module _ (firmly : FirmRule s) where
@@ -261,7 +261,7 @@ module _ (s : Table) (ok : AllValid s) (keeps : lends s.rule ≡ false) where
         let ms : List Move = moves_of s xs in
         let ns : List Move = moves_of s ys in
         subst₂ (λ (a b : Book). NoneLonger s a b → SustainedBy s a b) (sym (book-run s xs)) (sym (book-run s ys))
-        (two_runs s ok keeps (kind s firmly) ms ns (book-tick s xs ∙ (e ∙ sym (book-tick s ys))) emptyBook emptyBook
+        (two_runs s ok keeps (kind s firmly) ms ns (book-tick s xs ∙ (e ∙ sym (book-tick s ys))) empty_book empty_book
         (early-start s) (early-start s) (start-sustained s ok keeps))
 
     -- a list and the full-length run: the list is behind it on no job

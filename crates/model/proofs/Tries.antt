@@ -9,7 +9,7 @@ use lib.Dec.{leb, ltb}
 use borrow.Author.Tests.{le-ltb, leb-false, leb-true, ltb-true}
 use Rattle.model.proofs.Interference.{suffices-long, suffices-short}
 use Rattle.model.proofs.Windows.{first_passes}
-use Rattle.model.specs.Interference.{boundFrom, firstWindow, mostHalvings, mostTries, nextWindow, shortenedWindow, suffices, waitsIn}
+use Rattle.model.specs.Interference.{bound_from, first_window, most_halvings, most_tries, next_window, shortened_window, suffices, waits_in}
 use Rattle.model.specs.Task.{Table, task}
 
 -- the powers of two
@@ -50,40 +50,40 @@ module _ (s : Table) (e : ℕ → ℕ) (p : ℕ) where
 
   -- UPWARDS: the ticks of waiting double, so that after k tries more the deadline is reached
   first_more :
-      (k n L : ℕ) → k ≤ n → C ≤ L → D < C + waitsIn (task s p) L * doubled k → firstWindow s e p (suc n) L ≡ firstWindow s e p (suc k) L
-  unfolding firstWindow doubled
+      (k n L : ℕ) → k ≤ n → C ≤ L → D < C + waits_in (task s p) L * doubled k → first_window s e p (suc n) L ≡ first_window s e p (suc k) L
+  unfolding first_window doubled
   first_more zero n L m h few =
-      ap (λ (t : Bool). cond (suffices s e p L) L (cond t (firstWindow s e p n (nextWindow (task s p) L)) (suc D))) last
+      ap (λ (t : Bool). cond (suffices s e p L) L (cond t (first_window s e p n (next_window (task s p) L)) (suc D))) last
       ∙ sym (ap (λ (t : Bool). cond (suffices s e p L) L (cond t (suc D) (suc D))) last)
     where
       last : ltb L D ≡ false
       last = le-ltb L D (omega arith)
   first_more (suc k) zero L m h few = absurd (not-suc-le-zero m)
   first_more (suc k) (suc n) L m h few =
-      ap (λ (x : ℕ). cond (suffices s e p L) L x) (go (ltb L D) refl (first_more k n (nextWindow (task s p) L) (le_of_suc-le-suc m)))
+      ap (λ (x : ℕ). cond (suffices s e p L) L x) (go (ltb L D) refl (first_more k n (next_window (task s p) L) (le_of_suc-le-suc m)))
     where
       go : (t : Bool) → ltb L D ≡ t
-          → (C ≤ nextWindow (task s p) L → D < C + waitsIn (task s p) (nextWindow (task s p) L) * doubled k
-          → firstWindow s e p (suc n) (nextWindow (task s p) L) ≡ firstWindow s e p (suc k) (nextWindow (task s p) L))
-          → cond t (firstWindow s e p (suc n) (nextWindow (task s p) L)) (suc D) ≡ cond t (firstWindow s e p (suc k) (nextWindow (task s p) L)) (suc D)
+          → (C ≤ next_window (task s p) L → D < C + waits_in (task s p) (next_window (task s p) L) * doubled k
+          → first_window s e p (suc n) (next_window (task s p) L) ≡ first_window s e p (suc k) (next_window (task s p) L))
+          → cond t (first_window s e p (suc n) (next_window (task s p) L)) (suc D) ≡ cond t (first_window s e p (suc k) (next_window (task s p) L)) (suc D)
       go false q ih = refl
       go true q ih = ih (omega (arith, ltb-true L D q)) (step C D L (doubled k) h (ltb-true L D q) (doubled-some k) few)
 
   -- more than 21 tries find the same
-  pub first-enough : D ≤ 1000000 → 1 ≤ C → (n : ℕ) → mostTries ≤ n → firstWindow s e p n C ≡ firstWindow s e p mostTries C
+  pub first-enough : D ≤ 1000000 → 1 ≤ C → (n : ℕ) → most_tries ≤ n → first_window s e p n C ≡ first_window s e p most_tries C
   first-enough short some zero m = absurd (omega arith)
   first-enough short some (suc n) m = first_more 20 n C (omega arith) (omega arith) (rw doubled-20 (one (omega arith)))
     where
       one : suc C - C ≡ 1 → D < C + (suc C - C) * 1048576
       one q = subst (λ (x : ℕ). D < C + x * 1048576) (sym q) (omega arith)
 
-  pub first-most : (n L : ℕ) → firstWindow s e p n L ≤ suc D
-  unfolding firstWindow
+  pub first-most : (n L : ℕ) → first_window s e p n L ≤ suc D
+  unfolding first_window
   first-most zero L = omega arith
-  first-most (suc n) L = go (suffices s e p L) refl (ltb L D) (first-most n (nextWindow (task s p) L))
+  first-most (suc n) L = go (suffices s e p L) refl (ltb L D) (first-most n (next_window (task s p) L))
     where
-      go : (t : Bool) → suffices s e p L ≡ t → (u : Bool) → firstWindow s e p n (nextWindow (task s p) L) ≤ suc D
-          → cond t L (cond u (firstWindow s e p n (nextWindow (task s p) L)) (suc D)) ≤ suc D
+      go : (t : Bool) → suffices s e p L ≡ t → (u : Bool) → first_window s e p n (next_window (task s p) L) ≤ suc D
+          → cond t L (cond u (first_window s e p n (next_window (task s p) L)) (suc D)) ≤ suc D
       go true q u ih = omega (arith, suffices-short s e p L q)
       go false q true ih = ih
       go false q false ih = omega arith
@@ -102,8 +102,8 @@ module _ (s : Table) (e : ℕ → ℕ) (p : ℕ) where
   between-longer low high b = record { passes = b.passes; order = ⊎_elim (λ h. inl (omega arith)) inr b.order }
 
   -- where they have met nothing changes
-  pub met : (n low high : ℕ) → Between low high → high ≤ low → shortenedWindow s e p n low high ≡ high
-  unfolding shortenedWindow
+  pub met : (n low high : ℕ) → Between low high → high ≤ low → shortened_window s e p n low high ≡ high
+  unfolding shortened_window
   met zero low high b h = refl
   met (suc n) low high b h =
       go (suffices s e p mid) refl (λ q. met n low mid (between-shorter low high b q)) (met n (suc mid) high (between-longer low high b) (omega arith))
@@ -112,17 +112,17 @@ module _ (s : Table) (e : ℕ → ℕ) (p : ℕ) where
       mid = (low + high) / 2
 
       go : (t : Bool) → suffices s e p mid ≡ t
-          → (suffices s e p mid ≡ true → mid ≤ low → shortenedWindow s e p n low mid ≡ mid)
-          → shortenedWindow s e p n (suc mid) high ≡ high
-          → shortenedWindow s e p n (cond t low (suc mid)) (cond t mid high) ≡ high
+          → (suffices s e p mid ≡ true → mid ≤ low → shortened_window s e p n low mid ≡ mid)
+          → shortened_window s e p n (suc mid) high ≡ high
+          → shortened_window s e p n (cond t low (suc mid)) (cond t mid high) ≡ high
       go false q shorter longer = longer
       go true q shorter longer =
           let short = suffices-short s e p mid q in
           let same : mid ≡ high = ⊎_elim (λ g. omega arith) (λ g. absurd (omega arith)) b.order in
           shorter q (omega arith) ∙ same
 
-  halvings-more : (k n low high : ℕ) → k ≤ n → Between low high → high < low + doubled k → shortenedWindow s e p n low high ≡ shortenedWindow s e p k low high
-  unfolding shortenedWindow doubled
+  halvings-more : (k n low high : ℕ) → k ≤ n → Between low high → high < low + doubled k → shortened_window s e p n low high ≡ shortened_window s e p k low high
+  unfolding shortened_window doubled
   halvings-more zero n low high m b h = met n low high b (omega arith)
   halvings-more (suc k) zero low high m b h = absurd (not-suc-le-zero m)
   halvings-more (suc k) (suc n) low high m b h =
@@ -133,31 +133,31 @@ module _ (s : Table) (e : ℕ → ℕ) (p : ℕ) where
       mid = (low + high) / 2
 
       go : (t : Bool) → suffices s e p mid ≡ t
-          → (suffices s e p mid ≡ true → shortenedWindow s e p n low mid ≡ shortenedWindow s e p k low mid)
-          → shortenedWindow s e p n (suc mid) high ≡ shortenedWindow s e p k (suc mid) high
-          → shortenedWindow s e p n (cond t low (suc mid)) (cond t mid high) ≡ shortenedWindow s e p k (cond t low (suc mid)) (cond t mid high)
+          → (suffices s e p mid ≡ true → shortened_window s e p n low mid ≡ shortened_window s e p k low mid)
+          → shortened_window s e p n (suc mid) high ≡ shortened_window s e p k (suc mid) high
+          → shortened_window s e p n (cond t low (suc mid)) (cond t mid high) ≡ shortened_window s e p k (cond t low (suc mid)) (cond t mid high)
       go true q shorter longer = shorter q
       go false q shorter longer = longer
 
-  pub between_first : (n : ℕ) → Between C (firstWindow s e p n C)
-  between_first n = record { passes = first_passes s e p n C; order = go (leb (firstWindow s e p n C) D) refl }
+  pub between_first : (n : ℕ) → Between C (first_window s e p n C)
+  between_first n = record { passes = first_passes s e p n C; order = go (leb (first_window s e p n C) D) refl }
     where
-      go : (t : Bool) → leb (firstWindow s e p n C) D ≡ t → (C ≤ suc (firstWindow s e p n C)) ⊎ (D < firstWindow s e p n C)
+      go : (t : Bool) → leb (first_window s e p n C) D ≡ t → (C ≤ suc (first_window s e p n C)) ⊎ (D < first_window s e p n C)
       go true q =
-          let short = leb-true (firstWindow s e p n C) D q in
-          inl (omega (arith, suffices-long s e p (firstWindow s e p n C) (first_passes s e p n C short)))
-      go false q = inr (leb-false (firstWindow s e p n C) D q)
+          let short = leb-true (first_window s e p n C) D q in
+          inl (omega (arith, suffices-long s e p (first_window s e p n C) (first_passes s e p n C short)))
+      go false q = inr (leb-false (first_window s e p n C) D q)
 
   -- and more than 20 halvings
   pub halvings-enough :
-      D ≤ 1000000 → 1 ≤ C → (m n : ℕ) → mostHalvings ≤ m
-      → shortenedWindow s e p m C (firstWindow s e p n C) ≡ shortenedWindow s e p mostHalvings C (firstWindow s e p n C)
+      D ≤ 1000000 → 1 ≤ C → (m n : ℕ) → most_halvings ≤ m
+      → shortened_window s e p m C (first_window s e p n C) ≡ shortened_window s e p most_halvings C (first_window s e p n C)
   halvings-enough short some m n enough =
-      halvings-more 20 m C (firstWindow s e p n C) enough (between_first n) (rw doubled-20 (omega (arith, first-most n C)))
+      halvings-more 20 m C (first_window s e p n C) enough (between_first n) (rw doubled-20 (omega (arith, first-most n C)))
 
   -- so the search ends by itself within 41 tries: more change nothing
   pub tries-enough :
-      D ≤ 1000000 → 1 ≤ C → (m n : ℕ) → mostHalvings ≤ m → mostTries ≤ n → shortenedWindow s e p m C (firstWindow s e p n C) ≡ boundFrom s e p
-  unfolding boundFrom
+      D ≤ 1000000 → 1 ≤ C → (m n : ℕ) → most_halvings ≤ m → most_tries ≤ n → shortened_window s e p m C (first_window s e p n C) ≡ bound_from s e p
+  unfolding bound_from
   tries-enough short some m n enough tries =
-      halvings-enough short some m n enough ∙ ap (shortenedWindow s e p mostHalvings C) (first-enough short some n tries)
+      halvings-enough short some m n enough ∙ ap (shortened_window s e p most_halvings C) (first-enough short some n tries)

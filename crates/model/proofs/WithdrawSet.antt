@@ -12,15 +12,15 @@ use Rattle.model.proofs.Bools.{not-false-true, or_right}
 use Rattle.model.proofs.Digits.{bit-none, bit-power, or-bit, same_set}
 use Rattle.model.proofs.Withdraw.{within-unknown}
 use Rattle.model.specs.Jobs.{Book}
-use Rattle.model.specs.Advance.{afterTaken}
-use Rattle.model.specs.Refusals.{Answer, answer, refused, unknownPosition}
-use Rattle.model.specs.Lists.{answersFrom, bookFrom, enter, entered}
-use Rattle.model.specs.Advance.{withdraw, withdrawAll, withWithdrawn}
-use Rattle.model.specs.Refusals.{unknownPositions, taken, withdrawing}
+use Rattle.model.specs.Advance.{after_taken}
+use Rattle.model.specs.Refusals.{Answer, answer, refused, unknown_position}
+use Rattle.model.specs.Lists.{answers_from, book_from, enter, entered}
+use Rattle.model.specs.Advance.{withdraw, withdraw_all, with_withdrawn}
+use Rattle.model.specs.Refusals.{unknown_positions, taken, withdrawing}
 use Rattle.model.specs.Firm.{firm}
 use Rattle.model.specs.Search.{bit, member}
 use Rattle.model.specs.Task.{Table}
-use Rattle.model.specs.WithdrawSet.{Enumerates, SetAsSingles, SetBelow, oneByOne}
+use Rattle.model.specs.WithdrawSet.{Enumerates, SetAsSingles, SetBelow, one_by_one}
 
 -- THE SET OF A LIST OF PLACES
 
@@ -65,7 +65,7 @@ below_rest n q qs h i e = h i (or_right (eqb i q) (member i qs) e)
 -- ONE BY ONE
 
 -- a position of the table is known
-known : (s : Table) (q : ℕ) → q < length s.tasks → unknownPosition s (suc q) ≡ false
+known : (s : Table) (q : ℕ) → q < length s.tasks → unknown_position s (suc q) ≡ false
 known s q l = rw (ne_eqb (suc q) 0 (λ e. omega arith), le-ltb (length s.tasks) (suc q) l)
 
 -- the answer to a withdrawal of positions of the table depends on rule and widths alone, so that all get the same
@@ -73,53 +73,52 @@ single-answer : (s : Table) (b : Book) (q : ℕ) → q < length s.tasks → answ
 unfolding answer
 single-answer s b q l = rw (known s q l)
 
-each-answer :
-    (s : Table) (qs : List ℕ) → Below (length s.tasks) qs → (b : Book) → answersFrom s b (oneByOne qs) ≡ replicate (length qs) (withdrawing s false)
-unfolding answersFrom
+each-answer : (s : Table) (qs : List ℕ) → Below (length s.tasks) qs → (b : Book) → answers_from s b (one_by_one qs) ≡ replicate (length qs) (withdrawing s false)
+unfolding answers_from
 each-answer s [] h b = refl
 each-answer s (q ∷ qs) h b =
     ap₂ ◌∷◌ (single-answer s b q (below-first (length s.tasks) q qs h))
     (each-answer s qs (below_rest (length s.tasks) q qs h) (enter s (withdraw (suc q)) b))
 
 -- a position of the table is added where all are taken, and else the book stays
-single : (s : Table) (b : Book) (q : ℕ) → q < length s.tasks → enter s (withdraw (suc q)) b ≡ entered (withdrawing s false) (withWithdrawn (2 ^ q) b) b
-unfolding enter afterTaken
+single : (s : Table) (b : Book) (q : ℕ) → q < length s.tasks → enter s (withdraw (suc q)) b ≡ entered (withdrawing s false) (with_withdrawn (2 ^ q) b) b
+unfolding enter after_taken
 single s b q l =
     let e : suc q - 1 ≡ q = omega arith in
     rw (single-answer s b q l, e)
 
-one_by_one :
+one_by_one_lem :
     (s : Table) (qs : List ℕ) → Below (length s.tasks) qs → (b : Book)
-    → bookFrom s b (oneByOne qs) ≡ entered (withdrawing s false) (withWithdrawn (members qs) b) b
-unfolding bookFrom members
-one_by_one s [] h b = go (withdrawing s false)
+    → book_from s b (one_by_one qs) ≡ entered (withdrawing s false) (with_withdrawn (members qs) b) b
+unfolding book_from members
+one_by_one_lem s [] h b = go (withdrawing s false)
   where
-    go : (w : Answer) → b ≡ entered w (withWithdrawn 0 b) b
+    go : (w : Answer) → b ≡ entered w (with_withdrawn 0 b) b
     go taken = ap (λ (n : ℕ). record { tick = b.tick; job = b.job; withdrawn = n }) (sym (or_zero_r b.withdrawn))
     go (refused n p) = refl
-one_by_one s (q ∷ qs) h b =
-    ap (λ (c : Book). bookFrom s c (oneByOne qs)) (single s b q (below-first (length s.tasks) q qs h))
-    ∙ (one_by_one s qs (below_rest (length s.tasks) q qs h) (entered (withdrawing s false) (withWithdrawn (2 ^ q) b) b)
+one_by_one_lem s (q ∷ qs) h b =
+    ap (λ (c : Book). book_from s c (one_by_one qs)) (single s b q (below-first (length s.tasks) q qs h))
+    ∙ (one_by_one_lem s qs (below_rest (length s.tasks) q qs h) (entered (withdrawing s false) (with_withdrawn (2 ^ q) b) b)
     ∙ go (withdrawing s false))
   where
     go : (w : Answer)
-        → entered w (withWithdrawn (members qs) (entered w (withWithdrawn (2 ^ q) b) b)) (entered w (withWithdrawn (2 ^ q) b) b)
-        ≡ entered w (withWithdrawn (bit_or (2 ^ q) (members qs)) b) b
+        → entered w (with_withdrawn (members qs) (entered w (with_withdrawn (2 ^ q) b) b)) (entered w (with_withdrawn (2 ^ q) b) b)
+        ≡ entered w (with_withdrawn (bit_or (2 ^ q) (members qs)) b) b
     go taken = ap (λ (n : ℕ). record { tick = b.tick; job = b.job; withdrawn = n }) (or-chain b.withdrawn (2 ^ q) (members qs))
     go (refused n p) = refl
 
 -- TOGETHER
 
-all-answer : (s : Table) (b : Book) (x : ℕ) → SetBelow (length s.tasks) x → answer s b (withdrawAll x) ≡ withdrawing s false
+all-answer : (s : Table) (b : Book) (x : ℕ) → SetBelow (length s.tasks) x → answer s b (withdraw_all x) ≡ withdrawing s false
 unfolding answer
 all-answer s b x h = rw ((within-unknown s x).1 h)
 
 -- an unknown position among them: 21 or 22, and the book stays
-none_out : (s : Table) (b : Book) (x : ℕ) → unknownPositions s x ≡ true → enter s (withdrawAll x) b ≡ b
+none_out : (s : Table) (b : Book) (x : ℕ) → unknown_positions s x ≡ true → enter s (withdraw_all x) b ≡ b
 unfolding enter answer
 none_out s b x e = rw e (go (firm s.rule s.tasks))
   where
-    go : (t : Bool) → entered (cond t (refused 22 0) (refused 21 0)) (afterTaken s (withdrawAll x) b) b ≡ b
+    go : (t : Bool) → entered (cond t (refused 22 0) (refused 21 0)) (after_taken s (withdraw_all x) b) b ≡ b
     go true = refl
     go false = refl
 
@@ -127,15 +126,15 @@ none_out s b x e = rw e (go (firm s.rule s.tasks))
 pub withdraw-set : (s : Table) (b : Book) (x : ℕ) → SetAsSingles s b x
 withdraw-set s b x = record {
   singles = λ h qs just.
-      unfold enter afterTaken in
-      (rw (all-answer s b x h) (ap (λ (n : ℕ). entered (withdrawing s false) (withWithdrawn n b) b) (sym (members-just x qs just)))
-      ∙ sym (one_by_one s qs (below-just (length s.tasks) x qs just h) b));
+      unfold enter after_taken in
+      (rw (all-answer s b x h) (ap (λ (n : ℕ). entered (withdrawing s false) (with_withdrawn n b) b) (sym (members-just x qs just)))
+      ∙ sym (one_by_one_lem s qs (below-just (length s.tasks) x qs just h) b));
   each = λ h qs just.
       each-answer s qs (below-just (length s.tasks) x qs just h) b ∙ ap (replicate (length qs)) (sym (all-answer s b x h));
-  none = λ n. none_out s b x (not-false-true (unknownPositions s x) (λ e. n ((within-unknown s x).0 e)));
+  none = λ n. none_out s b x (not-false-true (unknown_positions s x) (λ e. n ((within-unknown s x).0 e)));
 }
 
 -- of no position: 21 or taken, and the book stays
-pub withdraw-none : (s : Table) (b : Book) → enter s (withdrawAll 0) b ≡ b
-unfolding bookFrom member
+pub withdraw-none : (s : Table) (b : Book) → enter s (withdraw_all 0) b ≡ b
+unfolding book_from member
 withdraw-none s b = (withdraw-set s b 0).singles (λ q e. absurd (false≢true (sym (bit-none q) ∙ e))) [] (λ q. sym (bit-none q))

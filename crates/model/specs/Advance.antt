@@ -3,7 +3,7 @@
 use Rattle.std.specs.Prelude.{Bool, true, ◌||◌, cond, ℕ, suc, ◌-◌, ◌^◌, leb}
 use Rattle.std.specs.Int.Bits.{bit_or}
 use Rattle.model.specs.Task.{Table, task}
-use Rattle.model.specs.Jobs.{Job, Book, emptied, emptyIn}
+use Rattle.model.specs.Jobs.{Job, Book, emptied, empty_in}
 use Rattle.model.specs.Search.{bit}
 use Rattle.model.specs.Claims.{served, borrowing}
 
@@ -17,8 +17,8 @@ work C report j =
     (record { had = suc j.had; claimed = suc j.claimed; ended = report || leb C (suc j.had) })
 
 -- a job that borrows cores has had one tick more and claimed none; it ends as the others do
-unfoldable pub workLent : ℕ → Bool → Job → Job
-workLent C report j =
+unfoldable pub work_lent : ℕ → Bool → Job → Job
+work_lent C report j =
     cond j.ended j
     (record { had = suc j.had; claimed = j.claimed; ended = report || leb C (suc j.had) })
 
@@ -29,7 +29,7 @@ step s f b = record {
   job = λ p k.
       cond (served s b p k)
       (work (task s p).length (f p) (b.job p k))
-      (cond (borrowing s b p k) (workLent (task s p).length (f p) (b.job p k)) (b.job p k));
+      (cond (borrowing s b p k) (work_lent (task s p).length (f p) (b.job p k)) (b.job p k));
   withdrawn = b.withdrawn;
 }
 
@@ -44,24 +44,24 @@ advanced s f e b = step s f (emptied s e b)
 pub data Entry : Type 0 where
   advance : ℕ → ℕ → Entry
   withdraw : ℕ → Entry
-  withdrawAll : ℕ → Entry
+  withdraw_all : ℕ → Entry
 
 -- the set of empty jobs of an entry
-abbrev pub emptiesOf : Entry → ℕ
-emptiesOf (advance x e) = e
-emptiesOf (withdraw p) = 0
-emptiesOf (withdrawAll x) = 0
+abbrev pub empties_of : Entry → ℕ
+empties_of (advance x e) = e
+empties_of (withdraw p) = 0
+empties_of (withdraw_all x) = 0
 
 -- the set of one position
 abbrev pub singleton : ℕ → ℕ
 singleton p = 2 ^ (p - 1)
 
 -- a withdrawal of the positions of a set only adds them to the withdrawn ones: a job released before this tick goes on
-abbrev pub withWithdrawn : ℕ → Book → Book
-withWithdrawn x b = record { tick = b.tick; job = b.job; withdrawn = bit_or b.withdrawn x }
+abbrev pub with_withdrawn : ℕ → Book → Book
+with_withdrawn x b = record { tick = b.tick; job = b.job; withdrawn = bit_or b.withdrawn x }
 
 -- the book after an entry that is taken
-unfoldable pub afterTaken : Table → Entry → Book → Book
-afterTaken s (advance x e) b = advanced s (bit x) (emptyIn b e) b
-afterTaken s (withdraw p) b = withWithdrawn (singleton p) b
-afterTaken s (withdrawAll x) b = withWithdrawn x b
+unfoldable pub after_taken : Table → Entry → Book → Book
+after_taken s (advance x e) b = advanced s (bit x) (empty_in b e) b
+after_taken s (withdraw p) b = with_withdrawn (singleton p) b
+after_taken s (withdraw_all x) b = with_withdrawn x b

@@ -1,4 +1,4 @@
--- Which tasks run in a tick, from those that claim (scope, section 'Which tasks run in a tick'; Goossens and Berten, definitions 5 and 18).
+-- Which tasks run in a tick, from those that claim (scope, section 'Who runs in a tick'; Goossens and Berten, definitions 5 and 18).
 -- Idling and lending choose as greedy does; their claims are in Claims.antt, and what is lent in Lending.antt.
 use Rattle.std.specs.Prelude.{Bool, true, false, ◌&&◌, cond, List, [], ◌∷◌, ℕ, suc, length, take, drop, leb}
 use Rattle.model.specs.Task.{Rule, greedy, limited, idling, lending}
@@ -18,11 +18,11 @@ abbrev pub fits : Claimant → List ℕ → Bool
 fits b free = b.claims && leb b.width (length free)
 
 -- limited: the first task that doesn't fit ends the tick's choosing; the other rules skip it
-abbrev pub endsChoosing : Rule → Bool
-endsChoosing greedy = false
-endsChoosing limited = true
-endsChoosing idling = false
-endsChoosing lending = false
+abbrev pub ends_choosing : Rule → Bool
+ends_choosing greedy = false
+ends_choosing limited = true
+ends_choosing idling = false
+ends_choosing lending = false
 
 -- the cores that a task is given, of the free ones in ascending order: the lowest-numbered, or none
 unfoldable pub given : Claimant → List ℕ → List ℕ
@@ -30,7 +30,7 @@ given b free = cond (fits b free) (take b.width free) []
 
 -- the free cores that are left for the tasks below a task; none where it ends the choosing
 unfoldable pub left : Rule → Claimant → List ℕ → List ℕ
-left r b free = cond (fits b free) (drop b.width free) (cond (b.claims && endsChoosing r) [] free)
+left r b free = cond (fits b free) (drop b.width free) (cond (b.claims && ends_choosing r) [] free)
 
 -- the cores of each task: the tasks are taken in priority order
 unfoldable pub grants : Rule → List Claimant → List ℕ → List (List ℕ)

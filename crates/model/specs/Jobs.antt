@@ -20,27 +20,27 @@ pub record Book : Type 0 where
   pub withdrawn : ℕ
 
 -- the book of the empty list: tick 0, every line fresh, no position withdrawn
-abbrev pub emptyBook : Book
-emptyBook = record { tick = 0; job = λ p k. fresh; withdrawn = 0 }
+abbrev pub empty_book : Book
+empty_book = record { tick = 0; job = λ p k. fresh; withdrawn = 0 }
 
 -- EMPTY JOBS (scope: empty job; the field: a job of execution time zero)
 
 -- job k of place p is released in the book's tick
-abbrev pub releasedNow : Table → Book → ℕ → ℕ → Bool
-releasedNow s b p k = eqb (release (task s p) k) b.tick
+abbrev pub released_now : Table → Book → ℕ → ℕ → Bool
+released_now s b p k = eqb (release (task s p) k) b.tick
 
 -- an empty job ends with the ticks that it has had, which are none
-abbrev pub endedWith : Job → Job
-endedWith j = record { had = j.had; claimed = j.claimed; ended = true }
+abbrev pub ended_with : Job → Job
+ended_with j = record { had = j.had; claimed = j.claimed; ended = true }
 
 -- the book with its empty jobs ended, before the claims of its tick are taken: e contains the places whose jobs released in this tick are empty
 unfoldable pub emptied : Table → (ℕ → Bool) → Book → Book
 emptied s e b = record {
   tick = b.tick;
-  job = λ p k. cond (e p && releasedNow s b p k) (endedWith (b.job p k)) (b.job p k);
+  job = λ p k. cond (e p && released_now s b p k) (ended_with (b.job p k)) (b.job p k);
   withdrawn = b.withdrawn;
 }
 
 -- the job of place p, if released in this tick, is empty: its position is in the set e, or it is withdrawn, with or without its bit
-abbrev pub emptyIn : Book → ℕ → ℕ → Bool
-emptyIn b e p = bit e p || bit b.withdrawn p
+abbrev pub empty_in : Book → ℕ → ℕ → Bool
+empty_in b e p = bit e p || bit b.withdrawn p

@@ -24,13 +24,13 @@ tries seeks n bs q = ltb n q && seeks q && not (some (get_or bs q []))
 
 -- place n lends the cores F: the places that it tries are taken in order, as under greedy; one whose width fits in what is not yet lent of F
 -- takes the lowest of that
-abbrev pub lendOnce : List ℕ → (ℕ → Bool) → List ℕ → ℕ → List (List ℕ) → List (List ℕ)
-lendOnce ws seeks F n bs = merged bs (grants greedy (claimants ws (tries seeks n bs)) F)
+abbrev pub lend_once : List ℕ → (ℕ → Bool) → List ℕ → ℕ → List (List ℕ) → List (List ℕ)
+lend_once ws seeks F n bs = merged bs (grants greedy (claimants ws (tries seeks n bs)) F)
 
 -- what each place has borrowed once the first n places have lent, by priority: ws are the widths, seeks tests a place, and offer is what a place lends
 unfoldable pub lent : List ℕ → (ℕ → Bool) → (ℕ → List ℕ) → ℕ → List (List ℕ)
 lent ws seeks offer zero = map (λ w. []) ws
-lent ws seeks offer (suc n) = lendOnce ws seeks (offer n) n (lent ws seeks offer n)
+lent ws seeks offer (suc n) = lend_once ws seeks (offer n) n (lent ws seeks offer n)
 
 -- core c is in one of the lists
 unfoldable pub among : ℕ → List (List ℕ) → Bool
@@ -42,9 +42,9 @@ abbrev pub unlent : List (List ℕ) → List ℕ → List ℕ
 unlent bs cs = filtered (λ c. not (among c bs)) cs
 
 -- .. and those that some place borrows
-abbrev pub lentAway : List (List ℕ) → List ℕ → List ℕ
-lentAway bs cs = filtered (λ c. among c bs) cs
+abbrev pub lent_away : List (List ℕ) → List ℕ → List ℕ
+lent_away bs cs = filtered (λ c. among c bs) cs
 
 -- the cores of each place as the row shows them, from those that it is given and those that it borrows: a holder keeps what it has not lent
-abbrev pub shownCores : List (List ℕ) → List (List ℕ) → List (List ℕ)
-shownCores gs bs = merged bs (map (unlent bs) gs)
+abbrev pub shown_cores : List (List ℕ) → List (List ℕ) → List (List ℕ)
+shown_cores gs bs = merged bs (map (unlent bs) gs)

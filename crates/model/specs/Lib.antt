@@ -1,6 +1,5 @@
 -- The definitions that the whole project rests on, in reading order: sizes, the table, the fence, the grants of a tick, what is lent, rows,
--- which rules and widths are firm, the book in five files (jobs, claims, an advance, refusals, lists), its rows as sets, which positions work, the horizon and
--- the verdict.
+-- which rules and widths are firm, the book in five files (jobs, claims, an advance, refusals, lists), its rows as sets, who works, the horizon and the verdict.
 pub mod Sizes
 pub mod Search
 pub mod Task

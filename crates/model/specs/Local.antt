@@ -1,8 +1,8 @@
--- No task changes the core of a task above it (scope, 'Which tasks run in a tick'): what is compared. `local-full`, `local-empty` and `local-lists` show it.
+-- No task changes the core of a task above it (scope, 'Who runs in a tick'): what is compared. `local-full`, `local-empty` and `local-lists` show it.
 use Rattle.std.specs.Prelude.{cond, List, [], map, ◌∷◌, ◌≡◌, ◌<◌, ℕ, leb, get_or, take}
 use Rattle.model.specs.Jobs.{Book}
-use Rattle.model.specs.Claims.{borrowed, grantsOf, offer, bookRow}
-use Rattle.model.specs.Advance.{Entry, advance, singleton, withdraw, withdrawAll}
+use Rattle.model.specs.Claims.{borrowed, grants_of, offer, book_row}
+use Rattle.model.specs.Advance.{Entry, advance, singleton, withdraw, withdraw_all}
 use Rattle.model.specs.Search.{any, bit}
 use Rattle.model.specs.Task.{Table}
 
@@ -18,28 +18,28 @@ abbrev pub SameBits : ℕ → ℕ → ℕ → Type 0
 SameBits n x y = (q : ℕ) → q < n → bit x q ≡ bit y q
 
 -- an entry before others, dropped if it withdraws only positions below position n
-abbrev pub relevantIf : ℕ → Entry → List Entry → List Entry
-relevantIf n (advance x e) xs = advance x e ∷ xs
-relevantIf n (withdraw p) xs = cond (leb p n) (withdraw p ∷ xs) xs
-relevantIf n (withdrawAll x) xs = cond (any n (bit x)) (withdrawAll x ∷ xs) xs
+abbrev pub relevant_if : ℕ → Entry → List Entry → List Entry
+relevant_if n (advance x e) xs = advance x e ∷ xs
+relevant_if n (withdraw p) xs = cond (leb p n) (withdraw p ∷ xs) xs
+relevant_if n (withdraw_all x) xs = cond (any n (bit x)) (withdraw_all x ∷ xs) xs
 
 -- the entries of a list that concern positions 1 to n: withdrawals of positions below them are dropped
 unfoldable pub relevant : ℕ → List Entry → List Entry
 relevant n [] = []
-relevant n (x ∷ xs) = relevantIf n x (relevant n xs)
+relevant n (x ∷ xs) = relevant_if n x (relevant n xs)
 
 -- two entries that are equal on positions 1 to n: advances whose sets, of reports and of empty jobs, agree on them, or withdrawals of one position,
 -- or of sets that agree on them
 abbrev pub SameEntry : ℕ → Entry → Entry → Type 0
 SameEntry n (advance x e) (advance y g) = SameBits n x y × SameBits n e g
 SameEntry n (advance x e) (withdraw q) = ⊥
-SameEntry n (advance x e) (withdrawAll y) = ⊥
+SameEntry n (advance x e) (withdraw_all y) = ⊥
 SameEntry n (withdraw p) (advance y g) = ⊥
 SameEntry n (withdraw p) (withdraw q) = p ≡ q
-SameEntry n (withdraw p) (withdrawAll y) = SameBits n (singleton p) y
-SameEntry n (withdrawAll x) (advance y g) = ⊥
-SameEntry n (withdrawAll x) (withdraw q) = SameBits n x (singleton q)
-SameEntry n (withdrawAll x) (withdrawAll y) = SameBits n x y
+SameEntry n (withdraw p) (withdraw_all y) = SameBits n (singleton p) y
+SameEntry n (withdraw_all x) (advance y g) = ⊥
+SameEntry n (withdraw_all x) (withdraw q) = SameBits n x (singleton q)
+SameEntry n (withdraw_all x) (withdraw_all y) = SameBits n x y
 
 -- two lists of equal length whose entries are equal on positions 1 to n
 unfoldable pub SameEntries : ℕ → List Entry → List Entry → Type 0
@@ -65,7 +65,7 @@ NoLending s b = (q : ℕ) → offer s b q ≡ []
 -- of a place above it: `lending-shows`; a place that has nothing to lend, since no cores are reserved for it as a holder, shows the same cores in both:
 -- `local-sets`)
 pub record SameCoresAbove (n : ℕ) (s : Table) (b : Book) (s' : Table) (b' : Book) : Type 0 where
-  pub lists : (p : ℕ) → p < n → get_or (grantsOf s b) p [] ≡ get_or (grantsOf s' b') p []
+  pub lists : (p : ℕ) → p < n → get_or (grants_of s b) p [] ≡ get_or (grants_of s' b') p []
   pub offers : (p : ℕ) → p < n → offer s b p ≡ offer s' b' p
   pub borrows : (p : ℕ) → p < n → borrowed s b p ≡ borrowed s' b' p
-  pub bytes : NoLending s b → NoLending s' b' → map (up_to n) (bookRow s b) ≡ map (up_to n) (bookRow s' b')
+  pub bytes : NoLending s b → NoLending s' b' → map (up_to n) (book_row s b) ≡ map (up_to n) (book_row s' b')

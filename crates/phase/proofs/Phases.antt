@@ -12,8 +12,7 @@ use Rattle.table.proofs.Decide.{Decides, decides-le, decides-lt, decides_eq, dec
 use Rattle.phase.specs.declared.Phase.{Phase}
 use Rattle.phase.specs.declared.Phase.TheVariants.{Coming, Working, Holding, Resting}
 use Rattle.phase.specs.declared.TaskState.{TaskState}
-use Rattle.phase.specs.Phase.{PhaseIn, idles, phaseIn, lateIn, released, emptyPhase, phaseEmptied, taskState, startState, resting, holding, ended}
-use Rattle.phase.specs.Phase.{worked, nextState}
+use Rattle.phase.specs.Phase.{PhaseIn, idles, phase_in, late_in, released, empty_phase, phase_emptied, task_state, start_state, resting, holding, ended, worked, next_state}
 
 -- TESTS
 
@@ -45,7 +44,7 @@ odd-decides true = (λ q. absurd (false≢true q), λ q. absurd (true≢false q)
 odd-decides false = (λ q. refl, λ q. refl)
 
 -- the test is true exactly within the limits
-pub phase-decides : (r : Rule) (τ : Task) (even : Bool) (ph : Phase) → Decides (phaseIn r τ even ph) (PhaseIn r τ even ph)
+pub phase-decides : (r : Rule) (τ : Task) (even : Bool) (ph : Phase) → Decides (phase_in r τ even ph) (PhaseIn r τ even ph)
 phase-decides r τ even (Coming left) =
     decides_and _ _ _ _ (decides_and _ _ _ _ (decides-le 1 left) (decides-le left τ.offset)) (odd-decides even)
 phase-decides r τ even (Working z had reserved) = (
@@ -54,7 +53,7 @@ phase-decides r τ even (Working z had reserved) = (
 )
   where
     deciding :
-        Decides (phaseIn r τ even (Working z had reserved))
+        Decides (phase_in r τ even (Working z had reserved))
         ((z ≤ τ.deadline) × ((had < τ.length) × ((had ≤ z) × ((reserved ≤ had) × ((r ≡ lending) ⊎ (reserved ≡ had))))))
     deciding =
         decides_and _ _ _ _ (decides-le z τ.deadline)
@@ -67,7 +66,7 @@ phase-decides r τ even (Holding z reserved) = (
 )
   where
     deciding :
-        Decides (phaseIn r τ even (Holding z reserved))
+        Decides (phase_in r τ even (Holding z reserved))
         (((r ≡ idling) ⊎ (r ≡ lending)) × ((z < τ.deadline) × ((reserved < τ.length) × (reserved ≤ z))))
     deciding =
         decides_and _ _ _ _ (idles-decides r)
@@ -78,14 +77,14 @@ phase-decides r τ even (Resting z) = (
   λ x. deciding.1 (x.0, omega arith),
 )
   where
-    deciding : Decides (phaseIn r τ even (Resting z)) ((1 ≤ z) × (z < τ.period))
+    deciding : Decides (phase_in r τ even (Resting z)) ((1 ≤ z) × (z < τ.period))
     deciding = decides_and _ _ _ _ (decides-le 1 z) (decides-lt z τ.period)
 
 -- a hold ends at z = D, whatever was reserved
 pub hold-ends : (τ : Task) (even : Bool) (u : ℕ) → holding τ even τ.deadline u ≡ resting τ even τ.deadline
 hold-ends τ even u = rw (eq-eqb τ.deadline τ.deadline refl) (go (eqb u τ.length))
   where
-    go : (x : Bool) → cond (x || true) (resting τ even τ.deadline) (taskState even (Holding τ.deadline u)) ≡ resting τ even τ.deadline
+    go : (x : Bool) → cond (x || true) (resting τ even τ.deadline) (task_state even (Holding τ.deadline u)) ≡ resting τ even τ.deadline
     go true = refl
     go false = refl
 
@@ -98,7 +97,7 @@ StateIn r τ w = PhaseIn r τ w.even w.phase
 module _ (r : Rule) (τ : Task) (ok : ValidTask τ) where
   resting-in : (even : Bool) (z : ℕ) → 1 ≤ z → z ≤ τ.period → StateIn r τ (resting τ even z)
   resting-in even z a b =
-      by-eq (λ (x : Bool). StateIn r τ (cond x (taskState (not even) (Working 0 0 0)) (taskState even (Resting z)))) z τ.period
+      by-eq (λ (x : Bool). StateIn r τ (cond x (task_state (not even) (Working 0 0 0)) (task_state even (Resting z)))) z τ.period
       (λ e. ((omega arith, omega arith), ok.length-pos, omega arith, omega arith, inr refl))
       (λ n. (a, omega arith))
 
@@ -106,10 +105,10 @@ module _ (r : Rule) (τ : Task) (ok : ValidTask τ) where
       (r ≡ idling) ⊎ (r ≡ lending) → (even : Bool) (z u : ℕ) → 1 ≤ z → z ≤ τ.deadline → u ≤ τ.length → u ≤ z
       → StateIn r τ (holding τ even z u)
   holding-in i even z u a b d w =
-      by-eq (λ (x : Bool). StateIn r τ (cond (x || eqb z τ.deadline) (resting τ even z) (taskState even (Holding z u)))) u τ.length
+      by-eq (λ (x : Bool). StateIn r τ (cond (x || eqb z τ.deadline) (resting τ even z) (task_state even (Holding z u)))) u τ.length
       (λ e. resting-in even z a (omega (arith, ok.constrained)))
       (λ n.
-      by-eq (λ (x : Bool). StateIn r τ (cond x (resting τ even z) (taskState even (Holding z u)))) z τ.deadline
+      by-eq (λ (x : Bool). StateIn r τ (cond x (resting τ even z) (task_state even (Holding z u)))) z τ.deadline
       (λ e. resting-in even z a (omega (arith, ok.constrained)))
       (λ m. (i, omega arith, omega arith, w)))
 
@@ -125,16 +124,16 @@ module _ (r : Rule) (τ : Task) (ok : ValidTask τ) where
       → StateIn r τ (worked r τ f even z h u)
   worked-in true even z h u a b d w q i = ended-in even z u a b (omega arith) (omega arith)
   worked-in false even z h u a b d w q i =
-      by-eq (λ (x : Bool). StateIn r τ (cond x (ended r τ even z u) (taskState even (Working z h u)))) h τ.length
+      by-eq (λ (x : Bool). StateIn r τ (cond x (ended r τ even z u) (task_state even (Working z h u)))) h τ.length
       (λ e. ended-in even z u a b (omega arith) (omega arith))
       (λ n. ((omega arith, b), omega arith, w, q, i))
 
   -- a phase within its limits, whose task is not late and borrows only under rule 4, is within them one tick on
   pub next-in :
-      (given lent f even : Bool) → (lent ≡ true → r ≡ lending) → (ph : Phase) → PhaseIn r τ even ph → lateIn τ.deadline ph ≡ false
-      → StateIn r τ (nextState r τ given lent f even ph)
+      (given lent f even : Bool) → (lent ≡ true → r ≡ lending) → (ph : Phase) → PhaseIn r τ even ph → late_in τ.deadline ph ≡ false
+      → StateIn r τ (next_state r τ given lent f even ph)
   next-in given lent f even j (Coming left) h n =
-      by-eq (λ (x : Bool). StateIn r τ (taskState even (cond x (Working 0 0 0) (Coming (left - 1))))) (left - 1) 0
+      by-eq (λ (x : Bool). StateIn r τ (task_state even (cond x (Working 0 0 0) (Coming (left - 1))))) (left - 1) 0
       (λ e. ((omega arith, omega arith), ok.length-pos, omega arith, omega arith, inr refl))
       (λ e. ((omega arith, omega arith), h.1))
   next-in true lent f even j (Working z had u) h n =
@@ -153,33 +152,33 @@ module _ (r : Rule) (τ : Task) (ok : ValidTask τ) where
 
   -- .. and so if its job, released in this tick, is empty
   pub emptied-in :
-      (empty given lent f even : Bool) → (lent ≡ true → r ≡ lending) → (ph : Phase) → PhaseIn r τ even ph → lateIn τ.deadline ph ≡ false
-      → StateIn r τ (nextState r τ given lent f even (phaseEmptied r empty ph))
+      (empty given lent f even : Bool) → (lent ≡ true → r ≡ lending) → (ph : Phase) → PhaseIn r τ even ph → late_in τ.deadline ph ≡ false
+      → StateIn r τ (next_state r τ given lent f even (phase_emptied r empty ph))
   emptied-in empty given lent f even j ph h n = go (empty && released ph)
     where
-      none : (x : Bool) → idles r ≡ x → StateIn r τ (nextState r τ given lent f even (cond x (Holding 0 0) (Resting 0)))
+      none : (x : Bool) → idles r ≡ x → StateIn r τ (next_state r τ given lent f even (cond x (Holding 0 0) (Resting 0)))
       none true e = next-in given lent f even j (Holding 0 0) ((idles-decides r).0 e, ok.deadline-pos, ok.length-pos, omega arith) refl
       none false e = resting-in even (0 + 1) (omega arith) (omega (arith, ok.constrained, ok.deadline-pos))
 
-      go : (x : Bool) → StateIn r τ (nextState r τ given lent f even (cond x (emptyPhase r) ph))
+      go : (x : Bool) → StateIn r τ (next_state r τ given lent f even (cond x (empty_phase r) ph))
       go true = none (idles r) refl
       go false = next-in given lent f even j ph h n
 
   -- and so is the start
-  pub start-in : StateIn r τ (startState τ.offset)
+  pub start-in : StateIn r τ (start_state τ.offset)
   start-in =
-      by-eq (λ (x : Bool). StateIn r τ (taskState false (cond x (Working 0 0 0) (Coming τ.offset)))) τ.offset 0
+      by-eq (λ (x : Bool). StateIn r τ (task_state false (cond x (Working 0 0 0) (Coming τ.offset)))) τ.offset 0
       (λ e. ((omega arith, omega arith), ok.length-pos, omega arith, omega arith, inr refl))
       (λ n. ((omega arith, omega arith), refl))
 
 -- an empty job is not late
-pub emptied-late : (r : Rule) (D : ℕ) (empty : Bool) (ph : Phase) → lateIn D ph ≡ false → lateIn D (phaseEmptied r empty ph) ≡ false
+pub emptied-late : (r : Rule) (D : ℕ) (empty : Bool) (ph : Phase) → late_in D ph ≡ false → late_in D (phase_emptied r empty ph) ≡ false
 emptied-late r D empty ph n = go (empty && released ph)
   where
-    none : (x : Bool) → lateIn D (cond x (Holding 0 0) (Resting 0)) ≡ false
+    none : (x : Bool) → late_in D (cond x (Holding 0 0) (Resting 0)) ≡ false
     none true = refl
     none false = refl
 
-    go : (x : Bool) → lateIn D (cond x (emptyPhase r) ph) ≡ false
+    go : (x : Bool) → late_in D (cond x (empty_phase r) ph) ≡ false
     go true = none (idles r)
     go false = n

@@ -5,14 +5,14 @@ use Prim.Native.Nat.{ℕ}
 use native.Mathlib.Omega.{arith}
 use lib.Dec.{eqb}
 use Rattle.model.specs.Lending.{lends}
-use Rattle.model.specs.Task.{Rule, greedy, limited, idling, lending, ruleOf}
+use Rattle.model.specs.Task.{Rule, greedy, limited, idling, lending, rule_of}
 use Rattle.phase.specs.declared.Phase.{Phase}
 use Rattle.phase.specs.declared.Phase.TheVariants.{Holding, Resting}
 use Rattle.phase.specs.NoOverflow.{NoOverflow}
-use Rattle.phase.specs.Phase.{idles, released, emptyPhase, phaseEmptied}
+use Rattle.phase.specs.Phase.{idles, released, empty_phase, phase_emptied}
 use Rattle.phase.proofs.Phases.{by-eq}
 
-pub idles-rule : (n : ℕ) → idles (ruleOf n) ≡ eqb n 3 || eqb n 4
+pub idles-rule : (n : ℕ) → idles (rule_of n) ≡ eqb n 3 || eqb n 4
 idles-rule n =
     by-eq (λ (x : Bool). idles (cond x limited (cond (eqb n 3) idling (cond (eqb n 4) lending greedy))) ≡ eqb n 3 || eqb n 4) n 2
     (λ e. rw e)
@@ -23,7 +23,7 @@ idles-rule n =
     go false true = refl
     go false false = refl
 
-pub lends-rule : (n : ℕ) → lends (ruleOf n) ≡ eqb n 4
+pub lends-rule : (n : ℕ) → lends (rule_of n) ≡ eqb n 4
 lends-rule n =
     by-eq (λ (x : Bool). lends (cond x limited (cond (eqb n 3) idling (cond (eqb n 4) lending greedy))) ≡ eqb n 4) n 2
     (λ e. rw e)
@@ -36,13 +36,13 @@ lends-rule n =
     go true = refl
     go false = refl
 
-pub emptied-no-overflow : (r : Rule) (empty : Bool) (ph : Phase) → NoOverflow ph → NoOverflow (phaseEmptied r empty ph)
+pub emptied-no-overflow : (r : Rule) (empty : Bool) (ph : Phase) → NoOverflow ph → NoOverflow (phase_emptied r empty ph)
 emptied-no-overflow r empty ph h = go (empty && released ph)
   where
     none : (x : Bool) → NoOverflow (cond x (Holding 0 0) (Resting 0))
     none true = (omega arith, omega arith)
     none false = omega arith
 
-    go : (x : Bool) → NoOverflow (cond x (emptyPhase r) ph)
+    go : (x : Bool) → NoOverflow (cond x (empty_phase r) ph)
     go true = none (idles r)
     go false = h

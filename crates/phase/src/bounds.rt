@@ -1,12 +1,11 @@
 // The task of the table that a task is, the limits of it and of its phase, and lateness.
 ghost use Rattle.std.specs.Prelude.{◌≡◌};
-ghost use Rattle.model.specs.Task.{ruleOf};
+ghost use Rattle.model.specs.Task.{rule_of};
 ghost use Rattle.table.specs.Task as table;
-ghost use Rattle.phase.specs.Phase.{phaseIn, lateIn};
+ghost use Rattle.phase.specs.Phase.{phase_in, late_in};
 ghost use Rattle.phase.specs.Task.{task_of, out_in};
 
 use crate::{Phase, Task};
-use model::rules;
 
 impl Task {
     // The task of the table that it is.
@@ -25,13 +24,13 @@ impl Task {
 
     // Whether the task's phase is within its limits, and so is its parity.
     fn phase_in(self, rule: u32) -> bool
-        ensures { result ≡ phaseIn (ruleOf rule) (task_of self) self.even self.phase }
+        ensures { result ≡ phase_in (rule_of rule) (task_of self) self.even self.phase }
     {
         let phase = self.phase;
         match phase {
             Phase::Coming(left) => ((1 <= left) & (left <= self.offset)) & !self.even,
             Phase::Working(z, had, reserved) => {
-                let alike = (rule == rules::LENDING) | (reserved == had);
+                let alike = (rule == 4) | (reserved == had);
                 (z <= self.deadline)
                     & ((had < self.length) & ((had <= z) & ((reserved <= had) & alike)))
             }
@@ -45,7 +44,7 @@ impl Task {
 
     // Whether the task breaks 7 or 8 on this number of unfenced cores, or its phase or its parity is outside the limits.
     pub fn out(self, rule: u32, wide: u32) -> bool
-        ensures { result ≡ out_in wide (ruleOf rule) self }
+        ensures { result ≡ out_in wide (rule_of rule) self }
     {
         let plain = self.parameters();
         !(table::limits::task_number(wide, plain) == 0) | !self.phase_in(rule)
@@ -53,7 +52,7 @@ impl Task {
 
     // Whether the task is Working at its deadline.
     pub fn late(self) -> bool
-        ensures { result ≡ lateIn self.deadline self.phase }
+        ensures { result ≡ late_in self.deadline self.phase }
     {
         let phase = self.phase;
         match phase {

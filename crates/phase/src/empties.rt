@@ -1,7 +1,7 @@
 // A phase as it is seen when cores are chosen: whether its job is released in this tick, and an empty job.
 ghost use Rattle.std.specs.Prelude.{◌≡◌};
-ghost use Rattle.model.specs.Task.{ruleOf};
-ghost use Rattle.phase.specs.Phase.{released, phaseEmptied};
+ghost use Rattle.model.specs.Task.{rule_of};
+ghost use Rattle.phase.specs.Phase.{released, phase_emptied};
 
 use crate::Phase;
 
@@ -20,7 +20,7 @@ impl Phase {
 
     // The phase as cores are chosen, by whether a job released in this tick is empty.
     pub fn emptied(self, rule: u32, empty: bool) -> Phase
-        ensures { result ≡ phaseEmptied (ruleOf rule) empty self }
+        ensures { result ≡ phase_emptied (rule_of rule) empty self }
     {
         if empty & self.released() {
             if crate::idles(rule) {

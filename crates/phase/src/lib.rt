@@ -1,14 +1,12 @@
 // A task with its phase: its state in the run, and what that claims.
 ghost use Rattle.std.specs.Prelude.{◌≡◌};
-ghost use Rattle.model.specs.Task.{ruleOf};
+ghost use Rattle.model.specs.Task.{rule_of};
 ghost use Rattle.phase.specs.Phase.{claiming, idles, working};
 
 mod bounds; // bounds.rt: the limits of a task and its phase, and lateness
 mod empties; // empties.rt: a phase as it is seen when cores are chosen
 mod moves; // moves.rt: one tick
 pub mod starts; // starts.rt: a task as it starts, and a place past the count
-
-use model::rules;
 
 // The phase of a task in the run, with its counts: Coming(ticks left to the first release; the field: not yet released), Working(ticks since release, ticks
 // had, ticks reserved; the field: pending), Holding(ticks since release, ticks reserved; the field: completed early, processors reserved),
@@ -44,9 +42,9 @@ pub struct Task {
 
 // Whether a job that ended holds its cores: under rules 3 and 4.
 fn idles(rule: u32) -> bool
-    ensures { result ≡ idles (ruleOf rule) }
+    ensures { result ≡ idles (rule_of rule) }
 {
-    (rule == rules::IDLING) | (rule == rules::LENDING)
+    (rule == 3) | (rule == 4)
 }
 
 impl Phase {

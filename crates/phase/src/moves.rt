@@ -1,16 +1,16 @@
 // One tick of a task: its next state.
 ghost use Rattle.std.specs.Prelude.{◌≡◌, cond, ◌+◌, ◌<◌};
-ghost use Rattle.model.specs.Sizes.{mostWord};
-ghost use Rattle.model.specs.Task.{ruleOf};
-ghost use Rattle.phase.specs.Phase.{resting, holding, ended, worked, nextState};
-ghost use Rattle.phase.specs.Task.{task_of, nextTask};
+ghost use Rattle.model.specs.Sizes.{most_word};
+ghost use Rattle.model.specs.Task.{rule_of};
+ghost use Rattle.phase.specs.Phase.{resting, holding, ended, worked, next_state};
+ghost use Rattle.phase.specs.Task.{task_of, next_task};
 ghost use Rattle.phase.specs.NoOverflow.{NoOverflow};
 
 use crate::{Phase, Task, TaskState};
 
 // The reserved ticks after this one: one more where cores are given.
 fn counted(reserved: u32, given: bool) -> u32
-    requires { reserved < mostWord }
+    requires { reserved < most_word }
     ensures { result ≡ cond given (reserved + 1) reserved }
 {
     if given { reserved + 1 } else { reserved }
@@ -50,7 +50,7 @@ impl Task {
 
     // The state of a task whose job has just ended.
     fn ended(self, rule: u32, z: u32, reserved: u32) -> TaskState
-        ensures { result ≡ ended (ruleOf rule) (task_of self) self.even z reserved }
+        ensures { result ≡ ended (rule_of rule) (task_of self) self.even z reserved }
     {
         if crate::idles(rule) {
             self.held(z, reserved)
@@ -61,7 +61,7 @@ impl Task {
 
     // The state of a task after a tick of work, own or lent.
     fn worked(self, rule: u32, reported: bool, z: u32, had: u32, reserved: u32) -> TaskState
-        ensures { result ≡ worked (ruleOf rule) (task_of self) reported self.even z had reserved }
+        ensures { result ≡ worked (rule_of rule) (task_of self) reported self.even z had reserved }
     {
         if reported | (had == self.length) {
             self.ended(rule, z, reserved)
@@ -77,7 +77,7 @@ impl Task {
     // it is reported.
     fn stepped(self, rule: u32, given: bool, lent: bool, reported: bool, seen: Phase) -> TaskState
         requires { NoOverflow seen }
-        ensures { result ≡ nextState (ruleOf rule) (task_of self) given lent reported self.even seen }
+        ensures { result ≡ next_state (rule_of rule) (task_of self) given lent reported self.even seen }
     {
         match seen {
             Phase::Coming(left) => {
@@ -114,7 +114,7 @@ impl Task {
     // it is reported.
     pub fn next(self, rule: u32, empty: bool, given: bool, lent: bool, reported: bool) -> Task
         requires { NoOverflow self.phase }
-        ensures { result ≡ nextTask (ruleOf rule) empty given lent reported self }
+        ensures { result ≡ next_task (rule_of rule) empty given lent reported self }
     {
         let old = self.phase;
         let seen = old.emptied(rule, empty);

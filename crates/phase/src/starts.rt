@@ -1,8 +1,8 @@
 // A task as it starts from a table, and the value of a place past the count.
 ghost use Rattle.std.specs.Prelude.{◌≡◌};
 ghost use Rattle.table.specs.Task as table;
-ghost use Rattle.phase.specs.Phase.{startState};
-ghost use Rattle.phase.specs.Task.{unused, startTask};
+ghost use Rattle.phase.specs.Phase.{start_state};
+ghost use Rattle.phase.specs.Task.{unused, start_task};
 
 use crate::{Phase, Task};
 
@@ -24,7 +24,7 @@ pub fn unused() -> Task
 
 // The phase at tick 0 of a task of this offset.
 fn start_phase(offset: u32) -> Phase
-    ensures { result ≡ (startState offset).phase }
+    ensures { result ≡ (start_state offset).phase }
 {
     if offset == 0 {
         Phase::Working(0, 0, 0)
@@ -35,7 +35,7 @@ fn start_phase(offset: u32) -> Phase
 
 // A task of the table as it starts: its first job is an odd one.
 pub fn start_task(task: table::Task) -> Task
-    ensures { result ≡ startTask (table.task_of task) }
+    ensures { result ≡ start_task (table.task_of task) }
 {
     let phase = start_phase(task.offset);
     Task {

@@ -9,8 +9,9 @@ use lib.Dec.{ltb}
 use Rattle.model.specs.Search.{any}
 use Rattle.model.specs.Task.{Table}
 use Rattle.model.specs.Horizon.{horizon}
-use Rattle.model.specs.Verdict.{missedIn}
+use Rattle.model.specs.Verdict.{missed_in}
 use Rattle.table.specs.declared.Answer.{Answer}
+use Rattle.table.specs.declared.Answer.TheVariants as answer
 use Rattle.table.specs.Words.{table_of}
 use Rattle.table.specs.Numbers.{place, Earlier}
 use Rattle.table.specs.Numbers as table
@@ -19,9 +20,10 @@ use Rattle.table.proofs.Decide.{Decides, fails, decides-lt, decides_or}
 use Rattle.table.proofs.Order.{not-before-itself, later, number-most, first-only}
 use Rattle.table.proofs.Exact.{refusal-exact, passed-exact}
 use Rattle.table.proofs.Passed.{passed-valid}
-use Rattle.table.specs.declared.Answer.TheVariants.{Taken, Refused}
+use Rattle.plan.specs.declared.Planned.{Planned}
+use Rattle.plan.specs.declared.Planned.TheVariants.{Written, Refused}
 use Rattle.plan.specs.Numbers.{RangeOut, BufferShort, MissBefore, Applies, words, ten, eleven, twelve, First, NoneApplies}
-use Rattle.plan.specs.Plan.{byPlan, plannedBy, plannedOf}
+use Rattle.plan.specs.Plan.{by_plan, planned_by, planned_of}
 use Rattle.plan.proofs.Late.{miss-decides}
 
 -- WHAT IS RIGHT OF AN ANSWER
@@ -30,8 +32,8 @@ module _ (ws : List ℕ) (a b bytes : ℕ) where
   abbrev s : Table
   s = table_of ws
 
-  abbrev Right : Answer → Type 0
-  Right Taken = NoneApplies ws a b bytes
+  abbrev Right : Planned → Type 0
+  Right Written = NoneApplies ws a b bytes
   Right (Refused n p) = First ws a b bytes n p
 
   -- a number of the table
@@ -90,16 +92,16 @@ module _ (ws : List ℕ) (a b bytes : ℕ) where
     buffer-decides : Decides (ltb bytes ((b - a) * s.cores)) (BufferShort s a b bytes)
     buffer-decides = decides-lt bytes ((b - a) * s.cores)
 
-    late-decides : Decides (any b (missedIn s)) (MissBefore s b)
+    late-decides : Decides (any b (missed_in s)) (MissBefore s b)
     late-decides = miss-decides s (passed-valid ws passed) b
 
     -- 10, 11 and 12 by their tests
-    right-plan : Right (byPlan s a b bytes)
-    unfolding byPlan
-    right-plan = go (ltb b a || ltb (horizon s) b) refl (ltb bytes ((b - a) * s.cores)) refl (any b (missedIn s)) refl
+    right-plan : Right (by_plan s a b bytes)
+    unfolding by_plan
+    right-plan = go (ltb b a || ltb (horizon s) b) refl (ltb bytes ((b - a) * s.cores)) refl (any b (missed_in s)) refl
       where
-        go : (t : Bool) → (ltb b a || ltb (horizon s) b) ≡ t → (u : Bool) → ltb bytes ((b - a) * s.cores) ≡ u → (v : Bool) → any b (missedIn s) ≡ v
-            → Right (cond t (Refused 10 0) (cond u (Refused 11 0) (cond v (Refused 12 0) Taken)))
+        go : (t : Bool) → (ltb b a || ltb (horizon s) b) ≡ t → (u : Bool) → ltb bytes ((b - a) * s.cores) ≡ u → (v : Bool) → any b (missed_in s) ≡ v
+            → Right (cond t (Refused 10 0) (cond u (Refused 11 0) (cond v (Refused 12 0) Written)))
         go true e u f v g = is-ten (range-decides.0 e)
         go false e true f v g = is-eleven (fails (ltb b a || ltb (horizon s) b) (RangeOut s a b) range-decides e) (buffer-decides.0 f)
         go false e false f true g =
@@ -108,25 +110,25 @@ module _ (ws : List ℕ) (a b bytes : ℕ) where
         go false e false f false g =
             is_none (fails (ltb b a || ltb (horizon s) b) (RangeOut s a b) range-decides e)
             (fails (ltb bytes ((b - a) * s.cores)) (BufferShort s a b bytes) buffer-decides f)
-            (fails (any b (missedIn s)) (MissBefore s b) late-decides g)
+            (fails (any b (missed_in s)) (MissBefore s b) late-decides g)
 
-  right : Right (plannedOf ws a b bytes)
-  unfolding plannedOf
+  right : Right (planned_of ws a b bytes)
+  unfolding planned_of
   right = go (answer_of ws) refl
     where
-      go : (x : Answer) → answer_of ws ≡ x → Right (plannedBy x (byPlan s a b bytes))
-      go Taken e = right-plan ((passed-exact ws).0 e)
-      go (Refused n p) e = by-words n p ((refusal-exact ws n p).0 e)
+      go : (x : Answer) → answer_of ws ≡ x → Right (planned_by x (by_plan s a b bytes))
+      go answer.Passed e = right-plan ((passed-exact ws).0 e)
+      go (answer.Refused n p) e = by-words n p ((refusal-exact ws n p).0 e)
 
   -- what is right of an answer determines it
-  determined : (v : Answer) → Right v → ((n p : ℕ) → (v ≡ Refused n p) ↔ First ws a b bytes n p) × ((v ≡ Taken) ↔ NoneApplies ws a b bytes)
-  determined Taken r = (λ n p. (λ e. absurd (written-not-refused e), λ f. absurd (r n p f.0)), (λ e. r, λ n. refl))
+  determined : (v : Planned) → Right v → ((n p : ℕ) → (v ≡ Refused n p) ↔ First ws a b bytes n p) × ((v ≡ Written) ↔ NoneApplies ws a b bytes)
+  determined Written r = (λ n p. (λ e. absurd (written-not-refused e), λ f. absurd (r n p f.0)), (λ e. r, λ n. refl))
     where
-      written-not-refused : {n p : ℕ} → Taken ≡ Refused n p → ⊥
+      written-not-refused : {n p : ℕ} → Written ≡ Refused n p → ⊥
       written-not-refused e = let z : ◌≡◌ {A = ℕ} 0 1 = cc in omega arith
   determined (Refused m q) r = (λ n p. (λ e. to n p e, λ f. from n p f), (λ e. absurd (refused-not-written e), λ none. absurd (none m q r.0)))
     where
-      refused-not-written : Refused m q ≡ Taken → ⊥
+      refused-not-written : Refused m q ≡ Written → ⊥
       refused-not-written e = let z : ◌≡◌ {A = ℕ} 0 1 = cc in omega arith
 
       to : (n p : ℕ) → Refused m q ≡ Refused n p → First ws a b bytes n p
@@ -136,9 +138,9 @@ module _ (ws : List ℕ) (a b bytes : ℕ) where
       from n p f = let x = first-only (Applies ws a b bytes) m q n p r f in rw (x.0, x.1)
 
   -- the plan refuses with n and p exactly if number n applies with position p and no earlier one does
-  pub refused-exact : (n p : ℕ) → (plannedOf ws a b bytes ≡ Refused n p) ↔ First ws a b bytes n p
-  refused-exact n p = (determined (plannedOf ws a b bytes) right).0 n p
+  pub refused-exact : (n p : ℕ) → (planned_of ws a b bytes ≡ Refused n p) ↔ First ws a b bytes n p
+  refused-exact n p = (determined (planned_of ws a b bytes) right).0 n p
 
   -- and the rows are written exactly if no number applies
-  pub written-exact : (plannedOf ws a b bytes ≡ Taken) ↔ NoneApplies ws a b bytes
-  written-exact = (determined (plannedOf ws a b bytes) right).1
+  pub written-exact : (planned_of ws a b bytes ≡ Written) ↔ NoneApplies ws a b bytes
+  written-exact = (determined (planned_of ws a b bytes) right).1

@@ -2,7 +2,6 @@
 pub mod Late
 pub mod Exact
 pub mod Buffer
-pub mod Following
 pub mod Writing
 pub mod Cases
 pub mod Contract

@@ -1,5 +1,4 @@
--- The plan: its rows, its numbers for what is turned down, the contract of the buffer, and the run kept where rows begin.
+-- The plan: its rows, its numbers for what is turned down, and the contract of the buffer.
 pub mod Rows
 pub mod Numbers
 pub mod Plan
-pub mod Cursor

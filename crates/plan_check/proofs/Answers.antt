@@ -14,14 +14,12 @@ use Rattle.model.proofs.Bools.{not-false-true}
 use Rattle.model.proofs.Starts.{hyperperiod-pos}
 use Rattle.model.specs.Horizon.{horizon}
 use Rattle.model.specs.Task.{AllValid, Table}
-use Rattle.plan_check.specs.Answers.{ValidBefore, DeadlineMissed, PlanOutcome, OutcomeFor, accepts, all_valid, bad, missed-deadline, late-end, past}
-use Rattle.plan_check.specs.Answers.{phases, refuses, size, too_few, unfinished}
-use Rattle.plan_check.proofs.PlanBook.{Answer, PlanBook, accepted, after, planBookAnswer, check, checkFrom, finalBookAnswer, differs, faulty, lateNow}
-use Rattle.plan_check.proofs.PlanBook.{refused, take_row}
+use Rattle.plan_check.specs.Answers.{ValidBefore, DeadlineMissed, PlanOutcome, OutcomeFor, accepts, all_valid, bad, missed-deadline, late-end, past, phases, refuses, size, too_few, unfinished}
+use Rattle.plan_check.proofs.PlanBook.{Answer, PlanBook, accepted, after, plan_book_answer, check, check_from, final_book_answer, differs, faulty, late_now, refused, take_row}
 use Rattle.plan_check.specs.Plan.{Agree, ValidRow, row_at}
 use Rattle.plan_check.proofs.Meets.{agree-differs, differs-agree, valid-right, late-found, late-not, not_late, right_valid}
-use Rattle.plan_check.proofs.Owed.{late-job, owedAt}
-use Rattle.plan_check.proofs.Steps.{Closing, Ok, end-last, end_on, ended, planBookAt, starts, take-ok, unroll}
+use Rattle.plan_check.proofs.Owed.{late-job, owed_at}
+use Rattle.plan_check.proofs.Steps.{Closing, Ok, end-last, end_on, ended, plan_book_at, starts, take-ok, unroll}
 
 module _ (s : Table) (ok : AllValid s) (rows : List (List ℕ)) where
   abbrev r : ℕ → List ℕ
@@ -31,10 +29,10 @@ module _ (s : Table) (ok : AllValid s) (rows : List (List ℕ)) where
   H = horizon s
 
   abbrev from : ℕ → PlanOutcome
-  from t = checkFrom s (planBookAt s r t) (drop t rows)
+  from t = check_from s (plan_book_at s r t) (drop t rows)
 
   abbrev on : Answer → ℕ → PlanOutcome
-  on a t = after a (drop (suc t) rows) (λ next. checkFrom s next (drop (suc t) rows))
+  on a t = after a (drop (suc t) rows) (λ next. check_from s next (drop (suc t) rows))
 
   some-ticks : 0 < H
   some-ticks = unfold horizon in omega (arith, hyperperiod-pos s.tasks)
@@ -44,18 +42,17 @@ module _ (s : Table) (ok : AllValid s) (rows : List (List ℕ)) where
   taken-row t x = record { size = x.0.size; on-time = not_late s ok r t x.1; right = valid-right s ok r t x.0 }
 
   reach : (t : ℕ) → t < H → t ≤ length rows → ValidBefore s r t → check s rows ≡ from t
-  reach zero h l b = ap (λ (st : PlanBook). checkFrom s st rows) (starts s r)
+  reach zero h l b = ap (λ (st : PlanBook). check_from s st rows) (starts s r)
   reach (suc t) h l b =
       reach t (omega arith) (omega arith) (λ u g. b u (omega arith))
       ∙ (unroll s rows t l ∙ ap (λ a. on a t) (take-ok s r t (omega arith) (taken-row t (b t (omega arith))) ∙ end_on s r (suc t) h))
 
-  reach-end : H ≤ length rows → ValidBefore s r H → (h : ℕ) → suc h ≡ H → check s rows ≡ on (planBookAnswer s (planBookAt s r (suc h))) h
+  reach-end : H ≤ length rows → ValidBefore s r H → (h : ℕ) → suc h ≡ H → check s rows ≡ on (plan_book_answer s (plan_book_at s r (suc h))) h
   reach-end l b h e =
       reach h (omega arith) (omega arith) (λ u g. b u (omega arith))
       ∙ (unroll s rows h (omega arith) ∙ ap (λ a. on a h) (take-ok s r h (omega arith) (taken-row h (b h (omega arith)))))
 
-  ending :
-      (o : PlanOutcome) → H ≤ length rows → ValidBefore s r H → ((h : ℕ) → suc h ≡ H → on (planBookAnswer s (planBookAt s r (suc h))) h ≡ o) → check s rows ≡ o
+  ending : (o : PlanOutcome) → H ≤ length rows → ValidBefore s r H → ((h : ℕ) → suc h ≡ H → on (plan_book_answer s (plan_book_at s r (suc h))) h ≡ o) → check s rows ≡ o
   ending o l b end = go H refl
     where
       go : (n : ℕ) → H ≡ n → check s rows ≡ o
@@ -63,29 +60,27 @@ module _ (s : Table) (ok : AllValid s) (rows : List (List ℕ)) where
       go (suc h) e = reach-end l b h (sym e) ∙ end h (sym e)
 
   -- what is answered to the row of t
-  at_row : (t : ℕ) (n u : ℕ) → t < H → t < length rows → ValidBefore s r t → take_row s (planBookAt s r t) (r t) ≡ refused n u → check s rows ≡ refuses n u
+  at_row : (t : ℕ) (n u : ℕ) → t < H → t < length rows → ValidBefore s r t → take_row s (plan_book_at s r t) (r t) ≡ refused n u → check s rows ≡ refuses n u
   at_row t n u h l b e = reach t h (omega arith) b ∙ (unroll s rows t l ∙ ap (λ a. on a t) e)
 
-  row-11 : (t : ℕ) → t < H → ¬ (length (r t) ≡ s.cores) → take_row s (planBookAt s r t) (r t) ≡ refused 11 0
+  row-11 : (t : ℕ) → t < H → ¬ (length (r t) ≡ s.cores) → take_row s (plan_book_at s r t) (r t) ≡ refused 11 0
   unfolding take_row
   row-11 t h n = rw (lt-leb H t h, ne_eqb (length (r t)) s.cores n)
 
-  row-25 : (t : ℕ) → t < H → length (r t) ≡ s.cores → DeadlineMissed s r t → take_row s (planBookAt s r t) (r t) ≡ refused 25 t
+  row-25 : (t : ℕ) → t < H → length (r t) ≡ s.cores → DeadlineMissed s r t → take_row s (plan_book_at s r t) (r t) ≡ refused 25 t
   unfolding take_row
   row-25 t h e x = rw (lt-leb H t h, eq-eqb (length (r t)) s.cores e, late-found s ok r t x)
 
-  row-24 :
-      (t : ℕ) → t < H → length (r t) ≡ s.cores → ¬ DeadlineMissed s r t → faulty s t (owedAt s r t) (r t) ≡ true
-      → take_row s (planBookAt s r t) (r t) ≡ refused 24 t
+  row-24 : (t : ℕ) → t < H → length (r t) ≡ s.cores → ¬ DeadlineMissed s r t → faulty s t (owed_at s r t) (r t) ≡ true → take_row s (plan_book_at s r t) (r t) ≡ refused 24 t
   unfolding take_row
   row-24 t h e n f = rw (lt-leb H t h, eq-eqb (length (r t)) s.cores e, not_late s ok r t n, f)
 
-  end-25 : (t : ℕ) → t ≡ H → DeadlineMissed s r t → planBookAnswer s (planBookAt s r t) ≡ refused 25 t
-  unfolding planBookAnswer finalBookAnswer
+  end-25 : (t : ℕ) → t ≡ H → DeadlineMissed s r t → plan_book_answer s (plan_book_at s r t) ≡ refused 25 t
+  unfolding plan_book_answer final_book_answer
   end-25 t e x = rw (eq-eqb t H e, late-found s ok r t x)
 
-  end-26 : (t : ℕ) → t ≡ H → ¬ DeadlineMissed s r t → differs s (planBookAt s r t) ≡ true → planBookAnswer s (planBookAt s r t) ≡ refused 26 t
-  unfolding planBookAnswer finalBookAnswer
+  end-26 : (t : ℕ) → t ≡ H → ¬ DeadlineMissed s r t → differs s (plan_book_at s r t) ≡ true → plan_book_answer s (plan_book_at s r t) ≡ refused 26 t
+  unfolding plan_book_answer final_book_answer
   end-26 t e n d = rw (eq-eqb t H e, not_late s ok r t n, d)
 
   -- no deadline is missed up to t
@@ -101,25 +96,25 @@ module _ (s : Table) (ok : AllValid s) (rows : List (List ℕ)) where
   outcome-check o (all_valid e b n a) =
       ending accepts (omega arith) b (λ h q.
       ap (λ x. on x h) (end-last s r (suc h) q (subst (Closing s r) (sym q) (closing n a)))
-      ∙ ap (λ (l : List (List ℕ)). after (accepted (planBookAt s r (suc h))) l (λ next. checkFrom s next l)) (drop_of_length-le rows {i = suc h} (omega arith)))
+      ∙ ap (λ (l : List (List ℕ)). after (accepted (plan_book_at s r (suc h))) l (λ next. check_from s next l)) (drop_of_length-le rows {i = suc h} (omega arith)))
   outcome-check o (too_few l b) = reach (length rows) l (le_refl (length rows)) b ∙ ended s rows (length rows) (le_refl (length rows))
   outcome-check o (past l b n a) =
       ending (refuses 10 0) (omega arith) b (λ h q.
       ap (λ x. on x h) (end-last s r (suc h) q (subst (Closing s r) (sym q) (closing n a)))
-      ∙ ap (λ (l : List (List ℕ)). after (accepted (planBookAt s r (suc h))) l (λ next. checkFrom s next l)) (drop-cons rows (suc h) [] (omega arith)))
+      ∙ ap (λ (l : List (List ℕ)). after (accepted (plan_book_at s r (suc h))) l (λ next. check_from s next l)) (drop-cons rows (suc h) [] (omega arith)))
   outcome-check o (size t h l b n) = at_row t 11 0 h l b (row-11 t h n)
   outcome-check o (missed-deadline t h l b e x) = at_row t 25 t h l b (row-25 t h e x)
   outcome-check o (bad t h l b e n f) =
       at_row t 24 t h l b (row-24 t h e n
-      (not-false-true (faulty s t (owedAt s r t) (r t)) (λ q. f (right_valid s ok r t (none-upto t b n) e q))))
+      (not-false-true (faulty s t (owed_at s r t) (r t)) (λ q. f (right_valid s ok r t (none-upto t b n) e q))))
   outcome-check o (late-end l b x) =
       ending (refuses 25 H) l b (λ h q. ap (λ a. on a h) (end-25 (suc h) q (subst (DeadlineMissed s r) (sym q) x)) ∙ ap (refuses 25) q)
   outcome-check o (phases l b n d) =
       ending (refuses 26 H) l b (λ h q.
       ap (λ a. on a h)
       (end-26 (suc h) q (subst (λ (t : ℕ). ¬ DeadlineMissed s r t) (sym q) n)
-      (subst (λ (t : ℕ). differs s (planBookAt s r t) ≡ true) (sym q)
-      (not-false-true (differs s (planBookAt s r H)) (λ e. d (differs-agree s ok r e)))))
+      (subst (λ (t : ℕ). differs s (plan_book_at s r t) ≡ true) (sym q)
+      (not-false-true (differs s (plan_book_at s r H)) (λ e. d (differs-agree s ok r e)))))
       ∙ ap (refuses 26) q)
 
   -- AND THE ROWS HAVE ONE
@@ -128,9 +123,9 @@ module _ (s : Table) (ok : AllValid s) (rows : List (List ℕ)) where
 
   at-end : H ≤ length rows → ValidBefore s r H → Answered
   unfolding Answered
-  at-end l b = go (lateNow s H (owedAt s r H)) refl (differs s (planBookAt s r H)) refl (eqb H (length rows)) refl
+  at-end l b = go (late_now s H (owed_at s r H)) refl (differs s (plan_book_at s r H)) refl (eqb H (length rows)) refl
     where
-      go : (a : Bool) → lateNow s H (owedAt s r H) ≡ a → (c : Bool) → differs s (planBookAt s r H) ≡ c → (d : Bool) → eqb H (length rows) ≡ d
+      go : (a : Bool) → late_now s H (owed_at s r H) ≡ a → (c : Bool) → differs s (plan_book_at s r H) ≡ c → (d : Bool) → eqb H (length rows) ≡ d
           → (o : PlanOutcome) × OutcomeFor s rows o
       go true e c f d g = (refuses 25 H, late-end l b (late-job s ok r H e))
       go false e true f d g = (refuses 26 H, phases l b (late-not s ok r H e) (λ a. true≢false (sym f ∙ agree-differs s ok r a)))
@@ -148,21 +143,15 @@ module _ (s : Table) (ok : AllValid s) (rows : List (List ℕ)) where
   onward : (n t : ℕ) → t + n ≡ H → t ≤ length rows → ValidBefore s r t → Answered
   onward zero t e l b = at-end (omega arith) (subst (ValidBefore s r) (omega arith) b)
   onward (suc n) t e l b =
-      go (eqb t (length rows)) refl (eqb (length (r t)) s.cores) refl (lateNow s t (owedAt s r t)) refl (faulty s t (owedAt s r t) (r t)) refl
-      (onward n (suc t) (omega arith))
+      go (eqb t (length rows)) refl (eqb (length (r t)) s.cores) refl (late_now s t (owed_at s r t)) refl (faulty s t (owed_at s r t) (r t)) refl (onward n (suc t) (omega arith))
     where
-      go : (x : Bool) → eqb t (length rows) ≡ x → (y : Bool) → eqb (length (r t)) s.cores ≡ y → (z : Bool) → lateNow s t (owedAt s r t) ≡ z
-          → (w : Bool) → faulty s t (owedAt s r t) (r t) ≡ w → (suc t ≤ length rows → ValidBefore s r (suc t) → Answered) → Answered
-      go true f y g z i w j ih =
-          unfold Answered in (unfinished, too_few (omega (arith, eqb-true t (length rows) f)) (subst (ValidBefore s r) (eqb-true t (length rows) f) b))
+      go : (x : Bool) → eqb t (length rows) ≡ x → (y : Bool) → eqb (length (r t)) s.cores ≡ y → (z : Bool) → late_now s t (owed_at s r t) ≡ z
+          → (w : Bool) → faulty s t (owed_at s r t) (r t) ≡ w → (suc t ≤ length rows → ValidBefore s r (suc t) → Answered) → Answered
+      go true f y g z i w j ih = unfold Answered in (unfinished, too_few (omega (arith, eqb-true t (length rows) f)) (subst (ValidBefore s r) (eqb-true t (length rows) f) b))
       go false f false g z i w j ih =
           unfold Answered in (refuses 11 0, size t (omega arith) (omega (arith, eqb-false t (length rows) f)) b (eqb-false (length (r t)) s.cores g))
       go false f true g true i w j ih =
-          unfold Answered in (
-            refuses 25 t,
-            missed-deadline t (omega arith) (omega (arith, eqb-false t (length rows) f)) b
-                (eqb-true (length (r t)) s.cores g) (late-job s ok r t i),
-          )
+          unfold Answered in (refuses 25 t, missed-deadline t (omega arith) (omega (arith, eqb-false t (length rows) f)) b (eqb-true (length (r t)) s.cores g) (late-job s ok r t i))
       go false f true g false i true j ih =
           unfold Answered in (
             refuses 24 t,

@@ -14,11 +14,11 @@ use Rattle.model.specs.Fence.{unfenced}
 use Rattle.model.specs.Grants.{Claimant, fits, given, grants, left, some}
 use Rattle.model.specs.Row.{byte_of, owner, row}
 use Rattle.model.specs.Search.{bit, member, up_from}
-use Rattle.model.specs.Sizes.{fencedByte}
+use Rattle.model.specs.Sizes.{fenced_byte}
 use Rattle.model.specs.Task.{Rule, Table}
-use Rattle.cores.proofs.Ascending.{Range, getD-up, memb-below, memb-kept, range-kept, range-take, range-up, range-weaken}
+use Rattle.cores.proofs.Ascending.{Range, get_d-up, memb-below, memb-kept, range-kept, range-take, range-up, range-weaken}
 use Rattle.rule.proofs.Granting.{Apart, apart, in-grants, range-left}
-use Rattle.plan_check.specs.Plan.{UnknownByte, cellCount}
+use Rattle.plan_check.specs.Plan.{UnknownByte, cell_count}
 
 -- a core has no owner or one of the places listed
 owner-low : (c p : ℕ) (gs : List (List ℕ)) → (owner c p gs ≡ 0) ⊎ (p ≤ owner c p gs)
@@ -63,14 +63,14 @@ owner-is c q (g ∷ gs) a (suc p) = go (member c g) refl (owner-is c (suc q) gs 
 -- counting the numbers from i up that are in an ascending list
 count-list :
     (f : ℕ → ℕ) (b i n : ℕ) (g : List ℕ) → Range i (i + n) g → ((c : ℕ) → i ≤ c → eqb (f c) b ≡ member c g)
-    → cellCount b (map f (up_from i n)) ≡ length g
-unfolding cellCount up_from
+    → cell_count b (map f (up_from i n)) ≡ length g
+unfolding cell_count up_from
 count-list f b i zero [] o h = refl
 count-list f b i zero (x ∷ g) o h = absurd (omega (arith, o.0, o.1))
 count-list f b i (suc n) [] o h = none (h i (le_refl i)) (count-list f b (suc i) n [] tt (λ c l. h c (omega arith)))
   where
-    none : eqb (f i) b ≡ member i [] → cellCount b (map f (up_from (suc i) n)) ≡ 0
-        → cond (eqb (f i) b) (suc (cellCount b (map f (up_from (suc i) n)))) (cellCount b (map f (up_from (suc i) n))) ≡ 0
+    none : eqb (f i) b ≡ member i [] → cell_count b (map f (up_from (suc i) n)) ≡ 0
+        → cond (eqb (f i) b) (suc (cell_count b (map f (up_from (suc i) n)))) (cell_count b (map f (up_from (suc i) n))) ≡ 0
     none e ih = unfold member in rw e ih
 count-list f b i (suc n) (x ∷ g) o h =
     ⊎_elim
@@ -87,12 +87,12 @@ count-list f b i (suc n) (x ∷ g) o h =
     beyond : i ≡ x → (c : ℕ) → suc i ≤ c → eqb (f c) b ≡ member c g
     beyond e c l = h c (omega arith) ∙ (unfold member in rw (ne_eqb c x (λ q. omega arith)))
 
-    at : i ≡ x → cellCount b (map f (up_from (suc i) n)) ≡ length g
-        → cond (eqb (f i) b) (suc (cellCount b (map f (up_from (suc i) n)))) (cellCount b (map f (up_from (suc i) n))) ≡ suc (length g)
+    at : i ≡ x → cell_count b (map f (up_from (suc i) n)) ≡ length g
+        → cond (eqb (f i) b) (suc (cell_count b (map f (up_from (suc i) n)))) (cell_count b (map f (up_from (suc i) n))) ≡ suc (length g)
     at e ih = let stands : member i (x ∷ g) ≡ true = unfold member in rw (eq-eqb i x e) in rw (h i (le_refl i) ∙ stands) (ap suc ih)
 
-    past : i < x → cellCount b (map f (up_from (suc i) n)) ≡ suc (length g)
-        → cond (eqb (f i) b) (suc (cellCount b (map f (up_from (suc i) n)))) (cellCount b (map f (up_from (suc i) n))) ≡ suc (length g)
+    past : i < x → cell_count b (map f (up_from (suc i) n)) ≡ suc (length g)
+        → cond (eqb (f i) b) (suc (cell_count b (map f (up_from (suc i) n)))) (cell_count b (map f (up_from (suc i) n))) ≡ suc (length g)
     past e ih = rw (h i (le_refl i) ∙ memb-below i x (i + suc n) (x ∷ g) e (le_refl x, o.1, o.2)) ih
 
 -- each list of grants is an ascending part of the free cores
@@ -111,7 +111,7 @@ grants-range r hi (b ∷ bs) free o zero = given-range b hi free o
 grants-range r hi (b ∷ bs) free o (suc p) = grants-range r hi bs (left r b free) (range-left r b hi free o) p
 
 -- THE LAW OF A ROW: as many cores show position p + 1 as place p is given, of the cores outside the fence
-module _ (r : Rule) (bs : List Claimant) (fence m p : ℕ) (few : suc p < fencedByte) where
+module _ (r : Rule) (bs : List Claimant) (fence m p : ℕ) (few : suc p < fenced_byte) where
   abbrev gs : List (List ℕ)
   gs = grants r bs (unfenced fence m)
 
@@ -122,19 +122,17 @@ module _ (r : Rule) (bs : List Claimant) (fence m p : ℕ) (few : suc p < fenced
   fenced-none : (c : ℕ) → bit fence c ≡ true → member c (get_or gs p []) ≡ false
   fenced-none c e = not-true-false (member c (get_or gs p [])) (λ h.
       true≢false
-      (sym (and_right (member c (up_from 0 m)) (not (bit fence c))
-      (sym (memb-kept (λ c. not (bit fence c)) c (up_from 0 m)) ∙ in-grants r c bs (unfenced fence m) p h))
+      (sym (and_right (member c (up_from 0 m)) (not (bit fence c)) (sym (memb-kept (λ c. not (bit fence c)) c (up_from 0 m)) ∙ in-grants r c bs (unfenced fence m) p h))
       ∙ ap not e))
 
   byte-is : (c : ℕ) → eqb (byte_of fence gs c) (suc p) ≡ member c (get_or gs p [])
   byte-is c = go (bit fence c) refl
     where
-      go : (b : Bool) → bit fence c ≡ b → eqb (cond b fencedByte (owner c 1 gs)) (suc p) ≡ member c (get_or gs p [])
-      go true e = ne_eqb fencedByte (suc p) (λ q. omega arith) ∙ sym (fenced-none c e)
-      go false e =
-          subst (λ (n : ℕ). eqb (owner c 1 gs) (suc n) ≡ member c (get_or gs p [])) (omega arith) (owner-is c 0 gs (apart r m bs (unfenced fence m) free) p)
+      go : (b : Bool) → bit fence c ≡ b → eqb (cond b fenced_byte (owner c 1 gs)) (suc p) ≡ member c (get_or gs p [])
+      go true e = ne_eqb fenced_byte (suc p) (λ q. omega arith) ∙ sym (fenced-none c e)
+      go false e = subst (λ (n : ℕ). eqb (owner c 1 gs) (suc n) ≡ member c (get_or gs p [])) (omega arith) (owner-is c 0 gs (apart r m bs (unfenced fence m) free) p)
 
-  pub row-cells : cellCount (suc p) (row fence m gs) ≡ length (get_or gs p [])
+  pub row-cells : cell_count (suc p) (row fence m gs) ≡ length (get_or gs p [])
   unfolding row
   row-cells =
       count-list (byte_of fence gs) (suc p) 0 m (get_or gs p [])
@@ -148,11 +146,11 @@ unfolding row
 row-known s gs few c h = go (bit s.fence c) refl
   where
     at : get_or (map (byte_of s.fence gs) (up_from 0 s.cores)) c 0 ≡ byte_of s.fence gs c
-    at = getD-up (byte_of s.fence gs) 0 0 s.cores c h ∙ ap (byte_of s.fence gs) (zero-add c)
+    at = get_d-up (byte_of s.fence gs) 0 0 s.cores c h ∙ ap (byte_of s.fence gs) (zero-add c)
 
     go : (b : Bool) → bit s.fence c ≡ b → ¬ UnknownByte s c (get_or (map (byte_of s.fence gs) (up_from 0 s.cores)) c 0)
-    go b e (inl (f, n)) = n (at ∙ ap (λ (t : Bool). cond t fencedByte (owner c 1 gs)) f)
-    go b e (inr (f, l)) = omega (arith, at ∙ ap (λ (t : Bool). cond t fencedByte (owner c 1 gs)) f, owner-most c 0 gs)
+    go b e (inl (f, n)) = n (at ∙ ap (λ (t : Bool). cond t fenced_byte (owner c 1 gs)) f)
+    go b e (inr (f, l)) = omega (arith, at ∙ ap (λ (t : Bool). cond t fenced_byte (owner c 1 gs)) f, owner-most c 0 gs)
 
 -- a list has an element exactly if it is not empty
 pub some-cells : (l : List ℕ) → ltb 0 (length l) ≡ some l

@@ -11,7 +11,7 @@ use Rattle.model.specs.Horizon.{horizon}
 use Rattle.model.specs.Task.{AllValid, Table, due, task}
 use Rattle.plan_check.specs.Answers.{DeadlineMissed, accepts}
 use Rattle.plan_check.proofs.PlanBook.{check}
-use Rattle.plan_check.specs.Plan.{Acceptable, ValidRow, hadInRows, row_at}
+use Rattle.plan_check.specs.Plan.{Acceptable, ValidRow, had_in_rows, row_at}
 use Rattle.plan_check.proofs.Meets.{agree-differs, differs-agree, enough, valid-right, late-not, not_late, right_valid}
 use Rattle.plan_check.proofs.Steps.{Passes, check-passes, passes-check}
 use Rattle.plan_check.proofs.Ticks.{had-most}
@@ -43,19 +43,14 @@ module _ (s : Table) (ok : AllValid s) (rows : List (List ℕ)) where
 
   passes : Acceptable s rows → Passes s rows 0
   passes a = record {
-    ok =
-        λ t g h. record {
-          size = (a.rows-valid t h).size;
-          on-time = not_late s ok r t (timely t (omega arith));
-          right = valid-right s ok r t (a.rows-valid t h);
-        };
+    ok = λ t g h. record { size = (a.rows-valid t h).size; on-time = not_late s ok r t (timely t (omega arith)); right = valid-right s ok r t (a.rows-valid t h) };
     closing = record { on-time = not_late s ok r (horizon s) (timely (horizon s) (le_refl (horizon s))); same = agree-differs s ok r a.agree };
   }
     where
       timely : (u : ℕ) → u ≤ horizon s → ¬ DeadlineMissed s r u
       timely u h x =
-          let done : hadInRows s r x.0 x.1 u ≡ (task s x.0).length =
-          subst (λ (t : ℕ). hadInRows s r x.0 x.1 t ≡ (task s x.0).length) x.3 (a.done x.0 x.1 x.2 (omega (arith, x.3))) in
+          let done : had_in_rows s r x.0 x.1 u ≡ (task s x.0).length =
+          subst (λ (t : ℕ). had_in_rows s r x.0 x.1 t ≡ (task s x.0).length) x.3 (a.done x.0 x.1 x.2 (omega (arith, x.3))) in
           omega (arith, x.4)
 
   -- THE THEOREM

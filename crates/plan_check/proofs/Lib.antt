@@ -24,7 +24,6 @@ pub mod Starting
 pub mod Cases
 pub mod Order
 pub mod Taking
-pub mod RepeatedRow
 pub mod UnusedPlaces
 pub mod StateRelated
 pub mod TakeAnswers

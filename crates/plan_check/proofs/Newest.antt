@@ -2,12 +2,11 @@
 use mathlib.Core.Path.{ap, sym, ◌∙◌, ◌≡◌}
 use mathlib.Core.Logic.{⊎_elim}
 use Prim.Native.Nat.{◌*◌, ◌+◌, ◌-◌, ◌/◌, ◌<◌, suc, ℕ, ◌≤◌}
-use native.Mathlib.Nat.{add-mul-div_right, div-add-mod', div-lt_iff_lt-mul, div-mul-le_self, eq-or-lt_of_le, le_antisymm, le-div_iff_mul-le, le_of_suc-le-suc}
-use native.Mathlib.Nat.{le_trans, mod-lt}
+use native.Mathlib.Nat.{add-mul-div_right, div-add-mod', div-lt_iff_lt-mul, div-mul-le_self, eq-or-lt_of_le, le_antisymm, le-div_iff_mul-le, le_of_suc-le-suc, le_trans, mod-lt}
 use native.Mathlib.Omega.{arith}
 use lib.ListN.{length}
 use Rattle.model.proofs.Starts.{Periods, S-last, S-release, hyperperiod-divides}
-use Rattle.model.specs.Horizon.{horizon, hyperperiod, lastS}
+use Rattle.model.specs.Horizon.{horizon, hyperperiod, last_s}
 use Rattle.model.specs.Task.{AllValid, Table, Task, newest, release, task}
 
 module _ (τ : Task) (pos : 0 < τ.period) where
@@ -46,7 +45,7 @@ module _ (τ : Task) (pos : 0 < τ.period) where
   release-later k m P e = omega arith
 
 -- every offset is at or before the last S
-pub offset-last : (s : Table) → AllValid s → (p : ℕ) → p < length s.tasks → (task s p).offset ≤ lastS s.tasks
+pub offset-last : (s : Table) → AllValid s → (p : ℕ) → p < length s.tasks → (task s p).offset ≤ last_s s.tasks
 offset-last s ok p l =
     let all : Periods s.tasks = λ q h. le_trans (ok q h).deadline-pos (ok q h).constrained in
     let x = S-release s.tasks p in
@@ -55,11 +54,11 @@ offset-last s ok p l =
 -- the ticks since the release of the newest job are the same at the last S and at the horizon
 pub since-later :
     (s : Table) → AllValid s → (p : ℕ) → p < length s.tasks
-    → lastS s.tasks - release (task s p) (newest (task s p) (lastS s.tasks)) ≡ horizon s - release (task s p) (newest (task s p) (horizon s))
+    → last_s s.tasks - release (task s p) (newest (task s p) (last_s s.tasks)) ≡ horizon s - release (task s p) (newest (task s p) (horizon s))
 unfolding horizon
 since-later s ok p l =
     let τ : Task = task s p in
-    let L : ℕ = lastS s.tasks in
+    let L : ℕ = last_s s.tasks in
     let P : ℕ = hyperperiod s.tasks in
     let pos : 0 < τ.period = le_trans (ok p l).deadline-pos (ok p l).constrained in
     let on : τ.offset ≤ L = offset-last s ok p l in

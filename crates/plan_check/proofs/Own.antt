@@ -18,19 +18,19 @@ use Rattle.model.proofs.Rows.{row-length}
 use Rattle.model.proofs.Runs.{full-claimed, full-next, full-row, full-tick, full-whole, bounds-full, missed-at}
 use Rattle.model.proofs.Starts.{Periods, S-last, S-release, hyperperiod-divides}
 use Rattle.model.specs.Jobs.{Job}
-use Rattle.model.specs.Claims.{grantsOf, in_row, jobClaims, bookRow, served, taskClaims, widths}
+use Rattle.model.specs.Claims.{grants_of, in_row, job_claims, book_row, served, task_claims, widths}
 use Rattle.model.specs.Advance.{work}
 use Rattle.model.specs.Lists.{NeverMissed, full}
-use Rattle.model.specs.Fence.{unfencedCores}
+use Rattle.model.specs.Fence.{unfenced_cores}
 use Rattle.model.specs.Grants.{Claimant, claimants, some}
-use Rattle.model.specs.Horizon.{S, horizon, hyperperiod, lastS}
+use Rattle.model.specs.Horizon.{S, horizon, hyperperiod, last_s}
 use Rattle.model.specs.Search.{up_from}
-use Rattle.model.specs.Sizes.{fencedByte}
-use Rattle.model.specs.Task.{AllValid, Table, Task, due, newest, absentTask, release, task, width_of}
+use Rattle.model.specs.Sizes.{fenced_byte}
+use Rattle.model.specs.Task.{AllValid, Table, Task, due, newest, absent_task, release, task, width_of}
 use Rattle.rule.proofs.Granting.{idle, width-or-none}
 use Rattle.plan_check.specs.Answers.{accepts}
 use Rattle.plan_check.proofs.PlanBook.{check}
-use Rattle.plan_check.specs.Plan.{Acceptable, ValidRow, InTime, Owed, UnknownByte, cellCount, hadInRows, phaseAfter, phaseBy, row_at, runs, ticks}
+use Rattle.plan_check.specs.Plan.{Acceptable, ValidRow, InTime, Owed, UnknownByte, cell_count, had_in_rows, phase_after, phase_by, row_at, runs, ticks}
 use Rattle.plan_check.proofs.Cells.{row-cells, row-known, some-cells}
 use Rattle.plan_check.proofs.Exact.{check-exact}
 use Rattle.plan_check.proofs.Newest.{newest-begun, newest-later, newest-next, newest-only, offset-last, since-later}
@@ -39,10 +39,10 @@ use Rattle.plan_check.proofs.Ticks.{done-same, valid_same, ticks-none, ticks-on,
 
 -- the rows of the full-length run up to the horizon
 abbrev pub own_row : Table → ℕ → List ℕ
-own_row s t = bookRow s (full s t)
+own_row s t = book_row s (full s t)
 
-abbrev pub ownRows : Table → List (List ℕ)
-ownRows s = map (own_row s) (up_from 0 (horizon s))
+abbrev pub own_rows : Table → List (List ℕ)
+own_rows s = map (own_row s) (up_from 0 (horizon s))
 
 -- the width of a claimant
 claimant-width : (ws : List ℕ) (c : ℕ → Bool) (p : ℕ) → (get_or (claimants ws c) p idle).width ≡ get_or ws p 0
@@ -53,44 +53,44 @@ claimant-width (w ∷ ws) c (suc p) = claimant-width ws (λ q. c (suc q)) p
 
 -- the width of a place in a tick is that of its newest job
 width-newest : (s : Table) (p t : ℕ) → p < length s.tasks → get_or (widths s t) p 0 ≡ width_of (task s p) (newest (task s p) t)
-width-newest s p t l = map_at (λ τ. width_of τ (newest τ t)) s.tasks p 0 absentTask l
+width-newest s p t l = map_at (λ τ. width_of τ (newest τ t)) s.tasks p 0 absent_task l
 
-module _ (s : Table) (ok : AllValid s) (few : length s.tasks < fencedByte) where
+module _ (s : Table) (ok : AllValid s) (few : length s.tasks < fenced_byte) where
   abbrev bs : ℕ → List Claimant
-  bs t = claimants (widths s (full s t).tick) (taskClaims s (full s t))
+  bs t = claimants (widths s (full s t).tick) (task_claims s (full s t))
 
   -- as many cores show a position as its place is given
-  own-cells : (p t : ℕ) → p < length s.tasks → cellCount (suc p) (own_row s t) ≡ length (get_or (grantsOf s (full s t)) p [])
-  own-cells p t l = ap (cellCount (suc p)) (full-row s t) ∙ row-cells s.rule (bs t) s.fence s.cores p (omega arith)
+  own-cells : (p t : ℕ) → p < length s.tasks → cell_count (suc p) (own_row s t) ≡ length (get_or (grants_of s (full s t)) p [])
+  own-cells p t l = ap (cell_count (suc p)) (full-row s t) ∙ row-cells s.rule (bs t) s.fence s.cores p (omega arith)
 
   own_runs : (p t : ℕ) → p < length s.tasks → runs (own_row s) p t ≡ in_row s (full s t) p
-  own_runs p t l = ap (ltb 0) (own-cells p t l) ∙ some-cells (get_or (grantsOf s (full s t)) p [])
+  own_runs p t l = ap (ltb 0) (own-cells p t l) ∙ some-cells (get_or (grants_of s (full s t)) p [])
 
-  own-wide : (p t : ℕ) → p < length s.tasks → runs (own_row s) p t ≡ true → cellCount (suc p) (own_row s t) ≡ width_of (task s p) (newest (task s p) t)
-  own-wide p t l e = own-cells p t l ∙ go (width-or-none s.rule (bs t) (unfencedCores s) p)
+  own-wide : (p t : ℕ) → p < length s.tasks → runs (own_row s) p t ≡ true → cell_count (suc p) (own_row s t) ≡ width_of (task s p) (newest (task s p) t)
+  own-wide p t l e = own-cells p t l ∙ go (width-or-none s.rule (bs t) (unfenced_cores s) p)
     where
       g : List ℕ
-      g = get_or (grantsOf s (full s t)) p []
+      g = get_or (grants_of s (full s t)) p []
 
       go : (length g ≡ (get_or (bs t) p idle).width) ⊎ (g ≡ []) → length g ≡ width_of (task s p) (newest (task s p) t)
       go (inl q) =
           q
-          ∙ (claimant-width (widths s (full s t).tick) (taskClaims s (full s t)) p
+          ∙ (claimant-width (widths s (full s t).tick) (task_claims s (full s t)) p
           ∙ (width-newest s p (full s t).tick l ∙ ap (λ (n : ℕ). width_of (task s p) (newest (task s p) n)) (full-tick s t)))
       go (inr q) = absurd (false≢true (sym (ap some q) ∙ (sym (own_runs p t l) ∙ e)))
 
   -- a place that is in the row claims for its newest job, which has not ended
   record Serves (p t : ℕ) : Type 0 where
-    claiming : jobClaims s (full s t) p (newest (task s p) t) ≡ true
+    claiming : job_claims s (full s t) p (newest (task s p) t) ≡ true
     unended : ((full s t).job p (newest (task s p) t)).ended ≡ false
 
   serves : (p t : ℕ) → in_row s (full s t) p ≡ true → Serves p t
   serves p t e =
       let k : ℕ = newest (task s p) t in
-      let c : taskClaims s (full s t) p ≡ true =
-      not-false-true (taskClaims s (full s t) p) (λ o.
-      false≢true (sym (ap some (grants-none s.rule (widths s (full s t).tick) (taskClaims s (full s t)) (unfencedCores s) p o)) ∙ e)) in
-      let c' : jobClaims s (full s t) p k ≡ true = subst (λ (n : ℕ). jobClaims s (full s t) p (newest (task s p) n) ≡ true) (full-tick s t) c in
+      let c : task_claims s (full s t) p ≡ true =
+      not-false-true (task_claims s (full s t) p) (λ o.
+      false≢true (sym (ap some (grants-none s.rule (widths s (full s t).tick) (task_claims s (full s t)) (unfenced_cores s) p o)) ∙ e)) in
+      let c' : job_claims s (full s t) p k ≡ true = subst (λ (n : ℕ). job_claims s (full s t) p (newest (task s p) n) ≡ true) (full-tick s t) c in
       record {
         claiming = c';
         unended = not-true-false ((full s t).job p k).ended (λ d.
@@ -116,12 +116,12 @@ module _ (s : Table) (ok : AllValid s) (few : length s.tasks < fencedByte) where
         works : (C : ℕ) (j : Job) → j.ended ≡ false → (work C false j).had ≡ suc j.had
         works C j o = unfold work in rw o
 
-    served-if : (t k : ℕ) → jobClaims s (full s t) p k ≡ true → in_row s (full s t) p ≡ true → served s (full s t) p k ≡ true
+    served-if : (t k : ℕ) → job_claims s (full s t) p k ≡ true → in_row s (full s t) p ≡ true → served s (full s t) p k ≡ true
     unfolding served
-    served-if t k c f = and_both (jobClaims s (full s t) p k) (in_row s (full s t) p) c f
+    served-if t k c f = and_both (job_claims s (full s t) p k) (in_row s (full s t) p) c f
 
     -- up to the release of the next job, the ticks counted in the rows are those of the book
-    had-full : (k t : ℕ) → t ≤ release τ (suc k) → hadInRows s (own_row s) p k t ≡ ((full s t).job p k).had
+    had-full : (k t : ℕ) → t ≤ release τ (suc k) → had_in_rows s (own_row s) p k t ≡ ((full s t).job p k).had
     had-full k zero h = unfold ticks full in refl
     had-full k (suc t) h = go (leb (release τ k) t) refl (in_row s (full s t) p) refl (had-full k t (omega arith))
       where
@@ -129,32 +129,30 @@ module _ (s : Table) (ok : AllValid s) (few : length s.tasks < fencedByte) where
         a = release τ k
 
         go : (b : Bool) → leb (release τ k) t ≡ b → (c : Bool) → in_row s (full s t) p ≡ c
-            → hadInRows s (own_row s) p k t ≡ ((full s t).job p k).had → hadInRows s (own_row s) p k (suc t) ≡ ((full s (suc t)).job p k).had
+            → had_in_rows s (own_row s) p k t ≡ ((full s t).job p k).had → had_in_rows s (own_row s) p k (suc t) ≡ ((full s (suc t)).job p k).had
         go false e c f ih =
             let early : t < a = leb-false a t e in
             let off : served s (full s t) p k ≡ false = unfold served in
-            not-true-false (jobClaims s (full s t) p k && in_row s (full s t) p) (λ q.
-            let x = after-release s.rule τ k (full s t).tick ((full s t).job p k) (and_left (jobClaims s (full s t) p k) (in_row s (full s t) p) q) in
+            not-true-false (job_claims s (full s t) p k && in_row s (full s t) p) (λ q.
+            let x = after-release s.rule τ k (full s t).tick ((full s t).job p k) (and_left (job_claims s (full s t) p k) (in_row s (full s t) p) q) in
             omega (arith, full-tick s t)) in
             ticks-none (own_row s) p a (suc t) early
             ∙ (sym (ticks-none (own_row s) p a t (omega arith)) ∙ (ih ∙ sym (unserved t k off)))
         go true e false f ih =
             let off : served s (full s t) p k ≡ false = unfold served in
-            not-true-false (jobClaims s (full s t) p k && in_row s (full s t) p) (λ q.
-            true≢false (sym (and_right (jobClaims s (full s t) p k) (in_row s (full s t) p) q) ∙ f)) in
+            not-true-false (job_claims s (full s t) p k && in_row s (full s t) p) (λ q.
+            true≢false (sym (and_right (job_claims s (full s t) p k) (in_row s (full s t) p) q) ∙ f)) in
             ticks-on (own_row s) p a t (leb-true a t e)
-            ∙ (ap (λ (b : Bool). cond b (suc (hadInRows s (own_row s) p k t)) (hadInRows s (own_row s) p k t)) (own_runs p t l ∙ f)
-            ∙ (ih ∙ sym (unserved t k off)))
+            ∙ (ap (λ (b : Bool). cond b (suc (had_in_rows s (own_row s) p k t)) (had_in_rows s (own_row s) p k t)) (own_runs p t l ∙ f) ∙ (ih ∙ sym (unserved t k off)))
         go true e true f ih =
             let begun : a ≤ t = leb-true a t e in
             let new : newest τ t ≡ k = newest-only τ pos k t begun h in
             let x = serves p t f in
-            let c : jobClaims s (full s t) p k ≡ true = subst (λ (j : ℕ). jobClaims s (full s t) p j ≡ true) new x.claiming in
+            let c : job_claims s (full s t) p k ≡ true = subst (λ (j : ℕ). job_claims s (full s t) p j ≡ true) new x.claiming in
             let o : ((full s t).job p k).ended ≡ false = subst (λ (j : ℕ). ((full s t).job p j).ended ≡ false) new x.unended in
             let on : served s (full s t) p k ≡ true = served-if t k c f in
             ticks-on (own_row s) p a t begun
-            ∙ (ap (λ (b : Bool). cond b (suc (hadInRows s (own_row s) p k t)) (hadInRows s (own_row s) p k t)) (own_runs p t l ∙ f)
-            ∙ (ap suc ih ∙ sym (served-on t k on o)))
+            ∙ (ap (λ (b : Bool). cond b (suc (had_in_rows s (own_row s) p k t)) (had_in_rows s (own_row s) p k t)) (own_runs p t l ∙ f) ∙ (ap suc ih ∙ sym (served-on t k on o)))
 
     -- a place that is in the row has work still owed
     own-owed : (t : ℕ) → runs (own_row s) p t ≡ true → Owed s (own_row s) p (newest τ t) t
@@ -180,13 +178,13 @@ module _ (s : Table) (ok : AllValid s) (few : length s.tasks < fencedByte) where
         ∙ le_antisymm (bounds-full s ok (due τ k) p k l).within (full-whole s (due τ k) p k e)
 
     -- and the phases at the last S and P later agree
-    own-agree : phaseBy s (own_row s) p (lastS s.tasks) ≡ phaseBy s (own_row s) p (horizon s)
+    own-agree : phase_by s (own_row s) p (last_s s.tasks) ≡ phase_by s (own_row s) p (horizon s)
     own-agree =
         phase-from s (own_row s) p L on
-        ∙ (ap₂ (phaseAfter τ.length) (since-later s ok p l) had ∙ sym (phase-from s (own_row s) p (horizon s) (omega (arith, far, on))))
+        ∙ (ap₂ (phase_after τ.length) (since-later s ok p l) had ∙ sym (phase-from s (own_row s) p (horizon s) (omega (arith, far, on))))
       where
         L : ℕ
-        L = lastS s.tasks
+        L = last_s s.tasks
 
         P : ℕ
         P = hyperperiod s.tasks
@@ -227,7 +225,7 @@ module _ (s : Table) (ok : AllValid s) (few : length s.tasks < fencedByte) where
         line = let d = le_dest begun in
             subst (λ (x : ℕ). (full s x).job p k ≡ (full s (x + P)).job p (k + m)) d.1 (repeat-all s ok p l m mm.1 k from-S d.0)
 
-        had : hadInRows s (own_row s) p k L ≡ hadInRows s (own_row s) p (newest τ (horizon s)) (horizon s)
+        had : had_in_rows s (own_row s) p k L ≡ had_in_rows s (own_row s) p (newest τ (horizon s)) (horizon s)
         had =
             had-full k L (le_trans (omega arith) (newest-next τ pos L on))
             ∙ (ap (λ (j : Job). j.had) line
@@ -237,43 +235,43 @@ module _ (s : Table) (ok : AllValid s) (few : length s.tasks < fencedByte) where
 
   own-valid : (t : ℕ) → ValidRow s (own_row s) t
   own-valid t = record {
-    size = ap length (full-row s t) ∙ row-length s.fence s.cores (grantsOf s (full s t));
-    known = λ c h. subst (λ (bytes : List ℕ). ¬ UnknownByte s c (get_or bytes c 0)) (sym (full-row s t)) (row-known s (grantsOf s (full s t)) count c h);
+    size = ap length (full-row s t) ∙ row-length s.fence s.cores (grants_of s (full s t));
+    known = λ c h. subst (λ (bytes : List ℕ). ¬ UnknownByte s c (get_or bytes c 0)) (sym (full-row s t)) (row-known s (grants_of s (full s t)) count c h);
     works = λ p l e. (newest (task s p) t, own-owed p l t e, own-wide p t l e);
   }
     where
-      count : length (grantsOf s (full s t)) ≤ length s.tasks
+      count : length (grants_of s (full s t)) ≤ length s.tasks
       count =
           omega (
             arith,
-            grants-length s.rule (widths s (full s t).tick) (taskClaims s (full s t)) (unfencedCores s),
+            grants-length s.rule (widths s (full s t).tick) (task_claims s (full s t)) (unfenced_cores s),
             length-map s.tasks (λ τ. width_of τ (newest τ (full s t).tick)),
           )
 
   -- the list has these rows
-  own_at : (t : ℕ) → t < horizon s → own_row s t ≡ row_at (ownRows s) t
+  own_at : (t : ℕ) → t < horizon s → own_row s t ≡ row_at (own_rows s) t
   own_at t h =
       sym (map_at (own_row s) (up_from 0 (horizon s)) t [] 0 (omega (arith, up-length 0 (horizon s)))
       ∙ ap (own_row s) (up_at 0 (horizon s) t 0 h ∙ zero-add t))
 
-  own-count : length (ownRows s) ≡ horizon s
+  own-count : length (own_rows s) ≡ horizon s
   own-count = length-map (up_from 0 (horizon s)) (own_row s) ∙ up-length 0 (horizon s)
 
-  pub own-acceptable : NeverMissed s → Acceptable s (ownRows s)
+  pub own-acceptable : NeverMissed s → Acceptable s (own_rows s)
   own-acceptable nm = record {
     count = own-count;
-    rows-valid = λ t h. valid_same s (own_row s) (row_at (ownRows s)) t (λ u g. own_at u (omega arith)) (own-valid t);
-    done = λ p k l h. done-same s (own_row s) (row_at (ownRows s)) p k (λ u g. own_at u (omega arith)) (own-done p l nm k);
-    agree = λ p l. sym (same p (lastS s.tasks) below) ∙ (own-agree p l ∙ same p (horizon s) (le_refl (horizon s)));
+    rows-valid = λ t h. valid_same s (own_row s) (row_at (own_rows s)) t (λ u g. own_at u (omega arith)) (own-valid t);
+    done = λ p k l h. done-same s (own_row s) (row_at (own_rows s)) p k (λ u g. own_at u (omega arith)) (own-done p l nm k);
+    agree = λ p l. sym (same p (last_s s.tasks) below) ∙ (own-agree p l ∙ same p (horizon s) (le_refl (horizon s)));
   }
     where
-      below : lastS s.tasks ≤ horizon s
+      below : last_s s.tasks ≤ horizon s
       below = unfold horizon in omega arith
 
-      same : (p t : ℕ) → t ≤ horizon s → phaseBy s (own_row s) p t ≡ phaseBy s (row_at (ownRows s)) p t
+      same : (p t : ℕ) → t ≤ horizon s → phase_by s (own_row s) p t ≡ phase_by s (row_at (own_rows s)) p t
       same p t h =
-          unfold phaseBy in rw (ticks-same (own_row s) (row_at (ownRows s)) p (release (task s p) (newest (task s p) t)) t (λ u g. own_at u (omega arith)))
+          unfold phase_by in rw (ticks-same (own_row s) (row_at (own_rows s)) p (release (task s p) (newest (task s p) t)) t (λ u g. own_at u (omega arith)))
 
   -- so the plan book accepts them
-  pub own-check : NeverMissed s → check s (ownRows s) ≡ accepts
-  own-check nm = (check-exact s ok (ownRows s)).1 (own-acceptable nm)
+  pub own-check : NeverMissed s → check s (own_rows s) ≡ accepts
+  own-check nm = (check-exact s ok (own_rows s)).1 (own-acceptable nm)

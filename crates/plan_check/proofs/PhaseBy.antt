@@ -9,21 +9,21 @@ use lib.ListN.{length}
 use borrow.Author.Tests.{le-ltb, lt-ltb, ltb-false, ltb-true}
 use Rattle.model.specs.Task.{Table, newest, release, task}
 use Rattle.phase.specs.declared.Phase.TheVariants.{Coming, Resting, Working}
-use Rattle.plan_check.specs.Plan.{hadInRows, phaseAfter, phaseBy}
+use Rattle.plan_check.specs.Plan.{had_in_rows, phase_after, phase_by}
 
 module _ (s : Table) (r : ℕ → List ℕ) (p : ℕ) where
-  pub phase-coming : (t : ℕ) → t < (task s p).offset → phaseBy s r p t ≡ Coming ((task s p).offset - t)
-  unfolding phaseBy
+  pub phase-coming : (t : ℕ) → t < (task s p).offset → phase_by s r p t ≡ Coming ((task s p).offset - t)
+  unfolding phase_by
   phase-coming t h = rw (lt-ltb t (task s p).offset h)
 
   pub phase-from :
       (t : ℕ) → (task s p).offset ≤ t
-      → phaseBy s r p t ≡ phaseAfter (task s p).length (t - release (task s p) (newest (task s p) t)) (hadInRows s r p (newest (task s p) t) t)
-  unfolding phaseBy
+      → phase_by s r p t ≡ phase_after (task s p).length (t - release (task s p) (newest (task s p) t)) (had_in_rows s r p (newest (task s p) t) t)
+  unfolding phase_by
   phase-from t h = rw (le-ltb t (task s p).offset h)
 
 -- equal phases have equal ticks owed ..
-pub phase-owes : (C z y a b : ℕ) → phaseAfter C z a ≡ phaseAfter C y b → C - a ≡ C - b
+pub phase-owes : (C z y a b : ℕ) → phase_after C z a ≡ phase_after C y b → C - a ≡ C - b
 phase-owes C z y a b = go (ltb a C) refl (ltb b C) refl
   where
     go : (f : Bool) → ltb a C ≡ f → (g : Bool) → ltb b C ≡ g → cond f (Working z a a) (Resting z) ≡ cond g (Working y b b) (Resting y) → C - a ≡ C - b
@@ -33,10 +33,10 @@ phase-owes C z y a b = go (ltb a C) refl (ltb b C) refl
     go false e false q h = omega (arith, ltb-false a C e, ltb-false b C q)
 
 -- .. and equal ticks owed, as long after a release, are equal phases
-pub owes-phase : (C z a b : ℕ) → C - a ≡ C - b → phaseAfter C z a ≡ phaseAfter C z b
+pub owes-phase : (C z a b : ℕ) → C - a ≡ C - b → phase_after C z a ≡ phase_after C z b
 owes-phase C z a b h = go (ltb a C) refl
   where
-    go : (f : Bool) → ltb a C ≡ f → cond f (Working z a a) (Resting z) ≡ phaseAfter C z b
+    go : (f : Bool) → ltb a C ≡ f → cond f (Working z a a) (Resting z) ≡ phase_after C z b
     go true e =
         let short : a < C = ltb-true a C e in
         let had : a ≡ b = omega arith in

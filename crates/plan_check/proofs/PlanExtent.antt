@@ -7,100 +7,99 @@ use native.Mathlib.Omega.{arith}
 use lib.ListN.{get_or-map, get_or, length, take}
 use lib.Seq.{get_or-take}
 use borrow.Author.Tests.{ltb-false, ne_eqb}
-use Rattle.model.specs.Horizon.{horizon, hyperperiod, lastS}
-use Rattle.model.specs.Sizes.{mostTasks}
+use Rattle.model.specs.Horizon.{horizon, hyperperiod, last_s}
+use Rattle.model.specs.Sizes.{most_tasks}
 use Rattle.model.specs.Task as model
 use Rattle.table.proofs.Hyperperiods.{capped-exact}
 use Rattle.table.proofs.Inside.{inside-test}
 use Rattle.table.proofs.Loads.{horizon-test}
 use Rattle.table.proofs.Places.{task-at}
 use Rattle.table.proofs.Tests.{from-decides}
-use Rattle.table.specs.Limits.{horizonOut, mostHorizon, taskOut}
-use Rattle.table.specs.Task.{InLimits, noTask, tasksOf}
+use Rattle.table.specs.Limits.{horizon_out, most_horizon, task_out}
+use Rattle.table.specs.Task.{InLimits, no_task, tasks_of}
 use Rattle.table.specs.Task as table
 use Rattle.table.specs.declared.Task.{Task}
-use Rattle.phase.specs.Task.{pastEnd, task_of}
+use Rattle.phase.specs.Task.{past_end, task_of}
 use Rattle.run.proofs.Limits.{in_array, passes-if}
-use Rattle.run.specs.Numbers.{runOut, widthLimitIn}
-use Rattle.run.specs.Run.{runTable, runTaskAt, tasksIn}
+use Rattle.run.specs.Numbers.{run_out, width_limit_in}
+use Rattle.run.specs.Run.{run_table, run_task_at, tasks_in}
 use Rattle.run.specs.declared.Run.{Run}
-use Rattle.plan_check.specs.Extent.{Ready, extentOf, firstNumber}
-use Rattle.plan_check.specs.Numbers.{stateOut}
-use Rattle.plan_check.specs.State.{horizonIn}
+use Rattle.plan_check.specs.Extent.{Ready, extent_of, first_number}
+use Rattle.plan_check.specs.Numbers.{state_out}
+use Rattle.plan_check.specs.State.{horizon_in}
 use Rattle.plan_check.proofs.Working.{horizon-kept}
 
-module _ (r : Run) (e : runOut r ≡ false) where
+module _ (r : Run) (e : run_out r ≡ false) where
   pub some-tasks : 1 ≤ r.count
-  some-tasks = ((from-decides 1 mostTasks r.count).0 (passes-if r e).count).0
+  some-tasks = ((from-decides 1 most_tasks r.count).0 (passes-if r e).count).0
 
   -- the task at a place of the table that the run is of
-  pub tasks-at : (p : ℕ) → p < r.count → get_or (tasksIn r) p model.absentTask ≡ runTaskAt r p
-  tasks-at p l = get_or-map task_of (take r.count r.tasks) p pastEnd ∙ ap task_of (get_or-take r.count r.tasks p pastEnd l)
+  pub tasks-at : (p : ℕ) → p < r.count → get_or (tasks_in r) p model.absent_task ≡ run_task_at r p
+  tasks-at p l = get_or-map task_of (take r.count r.tasks) p past_end ∙ ap task_of (get_or-take r.count r.tasks p past_end l)
 
   -- they are within the limits that S and P need
-  pub plain-within : (ts : List Task) → tasksOf ts r.count ≡ tasksIn r → InLimits ts r.count
+  pub plain-within : (ts : List Task) → tasks_of ts r.count ≡ tasks_in r → InLimits ts r.count
   plain-within ts same p l =
-      let at : table.task_of (get_or ts p noTask) ≡ runTaskAt r p =
-      sym (task-at ts r.count p l) ∙ (ap (λ (τs : List model.Task). get_or τs p model.absentTask) same ∙ tasks-at p l) in
-      let i = inside-test (widthLimitIn r) (table.task_of (get_or ts p noTask)) (ap (taskOut (widthLimitIn r)) at ∙ (passes-if r e).tasks p l) in
+      let at : table.task_of (get_or ts p no_task) ≡ run_task_at r p =
+      sym (task-at ts r.count p l) ∙ (ap (λ (τs : List model.Task). get_or τs p model.absent_task) same ∙ tasks-at p l) in
+      let i = inside-test (width_limit_in r) (table.task_of (get_or ts p no_task)) (ap (task_out (width_limit_in r)) at ∙ (passes-if r e).tasks p l) in
       record { offset-most = i.offset-most; period-least = i.period-from.0; period-most = i.period-from.1 }
 
 -- S and P capped decide 9 ..
 pub horizon-out :
-    (r : Run) (ts : List Task) (start period : ℕ) → tasksOf ts r.count ≡ tasksIn r → start ≡ lastS (tasksOf ts r.count)
-    → period ≡ min (hyperperiod (tasksOf ts r.count)) (mostHorizon + 1) → horizonOut (start + period) ≡ horizonOut (horizonIn r)
+    (r : Run) (ts : List Task) (start period : ℕ) → tasks_of ts r.count ≡ tasks_in r → start ≡ last_s (tasks_of ts r.count)
+    → period ≡ min (hyperperiod (tasks_of ts r.count)) (most_horizon + 1) → horizon_out (start + period) ≡ horizon_out (horizon_in r)
 horizon-out r ts start period same s p =
-    horizon-test (runTable r) start period (s ∙ ap lastS same) (p ∙ ap (λ (τs : List model.Task). min (hyperperiod τs) (mostHorizon + 1)) same)
+    horizon-test (run_table r) start period (s ∙ ap last_s same) (p ∙ ap (λ (τs : List model.Task). min (hyperperiod τs) (most_horizon + 1)) same)
 
 -- .. and where it does not apply, they are exact
 pub horizon-near :
-    (r : Run) (ts : List Task) (start period : ℕ) → tasksOf ts r.count ≡ tasksIn r → start ≡ lastS (tasksOf ts r.count)
-    → period ≡ min (hyperperiod (tasksOf ts r.count)) (mostHorizon + 1) → horizonOut (start + period) ≡ false → stateOut r ≡ false
-    → Ready r start (start + period)
+    (r : Run) (ts : List Task) (start period : ℕ) → tasks_of ts r.count ≡ tasks_in r → start ≡ last_s (tasks_of ts r.count)
+    → period ≡ min (hyperperiod (tasks_of ts r.count)) (most_horizon + 1) → horizon_out (start + period) ≡ false → state_out r ≡ false → Ready r start (start + period)
 unfolding horizon
 horizon-near r ts start period same s p near e =
-    let most : start + period ≤ mostHorizon = ltb-false mostHorizon (start + period) near in
-    let S : start ≡ lastS (tasksIn r) = s ∙ ap lastS same in
-    let P : period ≡ min (hyperperiod (tasksIn r)) (mostHorizon + 1) = p ∙ ap (λ (τs : List model.Task). min (hyperperiod τs) (mostHorizon + 1)) same in
-    let exact : period ≡ hyperperiod (tasksIn r) = P ∙ capped-exact mostHorizon start (hyperperiod (tasksIn r)) (omega arith) in
-    let sum : start + period ≡ lastS (tasksIn r) + hyperperiod (tasksIn r) = omega arith in
+    let most : start + period ≤ most_horizon = ltb-false most_horizon (start + period) near in
+    let S : start ≡ last_s (tasks_in r) = s ∙ ap last_s same in
+    let P : period ≡ min (hyperperiod (tasks_in r)) (most_horizon + 1) = p ∙ ap (λ (τs : List model.Task). min (hyperperiod τs) (most_horizon + 1)) same in
+    let exact : period ≡ hyperperiod (tasks_in r) = P ∙ capped-exact most_horizon start (hyperperiod (tasks_in r)) (omega arith) in
+    let sum : start + period ≡ last_s (tasks_in r) + hyperperiod (tasks_in r) = omega arith in
     record { passes = e; start = S; horizon = sum; within = omega arith }
 
 -- 14 and 9 by the first number
-pub number-14 : (r : Run) → stateOut r ≡ true → firstNumber r ≡ 14
-unfolding firstNumber
+pub number-14 : (r : Run) → state_out r ≡ true → first_number r ≡ 14
+unfolding first_number
 number-14 r e = rw e
 
-pub number-9 : (r : Run) → stateOut r ≡ false → horizonOut (horizonIn r) ≡ true → firstNumber r ≡ 9
-unfolding firstNumber
+pub number-9 : (r : Run) → state_out r ≡ false → horizon_out (horizon_in r) ≡ true → first_number r ≡ 9
+unfolding first_number
 number-9 r e f = rw (e, f)
 
-pub number-none : (r : Run) → stateOut r ≡ false → horizonOut (horizonIn r) ≡ false → firstNumber r ≡ 0
-unfolding firstNumber
+pub number-none : (r : Run) → state_out r ≡ false → horizon_out (horizon_in r) ≡ false → first_number r ≡ 0
+unfolding first_number
 number-none r e f = rw (e, f)
 
 -- the extent: zeros beside a number ..
-pub extent-refused : (r : Run) (n : ℕ) → firstNumber r ≡ n → ¬ (n ≡ 0) → record { number = n; start = 0; horizon = 0 } ≡ extentOf r
-unfolding extentOf
+pub extent-refused : (r : Run) (n : ℕ) → first_number r ≡ n → ¬ (n ≡ 0) → record { number = n; start = 0; horizon = 0 } ≡ extent_of r
+unfolding extent_of
 extent-refused r n e z = rw (e, ne_eqb n 0 z)
 
 -- .. and where there is none the last S and the horizon
 pub extent-near :
-    (r : Run) (start horizon : ℕ) → firstNumber r ≡ 0 → Ready r start horizon → record { number = 0; start = start; horizon = horizon } ≡ extentOf r
-unfolding extentOf
+    (r : Run) (start horizon : ℕ) → first_number r ≡ 0 → Ready r start horizon → record { number = 0; start = start; horizon = horizon } ≡ extent_of r
+unfolding extent_of
 extent-near r start horizon e h = rw (e, h.start, h.horizon)
 
 -- the places below the count are places of the array
-pub all-places : (r : Run) → runOut r ≡ false → r.count ≤ length r.tasks
+pub all-places : (r : Run) → run_out r ≡ false → r.count ≤ length r.tasks
 all-places r e =
     let l : r.count - 1 < r.count = omega (arith, some-tasks r e) in
     omega (arith, in_array r (r.count - 1) ((passes-if r e).tasks (r.count - 1) l))
 
 -- a run with the same tasks that passes 14 is ready with the same numbers
-pub ready-again : (r s : Run) (start horizon : ℕ) → Ready r start horizon → tasksIn s ≡ tasksIn r → stateOut s ≡ false → Ready s start horizon
+pub ready-again : (r s : Run) (start horizon : ℕ) → Ready r start horizon → tasks_in s ≡ tasks_in r → state_out s ≡ false → Ready s start horizon
 ready-again r s start horizon h e q = record {
   passes = q;
-  start = h.start ∙ sym (ap lastS e);
+  start = h.start ∙ sym (ap last_s e);
   horizon = h.horizon ∙ sym (horizon-kept r s e);
   within = omega (arith, horizon-kept r s e, h.within);
 }

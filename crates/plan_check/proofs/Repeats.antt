@@ -10,9 +10,9 @@ use lib.ListN.{length}
 use borrow.Author.Tests.{eqb-false, eqb-true, le-ltb, leb-false, leb-true, lt-ltb, ltb-false, ltb-true}
 use Rattle.model.proofs.Jobs.{newest-is}
 use Rattle.model.proofs.Starts.{Periods, hyperperiod-divides, hyperperiod-pos, width-shift}
-use Rattle.model.specs.Horizon.{horizon, hyperperiod, lastS}
+use Rattle.model.specs.Horizon.{horizon, hyperperiod, last_s}
 use Rattle.model.specs.Task.{AllValid, Table, Task, due, newest, release, task, width_of}
-use Rattle.plan_check.specs.Plan.{Acceptable, ValidRow, ForEver, InTime, Owed, cellCount, hadInRows, repeated, row_at, runs}
+use Rattle.plan_check.specs.Plan.{Acceptable, ValidRow, ForEver, InTime, Owed, cell_count, had_in_rows, repeated, row_at, runs}
 use Rattle.plan_check.proofs.Newest.{newest-begun, newest-later, newest-next, newest-step, offset-last, release-later}
 use Rattle.plan_check.proofs.PhaseBy.{phase-from, phase-owes}
 use Rattle.plan_check.proofs.Ticks.{done-same, valid_same, valid-works, had-most, ticks-none, ticks-on, ticks-same}
@@ -34,7 +34,7 @@ module _ (s : Table) (ok : AllValid s) (rows : List (List ℕ)) (acc : Acceptabl
   H = horizon s
 
   abbrev L : ℕ
-  L = lastS s.tasks
+  L = last_s s.tasks
 
   abbrev P : ℕ
   P = hyperperiod s.tasks
@@ -89,25 +89,24 @@ module _ (s : Table) (ok : AllValid s) (rows : List (List ℕ)) (acc : Acceptabl
 
     -- the newest job has had what the newest P later has
     abbrev Shift : ℕ → Type 0
-    Shift t = hadInRows s r p (newest τ t) t ≡ hadInRows s r p (newest τ t + m) (t + P)
+    Shift t = had_in_rows s r p (newest τ t) t ≡ had_in_rows s r p (newest τ t + m) (t + P)
 
     shift-last : Shift L
     shift-last =
-        let owes : τ.length - hadInRows s (row_at rows) p (newest τ L) L ≡ τ.length - hadInRows s (row_at rows) p (newest τ H) H =
-        phase-owes τ.length (L - release τ (newest τ L)) (H - release τ (newest τ H)) (hadInRows s (row_at rows) p (newest τ L) L)
-        (hadInRows s (row_at rows) p (newest τ H) H)
+        let owes : τ.length - had_in_rows s (row_at rows) p (newest τ L) L ≡ τ.length - had_in_rows s (row_at rows) p (newest τ H) H =
+        phase-owes τ.length (L - release τ (newest τ L)) (H - release τ (newest τ H)) (had_in_rows s (row_at rows) p (newest τ L) L)
+        (had_in_rows s (row_at rows) p (newest τ H) H)
         (sym (phase-from s (row_at rows) p L offset) ∙ (acc.agree p l ∙ phase-from s (row_at rows) p H (omega (arith, offset, far)))) in
-        let a : hadInRows s (row_at rows) p (newest τ L) L ≤ τ.length =
+        let a : had_in_rows s (row_at rows) p (newest τ L) L ≤ τ.length =
         had-most s ok (row_at rows) p l (newest τ L) L (λ u g. acc.rows-valid u (omega (arith, far))) (le_trans (omega arith) (newest-next τ pos L offset)) in
-        let b : hadInRows s (row_at rows) p (newest τ H) H ≤ τ.length =
-        had-most s ok (row_at rows) p l (newest τ H) H (λ u g. acc.rows-valid u g) (le_trans (omega arith) (newest-next τ pos H (omega (arith, offset, far))))
-        in
-        let c : hadInRows s (row_at rows) p (newest τ L) L ≡ hadInRows s (row_at rows) p (newest τ H) H =
-        owes-had τ.length (hadInRows s (row_at rows) p (newest τ L) L) (hadInRows s (row_at rows) p (newest τ H) H) a b owes in
-        let d : hadInRows s r p (newest τ L) L ≡ hadInRows s r p (newest τ H) H =
+        let b : had_in_rows s (row_at rows) p (newest τ H) H ≤ τ.length =
+        had-most s ok (row_at rows) p l (newest τ H) H (λ u g. acc.rows-valid u g) (le_trans (omega arith) (newest-next τ pos H (omega (arith, offset, far)))) in
+        let c : had_in_rows s (row_at rows) p (newest τ L) L ≡ had_in_rows s (row_at rows) p (newest τ H) H =
+        owes-had τ.length (had_in_rows s (row_at rows) p (newest τ L) L) (had_in_rows s (row_at rows) p (newest τ H) H) a b owes in
+        let d : had_in_rows s r p (newest τ L) L ≡ had_in_rows s r p (newest τ H) H =
         sym (ticks-same (row_at rows) r p (release τ (newest τ L)) L (λ u g. early u (omega (arith, far))))
         ∙ (c ∙ ticks-same (row_at rows) r p (release τ (newest τ H)) H (λ u g. early u g)) in
-        d ∙ (ap (λ (x : ℕ). hadInRows s r p (newest τ x) x) far ∙ ap (λ (k : ℕ). hadInRows s r p k (L + P)) (newest-later τ pos L m P whole offset))
+        d ∙ (ap (λ (x : ℕ). had_in_rows s r p (newest τ x) x) far ∙ ap (λ (k : ℕ). had_in_rows s r p k (L + P)) (newest-later τ pos L m P whole offset))
 
     shift-next : (t : ℕ) → L ≤ t → Shift t → Shift (suc t)
     shift-next t h e = go (eqb (release τ (newest τ (suc t))) (suc t)) refl
@@ -124,13 +123,13 @@ module _ (s : Table) (ok : AllValid s) (rows : List (List ℕ)) (acc : Acceptabl
             let k : ℕ = newest τ t in
             let begun : release τ k ≤ t = newest-begun τ pos t (omega (arith, offset)) in
             let same : newest τ (suc t) ≡ k = newest-step τ pos t (omega (arith, offset)) (eqb-false (release τ (newest τ (suc t))) (suc t) q) in
-            let one : hadInRows s r p k (suc t) ≡ hadInRows s r p (k + m) (suc (t + P)) =
+            let one : had_in_rows s r p k (suc t) ≡ had_in_rows s r p (k + m) (suc (t + P)) =
             ticks-on r p (release τ k) t begun
-            ∙ (on_same (runs r p t) (runs r p (t + P)) (hadInRows s r p k t) (hadInRows s r p (k + m) (t + P))
-            (ap (λ (x : List ℕ). ltb 0 (cellCount (suc p) x)) (same_row t h)) e
+            ∙ (on_same (runs r p t) (runs r p (t + P)) (had_in_rows s r p k t) (had_in_rows s r p (k + m) (t + P))
+            (ap (λ (x : List ℕ). ltb 0 (cell_count (suc p) x)) (same_row t h)) e
             ∙ sym (ticks-on r p (release τ (k + m)) (t + P) (omega (arith, release-later τ pos k m P whole)))) in
-            subst (λ (j : ℕ). hadInRows s r p j (suc t) ≡ hadInRows s r p (j + m) (suc t + P)) (sym same)
-            (subst (λ (x : ℕ). hadInRows s r p k (suc t) ≡ hadInRows s r p (k + m) x) over one)
+            subst (λ (j : ℕ). had_in_rows s r p j (suc t) ≡ had_in_rows s r p (j + m) (suc t + P)) (sym same)
+            (subst (λ (x : ℕ). had_in_rows s r p k (suc t) ≡ had_in_rows s r p (k + m) x) over one)
 
     shifts : (d : ℕ) → Shift (L + d)
     shifts zero = subst Shift (sym (add-zero L)) shift-last
@@ -158,11 +157,11 @@ module _ (s : Table) (ok : AllValid s) (rows : List (List ℕ)) (acc : Acceptabl
           }
             where
               back : (p : ℕ) → runs r p (u + P) ≡ true → runs r p u ≡ true
-              back p q = ap (λ (y : List ℕ). ltb 0 (cellCount (suc p) y)) (same_row u g) ∙ q
+              back p q = ap (λ (y : List ℕ). ltb 0 (cell_count (suc p) y)) (same_row u g) ∙ q
 
               later : (p : ℕ) (l : p < length s.tasks)
-                  → Owed s r p (newest (task s p) u) u × (cellCount (suc p) (r u) ≡ width_of (task s p) (newest (task s p) u))
-                  → (k : ℕ) × Owed s r p k (u + P) × (cellCount (suc p) (r (u + P)) ≡ width_of (task s p) k)
+                  → Owed s r p (newest (task s p) u) u × (cell_count (suc p) (r u) ≡ width_of (task s p) (newest (task s p) u))
+                  → (k : ℕ) × Owed s r p k (u + P) × (cell_count (suc p) (r (u + P)) ≡ width_of (task s p) k)
               later p l (w, v) =
                   let k : ℕ = newest (task s p) u in
                   let x = release-later (task s p) (pos p l) k (m p l) P (whole p l) in (
@@ -172,7 +171,7 @@ module _ (s : Table) (ok : AllValid s) (rows : List (List ℕ)) (acc : Acceptabl
                       early = omega (arith, w.early);
                       short = subst (λ (n : ℕ). n < (task s p).length) (shift p l u g) w.short;
                     },
-                    ap (cellCount (suc p)) (sym (same_row u g)) ∙ (v ∙ sym (same_width p l k)),
+                    ap (cell_count (suc p)) (sym (same_row u g)) ∙ (v ∙ sym (same_width p l k)),
                   )
 
   valid-all : (t : ℕ) → ValidRow s r t
@@ -216,17 +215,17 @@ module _ (s : Table) (ok : AllValid s) (rows : List (List ℕ)) (acc : Acceptabl
                   let u : ℕ = release τ₀ i + D in
                   let g : L ≤ u = omega (arith, past, far, apart) in
                   let new : newest τ₀ u ≡ i = newest-is τ₀ i u (ok p l).constrained (omega arith) (omega arith) in
-                  let had : hadInRows s r p i u ≡ hadInRows s r p k (u + P) =
-                  subst (λ (j : ℕ). hadInRows s r p i u ≡ hadInRows s r p j (u + P)) q
-                  (subst (λ (j : ℕ). hadInRows s r p j u ≡ hadInRows s r p (j + m p l) (u + P)) new (shift p l u g)) in
-                  let one : hadInRows s r p i (suc u) ≡ hadInRows s r p k (suc (u + P)) =
+                  let had : had_in_rows s r p i u ≡ had_in_rows s r p k (u + P) =
+                  subst (λ (j : ℕ). had_in_rows s r p i u ≡ had_in_rows s r p j (u + P)) q
+                  (subst (λ (j : ℕ). had_in_rows s r p j u ≡ had_in_rows s r p (j + m p l) (u + P)) new (shift p l u g)) in
+                  let one : had_in_rows s r p i (suc u) ≡ had_in_rows s r p k (suc (u + P)) =
                   ticks-on r p (release τ₀ i) u (omega arith)
-                  ∙ (on_same (runs r p u) (runs r p (u + P)) (hadInRows s r p i u) (hadInRows s r p k (u + P))
-                  (ap (λ (y : List ℕ). ltb 0 (cellCount (suc p) y)) (same_row u g)) had
+                  ∙ (on_same (runs r p u) (runs r p (u + P)) (had_in_rows s r p i u) (had_in_rows s r p k (u + P))
+                  (ap (λ (y : List ℕ). ltb 0 (cell_count (suc p) y)) (same_row u g)) had
                   ∙ sym (ticks-on r p (release τ₀ k) (u + P) (omega (arith, apart)))) in
                   let a : suc u ≡ due τ₀ i = omega arith in
                   let b : suc (u + P) ≡ due τ₀ k = omega (arith, apart) in
-                  ap (λ (t : ℕ). hadInRows s r p k t) (sym b) ∙ (sym one ∙ (ap (λ (t : ℕ). hadInRows s r p i t) a ∙ x))
+                  ap (λ (t : ℕ). had_in_rows s r p k t) (sym b) ∙ (sym one ∙ (ap (λ (t : ℕ). had_in_rows s r p i t) a ∙ x))
 
   -- THE THEOREM
   pub acceptable-repeats : ForEver s (repeated s rows)

@@ -8,9 +8,9 @@ use borrow.Author.Tests.{eq-eqb, eqb-true}
 use Rattle.model.proofs.Bools.{and_left, and_right}
 use Rattle.phase.specs.declared.Phase.{Phase}
 use Rattle.phase.specs.declared.Phase.TheVariants.{Coming, Holding, Resting, Working}
-use Rattle.plan_check.specs.Numbers.{samePhase}
+use Rattle.plan_check.specs.Numbers.{same_phase}
 
-there : (a b : Phase) → samePhase a b ≡ true → a ≡ b
+there : (a b : Phase) → same_phase a b ≡ true → a ≡ b
 there (Coming a) (Coming b) e = ap Coming (eqb-true a b e)
 there (Coming a) (Working z had reserved) e = absurd (false≢true e)
 there (Coming a) (Holding z reserved) e = absurd (false≢true e)
@@ -35,11 +35,11 @@ there (Resting a) (Working z had reserved) e = absurd (false≢true e)
 there (Resting a) (Holding z reserved) e = absurd (false≢true e)
 there (Resting a) (Resting z) e = ap Resting (eqb-true a z e)
 
-itself : (a : Phase) → samePhase a a ≡ true
+itself : (a : Phase) → same_phase a a ≡ true
 itself (Coming a) = eq-eqb a a refl
 itself (Working a b c) = rw (eq-eqb a a refl, eq-eqb b b refl, eq-eqb c c refl)
 itself (Holding a b) = rw (eq-eqb a a refl, eq-eqb b b refl)
 itself (Resting a) = eq-eqb a a refl
 
-pub same-phase : (a b : Phase) → (samePhase a b ≡ true) ↔ (a ≡ b)
-same-phase a b = (there a b, λ e. subst (λ (c : Phase). samePhase a c ≡ true) e (itself a))
+pub same-phase : (a b : Phase) → (same_phase a b ≡ true) ↔ (a ≡ b)
+same-phase a b = (there a b, λ e. subst (λ (c : Phase). same_phase a c ≡ true) e (itself a))

@@ -6,31 +6,31 @@ use mathlib.Core.Path.{refl, ◌≡◌}
 use Prim.Native.Nat.{◌-◌, ℕ}
 use Prim.Native.String.{String}
 use lib.ListN.{drop, length, replicate, take}
-use Rattle.model.proofs.Computing.{Computes, Equal, computing}
+use Rattle.model.proofs.Computing.{computing}
 use Rattle.model.specs.Refusals as book
-use Rattle.model.specs.Sizes.{mostTasks}
-use Rattle.table.specs.Answer.{answer_of, byHorizon, byTasks, byWalk, endingOf, firstOut, headerNumber, lastStep}
-use Rattle.table.specs.AnswerMeaning.{answerMeaning}
+use Rattle.model.specs.Sizes.{most_tasks}
+use Rattle.table.specs.Answer.{answer_of, by_horizon, by_tasks, by_walk, ending_of, first_out, header_number, last_step}
+use Rattle.table.specs.Load.{load_meaning}
 use Rattle.table.specs.Words.{chain, count, visited, table_of}
 use Rattle.phase.specs.declared.Phase.{Phase}
 use Rattle.phase.specs.declared.Phase.TheVariants.{Coming, Holding, Resting, Working}
 use Rattle.phase.specs.declared.Task.{Task}
 use Rattle.phase.specs.Task.{unused}
 use Rattle.run.specs.declared.Run.{Run}
-use Rattle.run.specs.Numbers.{pastCount, runOut}
-use Rattle.run.specs.Run.{mapFirst}
-use Rattle.run.specs.Start.{startedRun}
+use Rattle.run.specs.Numbers.{past_count, run_out}
+use Rattle.run.specs.Run.{map_first}
+use Rattle.run.specs.Start.{started_run}
 use Rattle.plan_check.specs.declared.Note.{Note}
 use Rattle.plan_check.specs.declared.extent.Extent.{Extent}
 use Rattle.plan_check.specs.declared.SuppliedPlan.{SuppliedPlan}
-use Rattle.plan_check.specs.Extent.{extentOf, firstNumber}
-use Rattle.plan_check.specs.Begin.{beginOf}
-use Rattle.plan_check.specs.Numbers.{differs, missed, stateOut}
-use Rattle.plan_check.specs.Plan.{cellCount}
-use Rattle.plan_check.specs.Row.{faulty, anyUnknownByte, workedRow}
-use Rattle.plan_check.specs.RowAnswer.{RowOutcome, accepted, refused, taken, rowAnswerMeaning}
+use Rattle.plan_check.specs.Extent.{extent_of, first_number}
+use Rattle.plan_check.specs.Begin.{begin_of}
+use Rattle.plan_check.specs.Numbers.{differs, missed, state_out}
+use Rattle.plan_check.specs.Plan.{cell_count}
+use Rattle.plan_check.specs.Row.{faulty, any_unknown_byte, worked_row}
+use Rattle.plan_check.specs.RowAnswer.{RowAnswer, accepted, refused, taken, row_answer_meaning}
 use Rattle.plan_check.specs.State.{blank, note}
-use Rattle.plan_check.specs.CheckRow.{answerAt, finalAnswer, checkRowAnswer, checkRowOf}
+use Rattle.plan_check.specs.CheckRow.{answer_at, final_answer, check_row_answer, check_row_of}
 
 -- STATES
 
@@ -44,7 +44,7 @@ at o c d p ph = at₂ o 1 c d p 1 false ph
 
 -- 32 places
 abbrev places : List Task → List Task
-places ts = ts ++ replicate (mostTasks - length ts) unused
+places ts = ts ++ replicate (most_tasks - length ts) unused
 
 abbrev notes : List Phase → List Note
 notes phs = map note phs ++ drop (length phs) blank
@@ -76,7 +76,7 @@ pub record Line : Type 0 where
   pub name : String
   pub before : SuppliedPlan
   pub row : List ℕ
-  pub result : RowOutcome
+  pub result : RowAnswer
   pub after : Shows
 
 abbrev pub computes : Line → Line
@@ -84,8 +84,8 @@ computes l = record {
   name = l.name;
   before = l.before;
   row = l.row;
-  result = rowAnswerMeaning (checkRowOf l.before l.row).answer;
-  after = shows (checkRowOf l.before l.row).plan;
+  result = row_answer_meaning (check_row_of l.before l.row).answer;
+  after = shows (check_row_of l.before l.row).plan;
 }
 
 -- turned down, the state as given
@@ -93,7 +93,7 @@ abbrev turns : String → ℕ → ℕ → SuppliedPlan → List ℕ → Line
 turns name n t w row = record { name = name; before = w; row = row; result = refused n t; after = shows w }
 
 -- taken or accepted, and then so
-abbrev goes : String → RowOutcome → SuppliedPlan → List ℕ → ℕ → List Phase → List Bool → List Phase → Line
+abbrev goes : String → RowAnswer → SuppliedPlan → List ℕ → ℕ → List Phase → List Bool → List Phase → Line
 goes name a w row t phs es ns =
     record { name = name; before = w; row = row; result = a; after = record { tick = t; phases = phs; evens = es; noted = ns } }
 
@@ -175,27 +175,24 @@ lines =
     ∷ turns "24: an odd job with the second" 24 1 (wide false) (1 ∷ 1 ∷ [])
     ∷ goes "an even job with the second" taken (wide true) (1 ∷ 1 ∷ []) 2 (Working 2 1 1 ∷ []) (true ∷ []) (Working 0 0 0 ∷ [])
     ∷ turns "24: an even job with the first" 24 1 (wide true) (1 ∷ 0 ∷ [])
-    ∷ goes "the last row: accepted, the parity left aside" accepted (one (Working 3 1 1) 3 (Working 0 0 0)) (1 ∷ []) 4 (Working 0 0 0 ∷ []) (true ∷ [])
-    (Working 0 0 0 ∷ [])
+    ∷ goes "the last row: accepted, the parity left aside" accepted (one (Working 3 1 1) 3 (Working 0 0 0)) (1 ∷ []) 4 (Working 0 0 0 ∷ []) (true ∷ []) (Working 0 0 0 ∷ [])
     ∷ turns "24 in the last row: its tick" 24 3 (one (Working 3 1 1) 3 (Working 0 0 0)) (2 ∷ [])
     ∷ turns "25 at the start of the last tick" 25 3 (one (Working 4 1 1) 3 (Working 0 0 0)) (1 ∷ [])
     ∷ turns "25 on the horizon" 25 4 (one (Working 3 0 0) 3 (Working 0 0 0)) (1 ∷ [])
     ∷ turns "25 on the horizon before 26" 25 4 (one (Working 3 0 0) 3 (Resting 3)) (1 ∷ [])
     ∷ turns "26: another phase" 26 4 (one (Working 3 1 1) 3 (Working 1 0 0)) (1 ∷ [])
     ∷ turns "26: one more tick had" 26 4 (one (Working 1 0 0) 3 (Working 2 0 0)) (1 ∷ [])
-    ∷ goes "the same with it: tick and phases need not fit" accepted (one (Working 1 0 0) 3 (Working 2 1 1)) (1 ∷ []) 4 (Working 2 1 1 ∷ []) (false ∷ [])
-    (Working 2 1 1 ∷ [])
+    ∷ goes "the same with it: tick and phases need not fit" accepted (one (Working 1 0 0) 3 (Working 2 1 1)) (1 ∷ []) 4 (Working 2 1 1 ∷ []) (false ∷ []) (Working 2 1 1 ∷ [])
     ∷ turns "26: nothing was noted" 26 4 (one (Working 3 1 1) 3 (Resting 0)) (1 ∷ [])
     ∷ turns "26: a phase that nobody is in" 26 4 (one (Working 1 1 1) 3 (Holding 2 1)) (1 ∷ [])
-    ∷ goes "the tick before the last S: noted on arrival" taken (late (Coming 1) 1 (Resting 0)) (0 ∷ []) 2 (Working 0 0 0 ∷ []) (false ∷ [])
-    (Working 0 0 0 ∷ [])
+    ∷ goes "the tick before the last S: noted on arrival" taken (late (Coming 1) 1 (Resting 0)) (0 ∷ []) 2 (Working 0 0 0 ∷ []) (false ∷ []) (Working 0 0 0 ∷ [])
     ∷ goes "the tick before that: not yet" taken (late (Coming 2) 0 (Resting 0)) (0 ∷ []) 1 (Coming 1 ∷ []) (false ∷ []) (Resting 0 ∷ [])
     ∷ goes "from the last S on what is noted stays" taken (late (Working 0 0 0) 2 (Resting 1)) (1 ∷ []) 3 (Resting 1 ∷ []) (false ∷ []) (Resting 1 ∷ [])
     ∷ []
 
 -- every line is its value by the definitions: one table with one check
 pub state-examples : map computes lines ≡ lines
-unfolding checkRowOf checkRowAnswer answerAt finalAnswer differs missed stateOut faulty anyUnknownByte workedRow cellCount mapFirst runOut pastCount computing
+unfolding check_row_of check_row_answer answer_at final_answer differs missed state_out faulty any_unknown_byte worked_row cell_count map_first run_out past_count computing
 state-examples = refl
 
 -- EXTENTS OF PLANS: the number, the last S and the horizon
@@ -204,35 +201,37 @@ abbrev ahead : ℕ → ℕ → ℕ → Extent
 ahead n s h = record { number = n; start = s; horizon = h }
 
 -- an offset, at whatever tick; 25 and 10 are no part of it; 14 and 9 have zeros beside them; just within 9
-pub extent-examples : Computes (λ (w : SuppliedPlan). extentOf w.run) (
-    (late (Coming 2) 0 (Resting 0), ahead 0 2 5)
-    ∷ (late (Working 0 0 0) 2 (Resting 1), ahead 0 2 5)
-    ∷ (one (Working 4 1 1) 4 (Working 0 0 0), ahead 0 0 4)
-    ∷ (late (Resting 0) 2 (Resting 1), ahead 14 0 0)
-    ∷ (without 1, ahead 14 0 0)
-    ∷ (every (64 ∷ 31 ∷ 29 ∷ 27 ∷ 25 ∷ 23 ∷ 19 ∷ []) 0, ahead 9 0 0)
-    ∷ (every (64 ∷ 31 ∷ 29 ∷ 27 ∷ 25 ∷ 23 ∷ []) 0, ahead 0 0 893246400)
+pub extent-examples :
+    map (λ (w : SuppliedPlan). extent_of w.run)
+    (late (Coming 2) 0 (Resting 0)
+    ∷ late (Working 0 0 0) 2 (Resting 1)
+    ∷ one (Working 4 1 1) 4 (Working 0 0 0)
+    ∷ late (Resting 0) 2 (Resting 1)
+    ∷ without 1
+    ∷ every (64 ∷ 31 ∷ 29 ∷ 27 ∷ 25 ∷ 23 ∷ 19 ∷ []) 0
+    ∷ every (64 ∷ 31 ∷ 29 ∷ 27 ∷ 25 ∷ 23 ∷ []) 0
     ∷ [])
-unfolding extentOf firstNumber stateOut runOut pastCount computing
+    ≡ ahead 0 2 5 ∷ ahead 0 2 5 ∷ ahead 0 0 4 ∷ ahead 14 0 0 ∷ ahead 14 0 0 ∷ ahead 9 0 0 ∷ ahead 0 0 893246400 ∷ []
+unfolding extent_of first_number state_out run_out past_count computing
 extent-examples = refl
 
 -- A REFUSED ROW, AND PLACES PAST THE COUNT
 
 -- a state with a second task and a second note past its count of one
-abbrev beyond : ℕ → Phase → Phase → SuppliedPlan
-beyond t ph n = record {
-  run = record { rule = 1; cores = 1; fence = 0; withdrawn = 0; count = 1; tasks = at 2 1 2 3 ph ∷ at 7 7 7 7 (Holding 7 7) ∷ replicate 30 unused };
+abbrev beyond : ℕ → List Phase → SuppliedPlan
+beyond t ns = record {
+  run = record { rule = 1; cores = 1; fence = 0; withdrawn = 0; count = 1; tasks = at 2 1 2 3 (Coming (2 - t)) ∷ at 7 7 7 7 (Holding 7 7) ∷ replicate 30 unused };
   tick = t;
-  noted = notes (n ∷ Holding 8 8 ∷ []);
+  noted = notes ns;
 }
 
 -- any number returns the whole state; a row that is taken, and notes, leaves what is past the count
-pub rest-stays : Equal (
-    ((checkRowOf (one (Working 3 0 0) 3 (Working 0 0 0)) (1 ∷ [])).plan, one (Working 3 0 0) 3 (Working 0 0 0))
-    ∷ ((checkRowOf (beyond 1 (Coming 1) (Resting 0)) (0 ∷ [])).plan, beyond 2 (Working 0 0 0) (Working 0 0 0))
-    ∷ [])
-unfolding checkRowOf checkRowAnswer answerAt finalAnswer differs missed stateOut faulty anyUnknownByte workedRow cellCount mapFirst runOut pastCount computing
-rest-stays = refl
+pub rest-stays :
+    ((check_row_of (one (Working 3 0 0) 3 (Working 0 0 0)) (1 ∷ [])).plan ≡ one (Working 3 0 0) 3 (Working 0 0 0))
+    × (drop 1 (check_row_of (beyond 1 (Resting 0 ∷ Holding 8 8 ∷ [])) (0 ∷ [])).plan.run.tasks ≡ at 7 7 7 7 (Holding 7 7) ∷ replicate 30 unused)
+    × ((check_row_of (beyond 1 (Resting 0 ∷ Holding 8 8 ∷ [])) (0 ∷ [])).plan.noted ≡ notes (Working 0 0 0 ∷ Holding 8 8 ∷ []))
+unfolding check_row_of check_row_answer answer_at final_answer differs missed state_out faulty any_unknown_byte worked_row cell_count map_first run_out past_count computing
+rest-stays = (refl, refl, refl)
 
 -- BEGINNINGS: the words of a table, what is answered, and the state
 
@@ -243,7 +242,7 @@ pub record Beginning : Type 0 where
   pub plan : Shows
 
 abbrev pub begins : Beginning → Beginning
-begins l = record { name = l.name; words = l.words; result = answerMeaning (beginOf l.words).answer; plan = shows (beginOf l.words).plan }
+begins l = record { name = l.name; words = l.words; result = load_meaning (begin_of l.words).answer; plan = shows (begin_of l.words).plan }
 
 -- a table of one task on one core under rule 1
 abbrev alone : ℕ → ℕ → ℕ → ℕ → List ℕ
@@ -276,10 +275,10 @@ beginnings =
     ∷ []
 
 pub begin-examples : map begins beginnings ≡ beginnings
-unfolding beginOf startedRun answer_of byWalk byTasks byHorizon firstOut endingOf lastStep headerNumber table_of chain count visited computing
+unfolding begin_of started_run answer_of by_walk by_tasks by_horizon first_out ending_of last_step header_number table_of chain count visited computing
 begin-examples = refl
 
 -- a refused beginning leaves what 14 turns down
-pub refused-then : rowAnswerMeaning (checkRowOf (beginOf []).plan (0 ∷ [])).answer ≡ refused 14 0
-unfolding checkRowOf checkRowAnswer stateOut runOut beginOf answer_of headerNumber computing
+pub refused-then : row_answer_meaning (check_row_of (begin_of []).plan (0 ∷ [])).answer ≡ refused 14 0
+unfolding check_row_of check_row_answer state_out run_out begin_of answer_of header_number computing
 refused-then = refl

@@ -10,7 +10,7 @@ use lib.ListN.{length}
 use borrow.Author.Tests.{le-leb, leb-false, leb-true, lt-leb}
 use Rattle.model.proofs.Jobs.{newest-is}
 use Rattle.model.specs.Task.{AllValid, Table, Task, due, newest, release, task, width_of}
-use Rattle.plan_check.specs.Plan.{ValidRow, InTime, Owed, cellCount, hadInRows, runs, ticks}
+use Rattle.plan_check.specs.Plan.{ValidRow, InTime, Owed, cell_count, had_in_rows, runs, ticks}
 use Rattle.plan_check.proofs.Newest.{newest-only}
 
 pub ticks-none : (r : ℕ → List ℕ) (p a t : ℕ) → t ≤ a → ticks r p a t ≡ 0
@@ -70,16 +70,16 @@ done-same s r r' p k h e = sym (ticks-same r r' p (release (task s p) k) (due (t
 -- a place in a fine row works for its newest job, with the width of that
 pub valid-works :
     (s : Table) → AllValid s → (r : ℕ → List ℕ) (t : ℕ) → ValidRow s r t → (p : ℕ) → p < length s.tasks → runs r p t ≡ true
-    → Owed s r p (newest (task s p) t) t × (cellCount (suc p) (r t) ≡ width_of (task s p) (newest (task s p) t))
+    → Owed s r p (newest (task s p) t) t × (cell_count (suc p) (r t) ≡ width_of (task s p) (newest (task s p) t))
 valid-works s ok r t x p l e =
     let y = x.works p l e in
     let new : newest (task s p) t ≡ y.0 = newest-is (task s p) y.0 t (ok p l).constrained y.1.released y.1.early in
-    subst (λ (k : ℕ). Owed s r p k t × (cellCount (suc p) (r t) ≡ width_of (task s p) k)) (sym new) (y.1, y.2)
+    subst (λ (k : ℕ). Owed s r p k t × (cell_count (suc p) (r t) ≡ width_of (task s p) k)) (sym new) (y.1, y.2)
 
 -- so no job has had more than C ticks
 pub had-most :
     (s : Table) → AllValid s → (r : ℕ → List ℕ) (p : ℕ) → p < length s.tasks → (k t : ℕ)
-    → ((u : ℕ) → u < t → ValidRow s r u) → t ≤ release (task s p) (suc k) → hadInRows s r p k t ≤ (task s p).length
+    → ((u : ℕ) → u < t → ValidRow s r u) → t ≤ release (task s p) (suc k) → had_in_rows s r p k t ≤ (task s p).length
 had-most s ok r p l k zero fine h = unfold ticks in omega arith
 had-most s ok r p l k (suc t) fine h =
     go (leb (release (task s p) k) t) refl (runs r p t) refl (had-most s ok r p l k t (λ u g. fine u (omega arith)) (omega arith))
@@ -90,11 +90,11 @@ had-most s ok r p l k (suc t) fine h =
     pos : 0 < τ.period
     pos = le_trans (ok p l).deadline-pos (ok p l).constrained
 
-    go : (a : Bool) → leb (release τ k) t ≡ a → (b : Bool) → runs r p t ≡ b → hadInRows s r p k t ≤ τ.length → hadInRows s r p k (suc t) ≤ τ.length
+    go : (a : Bool) → leb (release τ k) t ≡ a → (b : Bool) → runs r p t ≡ b → had_in_rows s r p k t ≤ τ.length → had_in_rows s r p k (suc t) ≤ τ.length
     go false e b q before = rw (ticks-none r p (release τ k) (suc t) (leb-false (release τ k) t e)) (omega arith)
     go true e false q before = rw (ticks-on r p (release τ k) t (leb-true (release τ k) t e), q) before
     go true e true q before =
         let begun = leb-true (release τ k) t e in
         let new : newest τ t ≡ k = newest-only τ pos k t begun h in
         rw (ticks-on r p (release τ k) t begun, q)
-        (subst (λ (j : ℕ). hadInRows s r p j t < τ.length) new (valid-works s ok r t (fine t (omega arith)) p l q).0.short)
+        (subst (λ (j : ℕ). had_in_rows s r p j t < τ.length) new (valid-works s ok r t (fine t (omega arith)) p l q).0.short)

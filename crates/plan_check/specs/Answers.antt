@@ -2,7 +2,7 @@
 use Rattle.std.specs.Prelude.{List, ◌≡◌, ◌<◌, ℕ, ◌≤◌, length}
 use Rattle.model.specs.Horizon.{horizon}
 use Rattle.model.specs.Task.{Table, due, task}
-use Rattle.plan_check.specs.Plan.{Agree, ValidRow, hadInRows, row_at}
+use Rattle.plan_check.specs.Plan.{Agree, ValidRow, had_in_rows, row_at}
 
 -- the list is accepted; or all its rows are taken, and rows are missing; or the first refusal, at which the rows stop, with its number: 24
 -- to 26 with their tick, else 0
@@ -12,7 +12,7 @@ pub data PlanOutcome : Type 0 where
 
 -- a deadline is missed at t: some job due at t has had fewer than C ticks
 abbrev pub DeadlineMissed : Table → (ℕ → List ℕ) → ℕ → Type 0
-DeadlineMissed s r t = (p k : ℕ) × (p < length s.tasks) × (due (task s p) k ≡ t) × (hadInRows s r p k t < (task s p).length)
+DeadlineMissed s r t = (p k : ℕ) × (p < length s.tasks) × (due (task s p) k ≡ t) × (had_in_rows s r p k t < (task s p).length)
 
 -- before t every row is valid and no deadline is missed
 abbrev pub ValidBefore : Table → (ℕ → List ℕ) → ℕ → Type 0
@@ -41,8 +41,7 @@ pub data OutcomeFor (s : Table) (rows : List (List ℕ)) : PlanOutcome → Type 
       (t : ℕ) → t < horizon s → t < length rows → ValidBefore s (row_at rows) t → length (row_at rows t) ≡ s.cores
       → ¬ DeadlineMissed s (row_at rows) t → ¬ ValidRow s (row_at rows) t → OutcomeFor s rows (refuses 24 t)
   -- after the last row 25 and then 26, with the horizon
-  late-end :
-      horizon s ≤ length rows → ValidBefore s (row_at rows) (horizon s) → DeadlineMissed s (row_at rows) (horizon s) → OutcomeFor s rows (refuses 25 (horizon s))
+  late-end : horizon s ≤ length rows → ValidBefore s (row_at rows) (horizon s) → DeadlineMissed s (row_at rows) (horizon s) → OutcomeFor s rows (refuses 25 (horizon s))
   phases :
       horizon s ≤ length rows → ValidBefore s (row_at rows) (horizon s) → ¬ DeadlineMissed s (row_at rows) (horizon s) → ¬ Agree s (row_at rows)
       → OutcomeFor s rows (refuses 26 (horizon s))

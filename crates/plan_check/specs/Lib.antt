@@ -8,7 +8,6 @@ pub mod Numbers
 pub mod RowAnswer
 pub mod CheckRow
 pub mod Begin
-pub mod RepeatedRow
 pub mod Checked
 pub mod Extent
 pub mod Shown

@@ -3,9 +3,9 @@
 use Rattle.std.specs.Prelude.{List, ◌≡◌, ℕ, take}
 use Rattle.run.specs.UnusedPlaces.{SameBelow}
 use Rattle.plan_check.specs.declared.SuppliedPlan.{SuppliedPlan}
-use Rattle.plan_check.specs.Extent.{extentOf}
-use Rattle.plan_check.specs.Checked.{rowAnswersFrom}
-use Rattle.plan_check.specs.CheckRow.{checkRowOf}
+use Rattle.plan_check.specs.Extent.{extent_of}
+use Rattle.plan_check.specs.Checked.{row_answers_from}
+use Rattle.plan_check.specs.CheckRow.{check_row_of}
 
 -- two states that are equal up to the count: their runs, their ticks, and the recorded phases
 pub record SamePlan (w v : SuppliedPlan) : Type 0 where
@@ -15,7 +15,7 @@ pub record SamePlan (w v : SuppliedPlan) : Type 0 where
 
 -- they have equal extents; to any row they give equal answers, and the states after it are equal up to the count; so all rows get equal answers
 pub record PlanTailUnread (w v : SuppliedPlan) : Type 0 where
-  pub extent : extentOf w.run ≡ extentOf v.run
-  pub answer : (row : List ℕ) → (checkRowOf w row).answer ≡ (checkRowOf v row).answer
-  pub plan : (row : List ℕ) → SamePlan (checkRowOf w row).plan (checkRowOf v row).plan
-  pub answers : (rows : List (List ℕ)) → rowAnswersFrom w rows ≡ rowAnswersFrom v rows
+  pub extent : extent_of w.run ≡ extent_of v.run
+  pub answer : (row : List ℕ) → (check_row_of w row).answer ≡ (check_row_of v row).answer
+  pub plan : (row : List ℕ) → SamePlan (check_row_of w row).plan (check_row_of v row).plan
+  pub answers : (rows : List (List ℕ)) → row_answers_from w rows ≡ row_answers_from v rows

@@ -1,20 +1,19 @@
 // Number 14 of a state, 25, and the answer of the state after a row, with 26.
 ghost use Rattle.std.specs.Prelude.{◌≡◌, ◌&&◌, ◌≤◌, eqb};
-ghost use Rattle.model.specs.Sizes.{mostTasks};
-ghost use Rattle.run.specs.Run.{phaseAt};
+ghost use Rattle.model.specs.Sizes.{most_tasks};
+ghost use Rattle.run.specs.Run.{phase_at};
 ghost use Rattle.model.specs.Search.{any};
-ghost use Rattle.plan_check.specs.Numbers.{unreachablePhase, stateOut, missed, samePhase, differs};
-ghost use Rattle.plan_check.specs.State.{horizonIn};
-ghost use Rattle.plan_check.specs.CheckRow.{answerAt, finalAnswer};
+ghost use Rattle.plan_check.specs.Numbers.{unreachable_phase, state_out, missed, same_phase, differs};
+ghost use Rattle.plan_check.specs.State.{horizon_in};
+ghost use Rattle.plan_check.specs.CheckRow.{answer_at, final_answer};
 
-use crate::{RowAnswer, SuppliedPlan};
-use model::numbers;
+use crate::{Answer, SuppliedPlan};
 use phase::Phase;
 use run::Run;
 
 // Whether no supplied plan leaves a task in this phase: it holds, or its counts are unequal.
 fn unreachable(phase: Phase) -> bool
-    ensures { result ≡ unreachablePhase phase }
+    ensures { result ≡ unreachable_phase phase }
 {
     match phase {
         Phase::Coming(_) => false,
@@ -26,8 +25,8 @@ fn unreachable(phase: Phase) -> bool
 
 // Whether some task of the run is in such a phase.
 fn any_unreachable(run: Run) -> bool
-    requires { run.count ≤ mostTasks }
-    ensures { result ≡ any run.count (λ p. unreachablePhase (phaseAt run p)) }
+    requires { run.count ≤ most_tasks }
+    ensures { result ≡ any run.count (λ p. unreachable_phase (phase_at run p)) }
 {
     let count = run.count;
     let mut i: usize = 0;
@@ -44,7 +43,7 @@ fn any_unreachable(run: Run) -> bool
 
 // Whether 14 turns the state down: the run, a withdrawn position, a task Holding or with unequal counts.
 pub(crate) fn out(run: Run) -> bool
-    ensures { result ≡ stateOut run }
+    ensures { result ≡ state_out run }
 {
     if run.out() {
         return true;
@@ -57,7 +56,7 @@ pub(crate) fn out(run: Run) -> bool
 
 // Whether some task is Working at its deadline (number 25).
 pub(crate) fn missed(run: Run) -> bool
-    requires { run.count ≤ mostTasks }
+    requires { run.count ≤ most_tasks }
     ensures { result ≡ missed run }
 {
     let count = run.count;
@@ -74,7 +73,7 @@ pub(crate) fn missed(run: Run) -> bool
 
 // Whether two phases are the same.
 fn same(a: Phase, b: Phase) -> bool
-    ensures { result ≡ samePhase a b }
+    ensures { result ≡ same_phase a b }
 {
     match a {
         Phase::Coming(left) => match b {
@@ -108,7 +107,7 @@ fn same(a: Phase, b: Phase) -> bool
 impl SuppliedPlan {
     // Whether some task's phase is not the recorded one (number 26).
     fn differs(self) -> bool
-        requires { self.run.count ≤ mostTasks }
+        requires { self.run.count ≤ most_tasks }
         ensures { result ≡ differs self }
     {
         let run = self.run;
@@ -130,30 +129,30 @@ impl SuppliedPlan {
     }
 
     // The answer after the last row: 25 and then 26, or the plan is accepted.
-    fn final_answer(self) -> RowAnswer
-        requires { self.run.count ≤ mostTasks }
-        ensures { result ≡ finalAnswer self }
+    fn final_answer(self) -> Answer
+        requires { self.run.count ≤ most_tasks }
+        ensures { result ≡ final_answer self }
     {
         let run = self.run;
         let tick = self.tick;
         if missed(run) {
-            return RowAnswer::Refused(numbers::DEADLINE_MISSED, tick);
+            return Answer::Refused(25, tick);
         }
         if self.differs() {
-            return RowAnswer::Refused(numbers::PHASES_DIFFER, tick);
+            return Answer::Refused(26, tick);
         }
-        RowAnswer::Accepted
+        Answer::Accepted
     }
 
     // The answer of the state after a row, where the horizon is known.
-    pub(crate) fn answer_at(self, horizon: u32) -> RowAnswer
-        requires fact_1 { self.run.count ≤ mostTasks }
-        requires fact_2 { horizon ≡ horizonIn self.run }
-        ensures { result ≡ answerAt self }
+    pub(crate) fn answer_at(self, horizon: u32) -> Answer
+        requires fact_1 { self.run.count ≤ most_tasks }
+        requires fact_2 { horizon ≡ horizon_in self.run }
+        ensures { result ≡ answer_at self }
     {
         if self.tick == horizon {
             return self.final_answer();
         }
-        RowAnswer::Taken
+        Answer::Taken
     }
 }

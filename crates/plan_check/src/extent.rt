@@ -1,10 +1,9 @@
 // The extent of a supplied plan: the last S and the horizon of its run, and numbers 14 and 9.
 ghost use Rattle.std.specs.Prelude.{◌≡◌, false};
 ghost use Rattle.plan_check.specs.Extent.{ExtentOf};
-ghost use Rattle.plan_check.specs.Numbers.{stateOut};
+ghost use Rattle.plan_check.specs.Numbers.{state_out};
 
 use crate::SuppliedPlan;
-use model::numbers;
 use run::Run;
 
 // The number that turns every row down, 14 or 9, with zeros; or 0, with the last S and the horizon.
@@ -28,7 +27,7 @@ fn no_extent(number: u32) -> Extent
 
 // The extent of the plan of a run that passes 14: S and P of its tasks.
 fn by_tasks(run: Run) -> Extent
-    requires { stateOut run ≡ false }
+    requires { state_out run ≡ false }
     ensures { ExtentOf run result }
 {
     let tasks = run.parameters();
@@ -36,7 +35,7 @@ fn by_tasks(run: Run) -> Extent
     let start = table::positions::last_start(tasks, count);
     let period = table::hyperperiod::hyperperiod(tasks, count);
     if table::checks::horizon_out(start, period) {
-        return no_extent(numbers::LONG_HORIZON);
+        return no_extent(9);
     }
     Extent {
         number: 0,
@@ -52,7 +51,7 @@ impl SuppliedPlan {
     {
         let run = self.run;
         if crate::bounds::out(run) {
-            return no_extent(numbers::NOT_A_RUN);
+            return no_extent(14);
         }
         by_tasks(run)
     }

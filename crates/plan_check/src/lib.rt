@@ -1,22 +1,20 @@
 // Plans from the supplier's own planner, taken row by row: a state by value, its beginning, and the answer to each row.
 ghost use Rattle.std.specs.Prelude.{◌≡◌, ◌<◌, length};
-ghost use Rattle.plan_check.specs.declared.RowAnswer.TheVariants.{Refused};
+ghost use Rattle.plan_check.specs.declared.Answer.TheVariants.{Refused};
 ghost use Rattle.plan_check.specs.Extent.{Ready};
 ghost use Rattle.plan_check.specs.Begin.{BeginOf};
-ghost use Rattle.plan_check.specs.RowAnswer.{stateByAnswer};
-ghost use Rattle.plan_check.specs.CheckRow.{CheckRowOf, checkRowOf};
+ghost use Rattle.plan_check.specs.RowAnswer.{state_by_answer};
+ghost use Rattle.plan_check.specs.CheckRow.{CheckRowOf, check_row_of};
 
 mod extent; // extent.rt: the extent of a plan, and numbers 14 and 9
 mod begins; // begins.rt: a state of all zeros
 mod bounds; // bounds.rt: number 14 of a state, 25 and 26
 mod moves; // moves.rt: one tick, and the phases recorded
 mod rows; // rows.rt: the cells of a row, and number 24
-mod repetition; // repetition.rt: a row that comes again and again
 
-use model::{MOST_TASKS, numbers};
+use model::MOST_TASKS;
 use phase::Phase;
 use run::Run;
-use table::Answer;
 
 // A phase recorded at the last S.
 #[derive(Drop)]
@@ -35,13 +33,13 @@ pub struct SuppliedPlan {
 // The result of the beginning: the table's answer, and the state at tick 0.
 #[derive(Drop)]
 pub struct Begun {
-    pub answer: Answer,
+    pub answer: table::Answer,
     pub plan: SuppliedPlan,
 }
 
 // The answer to a row: taken; taken as the last, and the plan accepted; or refused with number and tick.
 #[derive(Drop)]
-pub enum RowAnswer {
+pub enum Answer {
     Taken,
     Accepted,
     Refused(u32, u32),
@@ -50,7 +48,7 @@ pub enum RowAnswer {
 // The result of a row: the answer, and the next state.
 #[derive(Drop)]
 pub struct Entered {
-    pub answer: RowAnswer,
+    pub answer: Answer,
     pub plan: SuppliedPlan,
 }
 
@@ -61,20 +59,20 @@ pub fn begin(words: &[u32]) -> Begun
     let loaded = table::load(words);
     let answer = loaded.answer;
     match answer {
-        Answer::Taken => {
+        table::Answer::Passed => {
             let begun = run::starts::begun(words);
             let run = begun.run;
             let noted = begins::blank();
             let plan = moves::state_at(run, 0, loaded.start, noted);
             Begun {
-                answer: Answer::Taken,
+                answer: table::Answer::Passed,
                 plan: plan,
             }
         }
-        Answer::Refused(number, position) => {
+        table::Answer::Refused(number, position) => {
             let plan = begins::empty();
             Begun {
-                answer: Answer::Refused(number, position),
+                answer: table::Answer::Refused(number, position),
                 plan: plan,
             }
         }
@@ -87,25 +85,25 @@ impl SuppliedPlan {
         ensures { result ≡ record { answer = Refused number tick; plan = self } }
     {
         Entered {
-            answer: RowAnswer::Refused(number, tick),
+            answer: Answer::Refused(number, tick),
             plan: self,
         }
     }
 
     // The answer with its state: the next one, or where it is refused the one given.
-    fn by_answer(self, answer: RowAnswer, next: SuppliedPlan) -> Entered
-        ensures { result ≡ record { answer = answer; plan = stateByAnswer answer next self } }
+    fn by_answer(self, answer: Answer, next: SuppliedPlan) -> Entered
+        ensures { result ≡ record { answer = answer; plan = state_by_answer answer next self } }
     {
         match answer {
-            RowAnswer::Taken => Entered {
-                answer: RowAnswer::Taken,
+            Answer::Taken => Entered {
+                answer: Answer::Taken,
                 plan: next,
             },
-            RowAnswer::Accepted => Entered {
-                answer: RowAnswer::Accepted,
+            Answer::Accepted => Entered {
+                answer: Answer::Accepted,
                 plan: next,
             },
-            RowAnswer::Refused(number, tick) => self.refused(number, tick),
+            Answer::Refused(number, tick) => self.refused(number, tick),
         }
     }
 
@@ -114,17 +112,17 @@ impl SuppliedPlan {
         requires fact_1 { Ready self.run start horizon }
         requires fact_2 { self.tick < horizon }
         requires fact_3 { length row.now ≡ self.run.cores }
-        ensures { result ≡ checkRowOf self row.now }
+        ensures { result ≡ check_row_of self row.now }
     {
         let run = self.run;
         let tick = self.tick;
         if bounds::missed(run) {
-            return self.refused(numbers::DEADLINE_MISSED, tick);
+            return self.refused(25, tick);
         }
         let shown = rows::counted(row, run.fence, run.count);
         let cells = shown.cells;
         if shown.unknown | rows::any_wrong(run, &cells) {
-            return self.refused(numbers::BAD_ROW, tick);
+            return self.refused(24, tick);
         }
         let next = self.after(start, &cells);
         let answer = next.answer_at(horizon);
@@ -134,14 +132,14 @@ impl SuppliedPlan {
     // The answer of `check_row` to the row of this tick, where `extent` is known: for plans of many rows. The state that it returns is ready for the next row.
     pub fn enter(self, start: u32, horizon: u32, row: &[u8]) -> Entered
         requires { Ready self.run start horizon }
-        ensures { (result ≡ checkRowOf self row.now) × Ready result.plan.run start horizon }
+        ensures { (result ≡ check_row_of self row.now) × Ready result.plan.run start horizon }
     {
         let run = self.run;
         if horizon <= self.tick {
-            return self.refused(numbers::BAD_RANGE, 0);
+            return self.refused(10, 0);
         }
         if row.len() != run.cores as usize {
-            return self.refused(numbers::SHORT_ROWS, 0);
+            return self.refused(11, 0);
         }
         self.shown(start, horizon, row)
     }

@@ -1,9 +1,9 @@
 // One tick of a supplied plan: each task in the row has worked, and at the last S the phases are recorded.
 ghost use Rattle.std.specs.Prelude.{◌≡◌, false, ◌≤◌, ◌<◌, suc};
-ghost use Rattle.model.specs.Sizes.{mostTasks, mostWord};
-ghost use Rattle.run.specs.Numbers.{runOut};
-ghost use Rattle.plan_check.specs.Shown.{workedWith};
-ghost use Rattle.plan_check.specs.State.{stateAt, noting, start_in};
+ghost use Rattle.model.specs.Sizes.{most_tasks, most_word};
+ghost use Rattle.run.specs.Numbers.{run_out};
+ghost use Rattle.plan_check.specs.Shown.{worked_with};
+ghost use Rattle.plan_check.specs.State.{state_at, noting, start_in};
 
 use crate::rows::BYTES;
 use crate::{Note, SuppliedPlan};
@@ -12,8 +12,8 @@ use run::Run;
 
 // The run one tick on, in a row with these counts of cells.
 fn worked(run: Run, cells: &[u8; BYTES]) -> Run
-    requires { runOut run ≡ false }
-    ensures { result ≡ workedWith run cells.now }
+    requires { run_out run ≡ false }
+    ensures { result ≡ worked_with run cells.now }
 {
     let mut next = run;
     let rule = run.rule;
@@ -30,7 +30,7 @@ fn worked(run: Run, cells: &[u8; BYTES]) -> Run
 
 // The phases of the tasks below the count recorded; the rest of the array stays.
 fn noting(run: Run, noted: [Note; MOST_TASKS]) -> [Note; MOST_TASKS]
-    requires { run.count ≤ mostTasks }
+    requires { run.count ≤ most_tasks }
     ensures { result ≡ noting run noted }
 {
     let mut notes = noted;
@@ -47,9 +47,9 @@ fn noting(run: Run, noted: [Note; MOST_TASKS]) -> [Note; MOST_TASKS]
 
 // A run that arrives at a tick: at the last S its phases are recorded.
 pub(crate) fn state_at(run: Run, tick: u32, start: u32, noted: [Note; MOST_TASKS]) -> SuppliedPlan
-    requires fact_1 { run.count ≤ mostTasks }
+    requires fact_1 { run.count ≤ most_tasks }
     requires fact_2 { start ≡ start_in run }
-    ensures { result ≡ stateAt run tick noted }
+    ensures { result ≡ state_at run tick noted }
 {
     if tick == start {
         let notes = noting(run, noted);
@@ -69,10 +69,10 @@ pub(crate) fn state_at(run: Run, tick: u32, start: u32, noted: [Note; MOST_TASKS
 impl SuppliedPlan {
     // The state after a row with these counts of cells.
     pub(crate) fn after(self, start: u32, cells: &[u8; BYTES]) -> SuppliedPlan
-        requires fact_1 { runOut self.run ≡ false }
+        requires fact_1 { run_out self.run ≡ false }
         requires fact_2 { start ≡ start_in self.run }
-        requires fact_3 { self.tick < mostWord }
-        ensures { result ≡ stateAt (workedWith self.run cells.now) (suc self.tick) self.noted }
+        requires fact_3 { self.tick < most_word }
+        ensures { result ≡ state_at (worked_with self.run cells.now) (suc self.tick) self.noted }
     {
         let run = self.run;
         let noted = self.noted;

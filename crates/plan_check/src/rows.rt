@@ -1,16 +1,18 @@
 // The cells of a supplied row: how many cores have each byte, unknown positions, and tasks with a wrong width or nothing owed (number 24).
 ghost use Rattle.std.specs.Prelude.{◌≡◌, not, cond, ℕ, ◌+◌, ◌≤◌, ◌<◌, eqb, ltb, get_or, length, set};
 ghost use Rattle.model.specs.Search.{bit};
-ghost use Rattle.model.specs.Sizes.{fencedByte, mostCores, mostTasks};
-ghost use Rattle.phase.specs.Task.{widthNow};
-ghost use Rattle.plan_check.specs.Shown.{ShownOf, anyWrong, wrongWith};
+ghost use Rattle.model.specs.Sizes.{fenced_byte, most_cores, most_tasks};
+ghost use Rattle.phase.specs.Task.{width_now};
+ghost use Rattle.plan_check.specs.Shown.{ShownOf, any_wrong, wrong_with};
 
-use model::FENCED;
 use phase::Task;
 use run::Run;
 
 // The bytes that a row can show.
 pub const BYTES: usize = 256;
+
+// The byte of a fenced core.
+const FENCED: u8 = 255;
 
 // Whether the row shows an unknown position; and where it does not, how many cores show each byte.
 #[derive(Drop)]
@@ -21,8 +23,8 @@ pub struct Shown {
 
 // Whether a byte is an unknown position on a core: a fenced one without 255, another with a byte above the last position.
 fn unknown_byte(fence: u64, count: usize, core: u32, byte: u8) -> bool
-    requires { core < mostCores }
-    ensures { result ≡ cond (bit fence core) (not (eqb byte fencedByte)) (ltb count byte) }
+    requires { core < most_cores }
+    ensures { result ≡ cond (bit fence core) (not (eqb byte fenced_byte)) (ltb count byte) }
 {
     if (fence >> core) % 2 == 1 {
         byte != FENCED
@@ -41,7 +43,7 @@ fn add(cells: &mut [u8; BYTES], byte: u8)
 
 // The cells of a row.
 pub(crate) fn counted(row: &[u8], fence: u64, count: usize) -> Shown
-    requires { length row.now ≤ mostCores }
+    requires { length row.now ≤ most_cores }
     ensures { ShownOf fence count row.now result }
 {
     let mut cells = [0u8; BYTES];
@@ -65,14 +67,14 @@ pub(crate) fn counted(row: &[u8], fence: u64, count: usize) -> Shown
 
 // The width of a task's job.
 fn width_of(task: Task) -> u32
-    ensures { result ≡ widthNow task }
+    ensures { result ≡ width_now task }
 {
     if task.even { task.second } else { task.width }
 }
 
 // Whether a task that has this number of cores of the row has another number than its job's width, or nothing owed.
-pub(crate) fn wrong(task: Task, cells: u8) -> bool
-    ensures { result ≡ wrongWith task cells }
+fn wrong(task: Task, cells: u8) -> bool
+    ensures { result ≡ wrong_with task cells }
 {
     let phase = task.phase;
     (0 < cells) & !((cells as u32 == width_of(task)) & phase.works())
@@ -80,8 +82,8 @@ pub(crate) fn wrong(task: Task, cells: u8) -> bool
 
 // Whether some task of the run is wrong in a row with these counts of cells.
 pub(crate) fn any_wrong(run: Run, cells: &[u8; BYTES]) -> bool
-    requires { run.count ≤ mostTasks }
-    ensures { result ≡ anyWrong run cells.now }
+    requires { run.count ≤ most_tasks }
+    ensures { result ≡ any_wrong run cells.now }
 {
     let count = run.count;
     let mut i: usize = 0;

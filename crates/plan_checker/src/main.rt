@@ -1,7 +1,7 @@
 // Reads a table, a line `--` and a supplied plan from standard input as they come, and prints the answer: one line.
 ghost use Rattle.std.specs.Prelude.{◌≡◌, ◌<◌, length};
 ghost use Rattle.stream.specs.Sent.{SentOf};
-ghost use Rattle.plan_text.specs.Printed.{planAnswerLine};
+ghost use Rattle.plan_text.specs.Printed.{plan_answer_line};
 ghost use Rattle.plan_checker.specs.Rounds.{ReceivedOf};
 
 use plan_text::{Check, PlanAnswer, answer_text};
@@ -20,7 +20,7 @@ struct Received {
 
 // Prints the answer.
 fn print(answer: PlanAnswer) -> Sent
-    ensures { SentOf 0 (planAnswerLine answer) result }
+    ensures { SentOf 0 (plan_answer_line answer) result }
 {
     let mut line = [0u8; LINE];
     let length = answer_text::put(&mut line, answer);
@@ -44,7 +44,7 @@ fn receive(check: Check, buffer: &mut [u8], held: usize) -> Received
 {
     let reading = stream::read(buffer, held);
     if reading.failed {
-        stream::report_unread(b"sivorandra");
+        stream::report_unread(b"inspect");
         return Received {
             reading: reading,
             check: check,
@@ -81,12 +81,12 @@ fn receive(check: Check, buffer: &mut [u8], held: usize) -> Received
 // A proved loop has to end, and no contract ensures that standard input does: the rounds are counted down from a number that no run uses up.
 fn main() {
     let mut check = Check::new();
-    let mut buffer = io::large_buffer();
+    let mut buffer = io::buffer();
     let mut held: usize = 0;
     let mut rounds = u64::MAX;
     while rounds > 0 {
         let received = receive(check, &mut buffer, held);
-        if !received.again {
+        if received.again {} else {
             return;
         }
         let next = received.check;

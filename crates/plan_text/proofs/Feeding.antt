@@ -8,7 +8,7 @@ use native.Mathlib.Omega.{arith}
 use lib.ListN.{drop, drop_of_length-le, length, length-drop, take}
 use lib.Seq.{drop-drop, take_all}
 use Rattle.splitter.specs.declared.Part.{Part}
-use Rattle.splitter.specs.Split.{InputEnd, lines_from, nothing, split, unknown}
+use Rattle.splitter.specs.Split.{InputEnd, lines_from, nothing, split, too_many, unknown}
 use Rattle.splitter.specs.Parts.{Comes, OneLine, LineOf, TableOf, ends, goes}
 use Rattle.splitter.proofs.Splits.{lines_none, lines-waits}
 use Rattle.splitter.proofs.Tables.{part-rest}
@@ -18,20 +18,19 @@ use Rattle.plan_text.specs.declared.Fed.{Fed}
 use Rattle.plan_text.specs.declared.KnownExtent.{KnownExtent}
 use Rattle.plan_text.specs.declared.PlanProgress.{PlanProgress}
 use Rattle.plan_text.specs.declared.PlanAnswer.{PlanAnswer}
+use Rattle.plan_text.specs.declared.PlanAnswer.TheVariants.{More}
 use Rattle.plan_text.specs.declared.Stage.{Stage}
 use Rattle.plan_text.specs.declared.Stage.TheVariants.{Over, Plan, Table}
 use Rattle.plan_text.specs.declared.LineAnswer.{LineAnswer}
-use Rattle.plan_text.specs.declared.repeats.LinesTaken.{LinesTaken}
-use Rattle.plan_text.specs.Line.{longLine}
-use Rattle.plan_text.specs.Checked.{endAnswer, rowEntered, isMore, opened_of, opens, rowsAnswer, splitAnswer, step_of}
-use Rattle.plan_text.specs.Check.{FedBy, FedOf, ExtentKnown, answer_in, checkAnswer, is_over, overWith, planAnswer, planWith}
-use Rattle.plan_text.specs.RepeatedLines.{RepeatedOf}
+use Rattle.plan_text.specs.Line.{long_line}
+use Rattle.plan_text.specs.Checked.{end_answer, row_entered, is_more, opened_of, opens, rows_answer, split_answer, step_of}
+use Rattle.plan_text.specs.Check.{FedBy, FedOf, ExtentKnown, answer_in, check_answer, is_over, over_with, plan_answer, plan_with}
 use Rattle.plan_text.proofs.Lines.{all-opens, due-opens, grows, opens-end, opens-more, rows_end, rows_none, rows_on, rows-wait}
 use Rattle.plan_text.proofs.Long.{long-step, rows_long}
 use Rattle.plan_text.proofs.Answers.{entered-plan}
 
 -- a check that is over gives its answer
-pub over-answer : (c : Check) (e : InputEnd) (bs : List ℕ) → is_over c.stage ≡ true → checkAnswer c e bs ≡ c.answer
+pub over-answer : (c : Check) (e : InputEnd) (bs : List ℕ) → is_over c.stage ≡ true → check_answer c e bs ≡ c.answer
 over-answer c e bs = go c.stage
   where
     go : (s : Stage) → is_over s ≡ true → answer_in s c e bs ≡ c.answer
@@ -42,7 +41,7 @@ over-answer c e bs = go c.stage
 -- the answer is there, whatever comes
 fed-over :
     (f : InputEnd → List ℕ → PlanAnswer) (from : ℕ) (ended : Bool) (bs : List ℕ) (rows : PlanProgress) (said : PlanAnswer) (taken : ℕ) → taken ≤ length bs
-    → ((more : List ℕ) → Comes ended nothing more → f nothing (drop from bs ++ more) ≡ said) → FedBy f from ended bs (overWith rows said taken)
+    → ((more : List ℕ) → Comes ended nothing more → f nothing (drop from bs ++ more) ≡ said) → FedBy f from ended bs (over_with rows said taken)
 fed-over f from ended bs rows said taken h x = record {
   taken = h;
   text = x;
@@ -53,8 +52,7 @@ fed-over f from ended bs rows said taken h x = record {
 }
 
 -- a row that was taken, or not, leaves a plan that goes as far
-pub extent-known-on :
-    (a : KnownExtent) (x : Entered) (n : ℕ) (t : LineAnswer) → t ≡ rowEntered x.answer x.plan n → ExtentKnown a x.plan → ExtentKnown a t.rows.plan
+pub extent-known-on : (a : KnownExtent) (x : Entered) (n : ℕ) (t : LineAnswer) → t ≡ row_entered x.answer x.plan n → ExtentKnown a x.plan → ExtentKnown a t.rows.plan
 extent-known-on a x n t e w = subst⁻¹ (λ (u : LineAnswer). ExtentKnown a u.rows.plan) e (subst⁻¹ (ExtentKnown a) (entered-plan x.answer x.plan n) w)
 
 -- THE PLAN
@@ -62,27 +60,15 @@ extent-known-on a x n t e w = subst⁻¹ (λ (u : LineAnswer). ExtentKnown a u.r
 -- a place up to which the lines of the plan have been taken
 abbrev pub Taken : PlanProgress → ℕ → Bool → List ℕ → PlanProgress → ℕ → Type 0
 Taken r₀ from ended bs r at =
-    (at ≤ length bs) × ((e : InputEnd) (more : List ℕ) → Comes ended e more → planAnswer r₀ e (drop from bs ++ more) ≡ planAnswer r e (drop at bs ++ more))
-
--- lines that repeat a row begin there
-pub taken-plain :
-    (r₀ : PlanProgress) (from : ℕ) (ended : Bool) (bs : List ℕ) (r : PlanProgress) (at : ℕ) (a : KnownExtent) (x : LinesTaken) → Taken r₀ from ended bs r at
-    → RepeatedOf r a (take (length bs - at) (drop at bs)) x → Taken r₀ from ended bs x.rows (at + x.taken)
-taken-plain r₀ from ended bs r at a x w v = (
-  omega (arith, f.taken, w.0, length-drop at bs),
-  λ e more c. w.1 e more c ∙ f.answer e more ∙ ap (λ (y : List ℕ). planAnswer x.rows e (y ++ more)) (drop-drop x.taken at bs),
-)
-  where
-    f : RepeatedOf r a (drop at bs) x
-    f = subst (λ (y : List ℕ). RepeatedOf r a y x) (part-rest bs at) v
+    (at ≤ length bs) × ((e : InputEnd) (more : List ℕ) → Comes ended e more → plan_answer r₀ e (drop from bs ++ more) ≡ plan_answer r e (drop at bs ++ more))
 
 -- the line that begins there
 module _
     (r₀ : PlanProgress) (from : ℕ) (ended : Bool) (bs : List ℕ) (r : PlanProgress) (at : ℕ) (p : Part) (w : Taken r₀ from ended bs r at)
-    (v : LineOf (take (length bs - at) (drop at bs)) longLine ended p)
+    (v : LineOf (take (length bs - at) (drop at bs)) long_line ended p)
   where
-    l : LineOf (drop at bs) longLine ended p
-    l = subst (λ (x : List ℕ). LineOf x longLine ended p) (part-rest bs at) v
+    l : LineOf (drop at bs) long_line ended p
+    l = subst (λ (x : List ℕ). LineOf x long_line ended p) (part-rest bs at) v
 
     abbrev line : List ℕ
     line = take p.end (drop at bs)
@@ -98,9 +84,8 @@ module _
 
     abbrev Handed : Type 0
     Handed =
-        ((e : InputEnd) (more : List ℕ) → Comes ended e more
-        → lines_from e [] (drop at bs ++ more) ≡ line ∷ lines_from e [] (drop p.next (drop at bs) ++ more))
-        ⊎ ((p.end ≡ length (drop at bs)) × (longLine ≤ length (drop at bs)) × OneLine (drop at bs))
+        ((e : InputEnd) (more : List ℕ) → Comes ended e more → lines_from e [] (drop at bs ++ more) ≡ line ∷ lines_from e [] (drop p.next (drop at bs) ++ more))
+        ⊎ ((p.end ≡ length (drop at bs)) × (long_line ≤ length (drop at bs)) × OneLine (drop at bs))
 
     -- a line that is too long is answered by what has come of it
     long-line : p.end ≡ length (drop at bs) → line ≡ drop at bs
@@ -110,53 +95,41 @@ module _
     stepped t s = let k : at + p.end - at ≡ p.end = omega arith in s ∙ ap (λ (n : ℕ). step_of r (take n (drop at bs))) k
 
     -- more lines are needed ..
-    pub taken_next :
-        (t : LineAnswer) → p.whole ≡ true → t ≡ step_of r (take (at + p.end - at) (drop at bs)) → isMore t.answer ≡ true
-        → Taken r₀ from ended bs t.rows (at + p.next)
+    pub taken_next : (t : LineAnswer) → p.whole ≡ true → t ≡ step_of r (take (at + p.end - at) (drop at bs)) → is_more t.answer ≡ true → Taken r₀ from ended bs t.rows (at + p.next)
     taken_next t h s m = (next-within, λ e more c. w.1 e more c ∙ on (l.line h) e more c)
       where
-        needed : isMore (step_of r line).answer ≡ true
-        needed = sym (ap (λ (u : LineAnswer). isMore u.answer) (stepped t s)) ∙ m
+        needed : is_more (step_of r line).answer ≡ true
+        needed = sym (ap (λ (u : LineAnswer). is_more u.answer) (stepped t s)) ∙ m
 
-        on :
-            Handed → (e : InputEnd) (more : List ℕ) → Comes ended e more
-            → planAnswer r e (drop at bs ++ more) ≡ planAnswer t.rows e (drop (at + p.next) bs ++ more)
+        on : Handed → (e : InputEnd) (more : List ℕ) → Comes ended e more → plan_answer r e (drop at bs ++ more) ≡ plan_answer t.rows e (drop (at + p.next) bs ++ more)
         on (inl x) e more c =
-            ap (rowsAnswer e r) (x e more c) ∙ rows_on e r line (lines_from e [] (drop p.next (drop at bs) ++ more)) needed
-            ∙ ap (λ (u : LineAnswer). rowsAnswer e u.rows (lines_from e [] (drop p.next (drop at bs) ++ more))) (sym (stepped t s))
-            ∙ ap (λ (y : List ℕ). planAnswer t.rows e (y ++ more)) (drop-drop p.next at bs)
+            ap (rows_answer e r) (x e more c) ∙ rows_on e r line (lines_from e [] (drop p.next (drop at bs) ++ more)) needed
+            ∙ ap (λ (u : LineAnswer). rows_answer e u.rows (lines_from e [] (drop p.next (drop at bs) ++ more))) (sym (stepped t s))
+            ∙ ap (λ (y : List ℕ). plan_answer t.rows e (y ++ more)) (drop-drop p.next at bs)
         on (inr x) e more c =
-            absurd (false≢true (sym (long-step r (drop at bs) [] x.1).1 ∙ ap (λ (y : List ℕ). isMore (step_of r y).answer) (sym (long-line x.0))
-            ∙ needed))
+            absurd (false≢true (sym (long-step r (drop at bs) [] x.1).1 ∙ ap (λ (y : List ℕ). is_more (step_of r y).answer) (sym (long-line x.0)) ∙ needed))
 
     -- .. or not
-    pub taken-over :
-        (t : LineAnswer) → p.whole ≡ true → t ≡ step_of r (take (at + p.end - at) (drop at bs)) → isMore t.answer ≡ false
-        → FedBy (planAnswer r₀) from ended bs (overWith t.rows t.answer (at + p.next))
-    taken-over t h s m =
-        fed-over (planAnswer r₀) from ended bs t.rows t.answer (at + p.next) next-within
-        (λ more c. w.1 nothing more c ∙ over (l.line h) more c ∙ sym said)
+    pub taken-over : (t : LineAnswer) → p.whole ≡ true → t ≡ step_of r (take (at + p.end - at) (drop at bs)) → is_more t.answer ≡ false → FedBy (plan_answer r₀) from ended bs (over_with t.rows t.answer (at + p.next))
+    taken-over t h s m = fed-over (plan_answer r₀) from ended bs t.rows t.answer (at + p.next) next-within (λ more c. w.1 nothing more c ∙ over (l.line h) more c ∙ sym said)
       where
         said : t.answer ≡ (step_of r line).answer
         said = ap (λ (u : LineAnswer). u.answer) (stepped t s)
 
-        over : Handed → (more : List ℕ) → Comes ended nothing more → planAnswer r nothing (drop at bs ++ more) ≡ (step_of r line).answer
+        over : Handed → (more : List ℕ) → Comes ended nothing more → plan_answer r nothing (drop at bs ++ more) ≡ (step_of r line).answer
         over (inl x) more c =
-            ap (rowsAnswer nothing r) (x nothing more c) ∙ rows_end nothing r line (lines_from nothing [] (drop p.next (drop at bs) ++ more))
-            (sym (ap isMore said) ∙ m)
+            ap (rows_answer nothing r) (x nothing more c) ∙ rows_end nothing r line (lines_from nothing [] (drop p.next (drop at bs) ++ more)) (sym (ap is_more said) ∙ m)
         over (inr x) more c =
-            ap (rowsAnswer nothing r) (x.2 nothing more) ∙ rows_long r (drop at bs) more x.1
-            ∙ ap (λ (y : List ℕ). (step_of r y).answer) (sym (long-line x.0))
+            ap (rows_answer nothing r) (x.2 nothing more) ∙ rows_long r (drop at bs) more x.1 ∙ ap (λ (y : List ℕ). (step_of r y).answer) (sym (long-line x.0))
 
     -- its end is still to come
-    pub taken-waits : p.whole ≡ false → at < length bs → FedBy (planAnswer r₀) from ended bs (planWith r at)
+    pub taken-waits : p.whole ≡ false → at < length bs → FedBy (plan_answer r₀) from ended bs (plan_with r at)
     taken-waits h k = record {
       taken = w.0;
       text = λ more c. w.1 nothing more c;
       at_once = λ _ more. w.1 unknown more (subst⁻¹ (λ (b : Bool). Comes b unknown more) not-ended goes);
       silent = λ _.
-          ap (planAnswer r unknown) (sym (append-nil (drop at bs))) ∙ ap (rowsAnswer unknown r) ((l.none h).1 unknown [] ∙ lines-waits (drop at bs))
-          ∙ rows-wait r;
+          ap (plan_answer r unknown) (sym (append-nil (drop at bs))) ∙ ap (rows_answer unknown r) ((l.none h).1 unknown [] ∙ lines-waits (drop at bs)) ∙ rows-wait r;
       short = λ _. omega (arith, (l.none h).0, length-drop at bs);
       goes_on = λ _. not-ended;
     }
@@ -176,21 +149,19 @@ module _
     none = drop_of_length-le bs {i = at} h
 
     -- the input has ended
-    pub plan-ended : (s : PlanAnswer) → ended ≡ true → s ≡ endAnswer nothing r → FedBy (planAnswer r₀) from ended bs (overWith r s at)
-    plan-ended s d q =
-        fed-over (planAnswer r₀) from ended bs r s at w.0
-        (λ more c. w.1 nothing more c ∙ all_of more (subst (λ (b : Bool). Comes b nothing more) d c) ∙ sym q)
+    pub plan-ended : (s : PlanAnswer) → ended ≡ true → s ≡ end_answer nothing r → FedBy (plan_answer r₀) from ended bs (over_with r s at)
+    plan-ended s d q = fed-over (plan_answer r₀) from ended bs r s at w.0 (λ more c. w.1 nothing more c ∙ all_of more (subst (λ (b : Bool). Comes b nothing more) d c) ∙ sym q)
       where
-        all_of : (more : List ℕ) → Comes true nothing more → planAnswer r nothing (drop at bs ++ more) ≡ endAnswer nothing r
-        all_of [] ends = ap (λ (y : List ℕ). planAnswer r nothing (y ++ [])) none ∙ ap (rowsAnswer nothing r) (lines_none nothing) ∙ rows_none nothing r
+        all_of : (more : List ℕ) → Comes true nothing more → plan_answer r nothing (drop at bs ++ more) ≡ end_answer nothing r
+        all_of [] ends = ap (λ (y : List ℕ). plan_answer r nothing (y ++ [])) none ∙ ap (rows_answer nothing r) (lines_none nothing) ∙ rows_none nothing r
 
     -- more may come
-    pub plan-waits : ended ≡ false → FedBy (planAnswer r₀) from ended bs (planWith r at)
+    pub plan-waits : ended ≡ false → FedBy (plan_answer r₀) from ended bs (plan_with r at)
     plan-waits d = record {
       taken = w.0;
       text = λ more c. w.1 nothing more c;
       at_once = λ _ more. w.1 unknown more (subst⁻¹ (λ (b : Bool). Comes b unknown more) d goes);
-      silent = λ _. ap (planAnswer r unknown) none ∙ ap (rowsAnswer unknown r) (lines_none unknown) ∙ rows-wait r;
+      silent = λ _. ap (plan_answer r unknown) none ∙ ap (rows_answer unknown r) (lines_none unknown) ∙ rows-wait r;
       short = λ _. omega (arith, w.0, h);
       goes_on = λ _. d;
     }
@@ -203,7 +174,7 @@ module _ (c : Check) (ended : Bool) (bs : List ℕ) (p : Part) (w : TableOf bs e
     answer-of : t.answer ≡ (opened_of (take p.end bs)).answer
     answer-of = ap (λ (u : LineAnswer). u.answer) o
 
-    pub table-fed : (r : Fed) → isMore t.answer ≡ true → FedBy (planAnswer t.rows) p.next ended bs r → FedBy (answer_in Table c) 0 ended bs r
+    pub table-fed : (r : Fed) → is_more t.answer ≡ true → FedBy (plan_answer t.rows) p.next ended bs r → FedBy (answer_in Table c) 0 ended bs r
     table-fed r m f = record {
       taken = f.taken;
       text = λ more x.
@@ -218,22 +189,20 @@ module _ (c : Check) (ended : Bool) (bs : List ℕ) (p : Part) (w : TableOf bs e
       goes_on = f.goes_on;
     }
       where
-        needed : isMore (opened_of (take p.end bs)).answer ≡ true
-        needed = sym (ap isMore answer-of) ∙ m
+        needed : is_more (opened_of (take p.end bs)).answer ≡ true
+        needed = sym (ap is_more answer-of) ∙ m
 
-        rows :
-            (e : InputEnd) (more : List ℕ) → opens e (take p.end bs) (lines_from e [] (drop p.next bs ++ more))
-            ≡ planAnswer t.rows e (drop p.next bs ++ more)
+        rows : (e : InputEnd) (more : List ℕ) → opens e (take p.end bs) (lines_from e [] (drop p.next bs ++ more)) ≡ plan_answer t.rows e (drop p.next bs ++ more)
         rows e more =
             opens-more e (take p.end bs) (lines_from e [] (drop p.next bs ++ more)) needed
-            ∙ ap (λ (u : LineAnswer). planAnswer u.rows e (drop p.next bs ++ more)) (sym o)
+            ∙ ap (λ (u : LineAnswer). plan_answer u.rows e (drop p.next bs ++ more)) (sym o)
 
-    pub table-over : isMore t.answer ≡ false → FedBy (answer_in Table c) 0 ended bs (overWith t.rows t.answer (length bs))
+    pub table-over : is_more t.answer ≡ false → FedBy (answer_in Table c) 0 ended bs (over_with t.rows t.answer (length bs))
     table-over m =
         fed-over (answer_in Table c) 0 ended bs t.rows t.answer (length bs) (omega arith)
         (λ more x.
         all-opens (split nothing (bs ++ more)) (take p.end bs) (lines_from nothing [] (drop p.next bs ++ more)) (w.text h nothing more x)
-        ∙ opens-end nothing (take p.end bs) (lines_from nothing [] (drop p.next bs ++ more)) (sym (ap isMore answer-of) ∙ m) ∙ sym answer-of)
+        ∙ opens-end nothing (take p.end bs) (lines_from nothing [] (drop p.next bs ++ more)) (sym (ap is_more answer-of) ∙ m) ∙ sym answer-of)
 
   -- its end is still to come
   pub table-waits : p.whole ≡ false → c.stage ≡ Table → FedBy (answer_in Table c) 0 ended bs (record { check = c; taken = 0 })
@@ -243,7 +212,7 @@ module _ (c : Check) (ended : Bool) (bs : List ℕ) (p : Part) (w : TableOf bs e
         taken = omega arith;
         text = λ more _. ap (λ (x : Stage). answer_in x c nothing (bs ++ more)) (sym s);
         at_once = λ _ more. ap (λ (x : Stage). answer_in x c unknown (bs ++ more)) (sym s);
-        silent = λ _. ap (λ (x : Stage). answer_in x c unknown bs) s ∙ ap (splitAnswer unknown) n.2 ∙ grows (length bs);
+        silent = λ _. ap (λ (x : Stage). answer_in x c unknown bs) s ∙ ap (split_answer unknown) n.2 ∙ grows (length bs);
         short = λ _. omega (arith, n.0);
         goes_on = λ _. n.1;
       }

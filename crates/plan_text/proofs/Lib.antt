@@ -9,6 +9,5 @@ pub mod Feeding
 pub mod Whole
 pub mod Examples
 pub mod Plan
-pub mod RepeatedLines
 pub mod Text
 pub mod Own

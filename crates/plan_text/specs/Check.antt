@@ -2,7 +2,7 @@
 use Rattle.std.specs.Prelude.{Bool, false, true, List, [], ◌++◌, ◌≡◌, ◌-◌, ◌<◌, ℕ, ◌≤◌, drop, length}
 use Rattle.plan_check.specs.Extent.{Ready}
 use Rattle.plan_check.specs.declared.SuppliedPlan.{SuppliedPlan}
-use Rattle.splitter.specs.Split.{InputEnd, lines_from, nothing, split, tooMany, unknown}
+use Rattle.splitter.specs.Split.{InputEnd, lines_from, nothing, split, too_many, unknown}
 use Rattle.splitter.specs.Parts.{Comes}
 use Rattle.plan_text.specs.declared.Check.{Check}
 use Rattle.plan_text.specs.declared.Fed.{Fed}
@@ -12,24 +12,24 @@ use Rattle.plan_text.specs.declared.PlanAnswer.{PlanAnswer}
 use Rattle.plan_text.specs.declared.PlanAnswer.TheVariants.{More}
 use Rattle.plan_text.specs.declared.Stage.{Stage}
 use Rattle.plan_text.specs.declared.Stage.TheVariants.{Over, Plan, Table}
-use Rattle.plan_text.specs.Checked.{checkedOf, answerSoFar, rowsAnswer, splitAnswer}
+use Rattle.plan_text.specs.Checked.{checked_of, answer_so_far, rows_answer, split_answer}
 
 -- this is the extent of the plan, where it is known
 abbrev pub ExtentKnown : KnownExtent → SuppliedPlan → Type 0
 ExtentKnown a w = a.known ≡ true → Ready w.run a.start a.horizon
 
 -- the answer to the bytes of a plan
-abbrev pub planAnswer : PlanProgress → InputEnd → List ℕ → PlanAnswer
-planAnswer r e bs = rowsAnswer e r (lines_from e [] bs)
+abbrev pub plan_answer : PlanProgress → InputEnd → List ℕ → PlanAnswer
+plan_answer r e bs = rows_answer e r (lines_from e [] bs)
 
 -- the answer of a check in a stage to the bytes bs, by what comes after them
 abbrev pub answer_in : Stage → Check → InputEnd → List ℕ → PlanAnswer
-answer_in Table c e bs = splitAnswer e (split e bs)
-answer_in Plan c e bs = planAnswer c.rows e bs
+answer_in Table c e bs = split_answer e (split e bs)
+answer_in Plan c e bs = plan_answer c.rows e bs
 answer_in Over c e bs = c.answer
 
-abbrev pub checkAnswer : Check → InputEnd → List ℕ → PlanAnswer
-checkAnswer c e bs = answer_in c.stage c e bs
+abbrev pub check_answer : Check → InputEnd → List ℕ → PlanAnswer
+check_answer c e bs = answer_in c.stage c e bs
 
 -- the answer is known. As in session/specs/Session: `is_over`, `FedBy`, `FedOf` and `NewOf`, there of a session
 abbrev pub is_over : Stage → Bool
@@ -41,27 +41,26 @@ is_over Over = true
 -- with any bytes after it. Where it is not over no answer was due, what is left is short, and the input has not ended
 pub record FedBy (f : InputEnd → List ℕ → PlanAnswer) (from : ℕ) (ended : Bool) (bytes : List ℕ) (r : Fed) : Type 0 where
   pub taken : r.taken ≤ length bytes
-  pub text : (more : List ℕ) → Comes ended nothing more → f nothing (drop from bytes ++ more) ≡ checkAnswer r.check nothing (drop r.taken bytes ++ more)
-  pub at_once :
-      is_over r.check.stage ≡ false → (more : List ℕ) → f unknown (drop from bytes ++ more) ≡ checkAnswer r.check unknown (drop r.taken bytes ++ more)
-  pub silent : is_over r.check.stage ≡ false → checkAnswer r.check unknown (drop r.taken bytes) ≡ More
-  pub short : is_over r.check.stage ≡ false → length bytes - r.taken < tooMany
+  pub text : (more : List ℕ) → Comes ended nothing more → f nothing (drop from bytes ++ more) ≡ check_answer r.check nothing (drop r.taken bytes ++ more)
+  pub at_once : is_over r.check.stage ≡ false → (more : List ℕ) → f unknown (drop from bytes ++ more) ≡ check_answer r.check unknown (drop r.taken bytes ++ more)
+  pub silent : is_over r.check.stage ≡ false → check_answer r.check unknown (drop r.taken bytes) ≡ More
+  pub short : is_over r.check.stage ≡ false → length bytes - r.taken < too_many
   pub goes_on : is_over r.check.stage ≡ false → ended ≡ false
 
 -- a check with its answer, and one that needs more lines of the plan, after a number of bytes taken
-abbrev pub overWith : PlanProgress → PlanAnswer → ℕ → Fed
-overWith rows said taken = record { check = record { stage = Over; rows = rows; answer = said }; taken = taken }
+abbrev pub over_with : PlanProgress → PlanAnswer → ℕ → Fed
+over_with rows said taken = record { check = record { stage = Over; rows = rows; answer = said }; taken = taken }
 
-abbrev pub planWith : PlanProgress → ℕ → Fed
-planWith rows taken = record { check = record { stage = Plan; rows = rows; answer = More }; taken = taken }
+abbrev pub plan_with : PlanProgress → ℕ → Fed
+plan_with rows taken = record { check = record { stage = Plan; rows = rows; answer = More }; taken = taken }
 
 -- the contract of `feed` of a check
 abbrev pub FedOf : Check → Bool → List ℕ → Fed → Type 0
-FedOf c ended bytes r = FedBy (checkAnswer c) 0 ended bytes r
+FedOf c ended bytes r = FedBy (check_answer c) 0 ended bytes r
 
 -- a check whose answer is what the program prints, and whose due answer is what the program must have printed
 abbrev pub NewOf : Check → Type 0
-NewOf c = (bs : List ℕ) → (checkAnswer c nothing bs ≡ checkedOf bs) × (checkAnswer c unknown bs ≡ answerSoFar bs)
+NewOf c = (bs : List ℕ) → (check_answer c nothing bs ≡ checked_of bs) × (check_answer c unknown bs ≡ answer_so_far bs)
 
 -- from check c, where `left` is left of the input so far, the bytes bs are fed, in parts of any size, each after what the one before left;
 -- then the check is c' and `left'` is left. A check that is over is fed nothing

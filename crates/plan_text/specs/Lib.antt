@@ -2,6 +2,5 @@
 pub mod Line
 pub mod Checked
 pub mod Check
-pub mod RepeatedLines
 pub mod Printed
 pub mod Plan

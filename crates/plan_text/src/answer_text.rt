@@ -2,7 +2,7 @@
 ghost use Rattle.std.specs.Prelude.{[], ◌∷◌, ◌≤◌, length};
 ghost use Rattle.text.specs.Output.{line_of};
 ghost use Rattle.text.specs.Written.{Put};
-ghost use Rattle.plan_text.specs.Printed.{longestAnswer, planAnswerLine};
+ghost use Rattle.plan_text.specs.Printed.{longest_answer, plan_answer_line};
 
 use crate::PlanAnswer;
 use text::row::LINE;
@@ -11,7 +11,7 @@ use text::{first, row};
 // Writes a line of a word and a number; returns where it ends.
 fn put_one(line: &mut [u8; LINE], word: &[u8], number: u32) -> usize
     requires { length word.now ≤ 10 }
-    ensures { (Put line.old 0 (line_of word.now (number ∷ [])) line.new result) × (result ≤ longestAnswer) }
+    ensures { (Put line.old 0 (line_of word.now (number ∷ [])) line.new result) × (result ≤ longest_answer) }
 {
     let start = row::copy(word, 0, word.len(), line, 0);
     let end = first::put_field(line, start, number);
@@ -21,7 +21,7 @@ fn put_one(line: &mut [u8; LINE], word: &[u8], number: u32) -> usize
 
 // Writes an answer; returns where it ends.
 pub fn put(line: &mut [u8; LINE], answer: PlanAnswer) -> usize
-    ensures { (Put line.old 0 (planAnswerLine answer) line.new result) × (result ≤ longestAnswer) }
+    ensures { (Put line.old 0 (plan_answer_line answer) line.new result) × (result ≤ longest_answer) }
 {
     match answer {
         PlanAnswer::More => 0,

@@ -1,19 +1,15 @@
 // A supplied plan as text, checked as it comes: the table, a line `--`, and the plan's lines, whose rows are taken one after another.
 ghost use Rattle.std.specs.Prelude.{◌≡◌, ◌≤◌, length};
-ghost use Rattle.plan_check.specs.CheckRow.{checkRowOf};
+ghost use Rattle.plan_check.specs.CheckRow.{check_row_of};
 ghost use Rattle.splitter.specs.Split.{nothing};
 ghost use Rattle.plan_text.specs.declared.Stage.TheVariants.{Table};
-ghost use Rattle.plan_text.specs.Line.{readLine, row_in};
-ghost use Rattle.plan_text.specs.Checked.{nextLine, skipped, refusalAnswer, rowEntered, step_of, isMore, opened_of, endAnswer};
-ghost use Rattle.plan_text.specs.Check.{ExtentKnown, planAnswer, answer_in, is_over, overWith, planWith, FedBy, FedOf, NewOf};
+ghost use Rattle.plan_text.specs.Checked.{next_line, skipped, refusal_answer, row_entered, step_of, is_more, opened_of, end_answer};
+ghost use Rattle.plan_text.specs.Check.{ExtentKnown, plan_answer, answer_in, is_over, over_with, plan_with, FedBy, FedOf, NewOf};
 
-mod line; // line.rt: the row in a line
-mod repeats; // repeats.rt: lines that repeat a row
+pub mod line; // line.rt: the row in a line
 pub mod answer_text; // answer_text.rt: the line that is printed
 
-use line::Line;
-use plan_check::{Entered, RowAnswer, SuppliedPlan};
-use table::Answer;
+use plan_check::{Answer, Entered, SuppliedPlan};
 
 // The answer: more lines are needed; the plan is accepted; rows are missing from this tick on; a fault with its number and tick; refused with number
 // and position; or the line with this number is no row.
@@ -75,7 +71,7 @@ pub struct Fed {
 
 // A line more; the count stops at the largest number that it can be.
 fn next_line(lines: u32) -> u32
-    ensures { result ≡ nextLine lines }
+    ensures { result ≡ next_line lines }
 {
     if lines < u32::MAX { lines + 1 } else { lines }
 }
@@ -90,7 +86,7 @@ fn passes(rows: PlanProgress, line: &[u8]) -> bool
 
 // 24 to 26 are faults of the plan; any other number turns it down.
 fn refusal_of(number: u32, tick: u32) -> PlanAnswer
-    ensures { result ≡ refusalAnswer number tick }
+    ensures { result ≡ refusal_answer number tick }
 {
     if 24 <= number {
         return PlanAnswer::Fault(number, tick);
@@ -100,12 +96,12 @@ fn refusal_of(number: u32, tick: u32) -> PlanAnswer
 
 // The answer to a row by that of `check_row`.
 fn enter(row: Entered, lines: u32) -> LineAnswer
-    ensures { result ≡ rowEntered row.answer row.plan lines }
+    ensures { result ≡ row_entered row.answer row.plan lines }
 {
     let answer = row.answer;
     let plan = row.plan;
     match answer {
-        RowAnswer::Taken => LineAnswer {
+        Answer::Taken => LineAnswer {
             rows: PlanProgress {
                 plan: plan,
                 lines: lines,
@@ -113,7 +109,7 @@ fn enter(row: Entered, lines: u32) -> LineAnswer
             },
             answer: PlanAnswer::More,
         },
-        RowAnswer::Accepted => LineAnswer {
+        Answer::Accepted => LineAnswer {
             rows: PlanProgress {
                 plan: plan,
                 lines: lines,
@@ -121,7 +117,7 @@ fn enter(row: Entered, lines: u32) -> LineAnswer
             },
             answer: PlanAnswer::More,
         },
-        RowAnswer::Refused(number, tick) => {
+        Answer::Refused(number, tick) => {
             let answer = refusal_of(number, tick);
             LineAnswer {
                 rows: PlanProgress {
@@ -150,7 +146,7 @@ fn extent_of(plan: SuppliedPlan) -> KnownExtent
 // Takes a row of a plan with this extent.
 fn take(plan: SuppliedPlan, extent: KnownExtent, row: &[u8]) -> Entered
     requires { ExtentKnown extent plan }
-    ensures { (result ≡ checkRowOf plan row.now) × ExtentKnown extent result.plan }
+    ensures { (result ≡ check_row_of plan row.now) × ExtentKnown extent result.plan }
 {
     if extent.known {
         return plan.enter(extent.start, extent.horizon, row);
@@ -158,10 +154,9 @@ fn take(plan: SuppliedPlan, extent: KnownExtent, row: &[u8]) -> Entered
     plan.check_row(row)
 }
 
-// The answer to a line of a plan with this extent, by the row in it, and the plan after it.
-fn step(rows: PlanProgress, extent: KnownExtent, bytes: &[u8], read: Line) -> LineAnswer
-    requires fact_1 { ExtentKnown extent rows.plan }
-    requires fact_2 { read ≡ readLine (row_in bytes.now) }
+// The answer to a line of a plan with this extent, and the plan after it.
+fn step(rows: PlanProgress, extent: KnownExtent, bytes: &[u8]) -> LineAnswer
+    requires { ExtentKnown extent rows.plan }
     ensures { (result ≡ step_of rows bytes.now) × ExtentKnown extent result.rows.plan }
 {
     let plan = rows.plan;
@@ -176,6 +171,7 @@ fn step(rows: PlanProgress, extent: KnownExtent, bytes: &[u8], read: Line) -> Li
             answer: PlanAnswer::More,
         };
     }
+    let read = line::read(bytes);
     if read.found {
         if read.tick == plan.tick {
             let cells = read.cells;
@@ -190,8 +186,8 @@ fn step(rows: PlanProgress, extent: KnownExtent, bytes: &[u8], read: Line) -> Li
 }
 
 // Whether more lines are needed.
-fn is_more(answer: PlanAnswer) -> bool
-    ensures { result ≡ isMore answer }
+pub fn is_more(answer: PlanAnswer) -> bool
+    ensures { result ≡ is_more answer }
 {
     match answer {
         PlanAnswer::More => true,
@@ -205,7 +201,7 @@ fn is_more(answer: PlanAnswer) -> bool
 
 // A check with its answer.
 fn over(rows: PlanProgress, answer: PlanAnswer, taken: usize) -> Fed
-    ensures { result ≡ overWith rows answer taken }
+    ensures { result ≡ over_with rows answer taken }
 {
     Fed {
         check: Check {
@@ -219,7 +215,7 @@ fn over(rows: PlanProgress, answer: PlanAnswer, taken: usize) -> Fed
 
 // A check that needs more lines of the plan.
 fn going(rows: PlanProgress, taken: usize) -> Fed
-    ensures { result ≡ planWith rows taken }
+    ensures { result ≡ plan_with rows taken }
 {
     Fed {
         check: Check {
@@ -233,7 +229,7 @@ fn going(rows: PlanProgress, taken: usize) -> Fed
 
 // The answer after the last line.
 fn end_rows(rows: PlanProgress) -> PlanAnswer
-    ensures { result ≡ endAnswer nothing rows }
+    ensures { result ≡ end_answer nothing rows }
 {
     if rows.accepted {
         return PlanAnswer::Accepted;
@@ -245,7 +241,7 @@ fn end_rows(rows: PlanProgress) -> PlanAnswer
 // The plan's lines from a place on: each line that has ended, one that is so long that it is decided, and at the end of the input the last one.
 fn feed_plan(start: PlanProgress, bytes: &[u8], from: usize, ended: bool) -> Fed
     requires { from ≤ length bytes.now }
-    ensures { FedBy (planAnswer start) from ended bytes.now result }
+    ensures { FedBy (plan_answer start) from ended bytes.now result }
 {
     let extent = extent_of(start.plan);
     let mut rows = start;
@@ -255,15 +251,7 @@ fn feed_plan(start: PlanProgress, bytes: &[u8], from: usize, ended: bool) -> Fed
         if part.whole {} else {
             return going(rows, at);
         }
-        let read = line::read(&bytes[at..at + part.end]);
-        let again = repeats::plain(rows, extent, &bytes[at..], part.end, read);
-        if 0 < again.taken {
-            let later = again.rows;
-            rows = later;
-            at += again.taken;
-            continue;
-        }
-        let reply = step(rows, extent, &bytes[at..at + part.end], read);
+        let reply = step(rows, extent, &bytes[at..at + part.end]);
         let next = reply.rows;
         let answer = reply.answer;
         if is_more(answer) {} else {
@@ -289,7 +277,7 @@ fn begin(table: &[u8]) -> LineAnswer
     let answer = begun.answer;
     let plan = begun.plan;
     match answer {
-        Answer::Taken => LineAnswer {
+        table::Answer::Passed => LineAnswer {
             rows: PlanProgress {
                 plan: plan,
                 lines: 0,
@@ -297,7 +285,7 @@ fn begin(table: &[u8]) -> LineAnswer
             },
             answer: PlanAnswer::More,
         },
-        Answer::Refused(number, position) => LineAnswer {
+        table::Answer::Refused(number, position) => LineAnswer {
             rows: PlanProgress {
                 plan: plan,
                 lines: 0,

@@ -1,6 +1,6 @@
 // A line of a supplied plan: the tick and the numbers of a row, as the program prints them.
 ghost use Rattle.std.specs.Prelude.{◌≡◌, ◌≤◌, length, drop, take};
-ghost use Rattle.plan_text.specs.Line.{mostCells, isVerdict, row_in, wordsAfter, cells_of, readLine, no_row};
+ghost use Rattle.plan_text.specs.Line.{most_cells, is_verdict, row_in, words_after, cells_of, read_line, no_row};
 
 use model::ROW;
 use sentence::reader;
@@ -23,7 +23,7 @@ pub struct Line {
 
 // No row.
 fn no_row() -> Line
-    ensures { result ≡ readLine no_row }
+    ensures { result ≡ read_line no_row }
 {
     let cells = [0u8; CELLS];
     Line {
@@ -37,7 +37,7 @@ fn no_row() -> Line
 // The row of a tick and of the numbers from `start` on, a space before each.
 fn cells_from(line: &[u8], start: usize, tick: u32) -> Line
     requires { start ≤ length line.now }
-    ensures { result ≡ readLine (cells_of tick (take mostCells (wordsAfter (drop start line.now)))) }
+    ensures { result ≡ read_line (cells_of tick (take most_cells (words_after (drop start line.now)))) }
 {
     let mut cells = [0u8; CELLS];
     let mut count: usize = 0;
@@ -74,7 +74,7 @@ fn cells_from(line: &[u8], start: usize, tick: u32) -> Line
 
 // The row in a line.
 pub fn read(line: &[u8]) -> Line
-    ensures { result ≡ readLine (row_in line.now) }
+    ensures { result ≡ read_line (row_in line.now) }
 {
     let end = text::line::end_from(line, 0, b' ');
     match text::line::number(&line[..end]) {
@@ -85,7 +85,7 @@ pub fn read(line: &[u8]) -> Line
 
 // Whether a line begins as the program's first line does where rows follow it.
 pub fn is_verdict(line: &[u8]) -> bool
-    ensures { result ≡ isVerdict line.now }
+    ensures { result ≡ is_verdict line.now }
 {
     if LONG <= line.len() {
         return false;

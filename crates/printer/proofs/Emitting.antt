@@ -6,13 +6,13 @@ use Prim.Native.Nat.{ℕ, zero, suc, ◌+◌, ◌-◌, ◌≤◌, ◌<◌, min}
 use native.Mathlib.Omega.{arith}
 use lib.ListN.{length, take, drop, length-take, length-drop}
 use lib.Seq.{take-append-le, drop-append-le, take-take, drop-drop, take-add, take-nil, drop-nil, length-take-le}
-use Rattle.simulation.specs.TickState.{Numbers, loadedNumbers, TickState, nextTickState}
+use Rattle.simulation.specs.TickState.{Numbers, loaded_numbers, TickState, next_tick_state}
 use Rattle.simulation.proofs.Steps.{tick-on}
 use Rattle.text.specs.Written.{Put}
 use Rattle.text.proofs.Writing.{put-none, put_then, put-length, put_front}
-use Rattle.printer.specs.Rows.{textIn, lineIn, linesIn}
+use Rattle.printer.specs.Rows.{text_in, line_in, lines_in}
 use Rattle.printer.specs.Valid.{valid, Safe}
-use Rattle.printer.specs.Printer.{runStateOf, textKept, remaining, rest, PieceOf, Stepping, Stepped}
+use Rattle.printer.specs.Printer.{run_state_of, text_kept, remaining, rest, PieceOf, Stepping, Stepped}
 use Rattle.printer.specs.declared.Printer.{Printer}
 use Rattle.printer.specs.declared.Stage.{Stage}
 use Rattle.printer.proofs.Safe.{safe-next}
@@ -78,7 +78,7 @@ module _ (p : Printer) (k : Limits p) (a : Arrays p) (part : ℕ) (h : part ≤ 
       ∙ ap (take (p.stage.ready - (p.given + part))) (drop-drop part p.given p.line) in
       sym
       (drop-append-le part (take (p.stage.ready - p.given) line-left) _ (omega (arith, long))
-      ∙ ap (λ (l : List ℕ). l ++ linesIn (loadedNumbers p.table) (p.end - p.stage.registers.tick) (runStateOf p) (textKept p)) f)
+      ∙ ap (λ (l : List ℕ). l ++ lines_in (loaded_numbers p.table) (p.end - p.stage.registers.tick) (run_state_of p) (text_kept p)) f)
 
   part-limits : Limits (at-given p (p.given + part))
   part-limits = record {
@@ -120,8 +120,7 @@ emit-part p₀ p before after after' at at' part h e q = record {
   limits = part-limits p h.limits h.arrays part few;
   arrays = part-arrays p h.limits h.arrays part few;
   left =
-      part_left p h.limits h.arrays part few ∙ ap (drop part) h.left ∙ drop-drop part at (remaining p₀)
-      ∙ ap (λ (n : ℕ). drop n (remaining p₀)) (sym ends);
+      part_left p h.limits h.arrays part few ∙ ap (drop part) h.left ∙ drop-drop part at (remaining p₀) ∙ ap (λ (n : ℕ). drop n (remaining p₀)) (sym ends);
   bytes = subst (λ (x : List ℕ). Put before 0 x after' at') taken (put_then h.bytes q room');
   room = room';
   same = put-length q (omega (arith, h.same, room')) ∙ h.same;
@@ -145,10 +144,10 @@ emit-part p₀ p before after after' at at' part h e q = record {
 
 -- a row can be stepped
 pub stepping-of :
-    (p : Printer) (n : Numbers) → n ≡ loadedNumbers p.table → Limits p → Arrays p → p.stage.registers.tick < p.end
+    (p : Printer) (n : Numbers) → n ≡ loaded_numbers p.table → Limits p → Arrays p → p.stage.registers.tick < p.end
     → Stepping n p.stage p.places p.row p.line
 stepping-of p n e k a l = record {
-  safe = subst (λ (n : Numbers). Safe n (runStateOf p)) (sym e) (limits-safe p k a);
+  safe = subst (λ (n : Numbers). Safe n (run_state_of p)) (sym e) (limits-safe p k a);
   tick = omega (arith, k.end);
   text = k.text;
   wide = a.wide;
@@ -157,12 +156,11 @@ stepping-of p n e k a l = record {
 
 -- the line is written, and the next is made
 module _
-    (p : Printer) (k : Limits p) (a : Arrays p) (over : p.stage.ready ≤ p.given) (l : p.stage.registers.tick < p.end) (stage : Stage)
-    (places row line : List ℕ)
-    (s : Stepped (loadedNumbers p.table) (runStateOf p) (textKept p) p.line stage places row line)
+    (p : Printer) (k : Limits p) (a : Arrays p) (over : p.stage.ready ≤ p.given) (l : p.stage.registers.tick < p.end) (stage : Stage) (places row line : List ℕ)
+    (s : Stepped (loaded_numbers p.table) (run_state_of p) (text_kept p) p.line stage places row line)
   where
     abbrev n : Numbers
-    n = loadedNumbers p.table
+    n = loaded_numbers p.table
 
     abbrev t : ℕ
     t = p.stage.registers.tick
@@ -170,11 +168,11 @@ module _
     abbrev stepped : Printer
     stepped = record { table = p.table; end = p.end; places = places; stage = stage; row = row; line = line; given = 0 }
 
-    safe : Safe n (runStateOf stepped)
-    safe = subst (Safe n) (sym s.state) (safe-next n (runStateOf p) (limits-safe p k a))
+    safe : Safe n (run_state_of stepped)
+    safe = subst (Safe n) (sym s.state) (safe-next n (run_state_of p) (limits-safe p k a))
 
     one : stage.registers.tick ≡ t + 1
-    one = tick-on n (runStateOf p) (runStateOf stepped) s.state
+    one = tick-on n (run_state_of p) (run_state_of stepped) s.state
 
     step-limits : Limits stepped
     step-limits = record {
@@ -193,32 +191,31 @@ module _
 
     -- the next line and the lines after it
     abbrev lines : List ℕ
-    lines = lineIn n (runStateOf p) (textKept p) ++ linesIn n (p.end - suc t) (nextTickState n (runStateOf p)) (textIn n (runStateOf p) (textKept p))
+    lines = line_in n (run_state_of p) (text_kept p) ++ lines_in n (p.end - suc t) (next_tick_state n (run_state_of p)) (text_in n (run_state_of p) (text_kept p))
 
     new : remaining stepped ≡ lines
     new = unfold remaining in
         let z : stage.ready - 0 ≡ stage.ready = omega arith in
         let y : p.end - stage.registers.tick ≡ p.end - suc t = omega (arith, one) in
         ap₂ (λ (x y : List ℕ). x ++ y) (ap (λ (i : ℕ). take i line) z ∙ put_front s.line)
-        (ap₂ (λ (i : ℕ) (x : TickState). linesIn n i x (take stage.text row)) y s.state
-        ∙ ap (linesIn n (p.end - suc t) (nextTickState n (runStateOf p))) s.keeps)
+        (ap₂ (λ (i : ℕ) (x : TickState). lines_in n i x (take stage.text row)) y s.state ∙ ap (lines_in n (p.end - suc t) (next_tick_state n (run_state_of p))) s.keeps)
 
     old : remaining p ≡ lines
-    old = unfold remaining linesIn in
+    old = unfold remaining lines_in in
         let z : p.stage.ready - p.given ≡ 0 = omega arith in
         let e : p.end - t ≡ suc (p.end - suc t) = omega arith in
-        ap₂ (λ (i j : ℕ). take i (drop p.given p.line) ++ linesIn n j (runStateOf p) (textKept p)) z e
+        ap₂ (λ (i j : ℕ). take i (drop p.given p.line) ++ lines_in n j (run_state_of p) (text_kept p)) z e
 
     step_same : remaining stepped ≡ remaining p
     step_same = new ∙ sym old
 
 pub emit-step :
     (p₀ p : Printer) (before after : List ℕ) (at : ℕ) → Emitting p₀ p before after at → p.stage.ready ≤ p.given → p.stage.registers.tick < p.end
-    → (n : Numbers) → n ≡ loadedNumbers p.table → (stage : Stage) (places row line : List ℕ)
-    → Stepped n (runStateOf p) (textKept p) p.line stage places row line
+    → (n : Numbers) → n ≡ loaded_numbers p.table → (stage : Stage) (places row line : List ℕ)
+    → Stepped n (run_state_of p) (text_kept p) p.line stage places row line
     → Emitting p₀ (record { table = p.table; end = p.end; places = places; stage = stage; row = row; line = line; given = 0 }) before after at
 emit-step p₀ p before after at h over l n e stage places row line q =
-    let s = subst (λ (n : Numbers). Stepped n (runStateOf p) (textKept p) p.line stage places row line) e q in
+    let s = subst (λ (n : Numbers). Stepped n (run_state_of p) (text_kept p) p.line stage places row line) e q in
     record {
       limits = step-limits p h.limits h.arrays over l stage places row line s;
       arrays = step-arrays p h.limits h.arrays over l stage places row line s;
@@ -259,18 +256,17 @@ emit-full p₀ p before after at ok h e = piece_of p₀ p before after at ok h (
 
 -- or nothing is left
 pub emit-done :
-    (p₀ p : Printer) (before after : List ℕ) (at : ℕ) → valid p₀ ≡ true → Emitting p₀ p before after at → p.stage.ready ≤ p.given
-    → p.stage.registers.tick ≡ p.end
+    (p₀ p : Printer) (before after : List ℕ) (at : ℕ) → valid p₀ ≡ true → Emitting p₀ p before after at → p.stage.ready ≤ p.given → p.stage.registers.tick ≡ p.end
     → PieceOf p₀ before after (record { printer = p; length = at })
 emit-done p₀ p before after at ok h over e =
     piece_of p₀ p before after at ok h
     (omega (arith, h.room, emitted p₀ p before after at h, ap length (sym h.left ∙ none), length-drop at (remaining p₀)))
   where
     none : remaining p ≡ []
-    none = unfold remaining linesIn in
+    none = unfold remaining lines_in in
         let z : p.stage.ready - p.given ≡ 0 = omega arith in
         let y : p.end - p.stage.registers.tick ≡ 0 = omega arith in
-        ap₂ (λ (i j : ℕ). take i (drop p.given p.line) ++ linesIn (loadedNumbers p.table) j (runStateOf p) (textKept p)) z y
+        ap₂ (λ (i j : ℕ). take i (drop p.given p.line) ++ lines_in (loaded_numbers p.table) j (run_state_of p) (text_kept p)) z y
 
 -- a printer that is not valid is returned as it is
 pub piece-refused : (p : Printer) (buffer : List ℕ) → valid p ≡ false → PieceOf p buffer buffer (record { printer = p; length = 0 })

@@ -9,19 +9,19 @@ use Rattle.model.specs.Horizon.{S, horizon, hyperperiod, lcm}
 use Rattle.model.specs.Row.{owner, row}
 use Rattle.model.specs.Search.{any, filtered, least, member, up_from}
 use Rattle.model.proofs.Computing.{computing}
-use Rattle.rule.specs.Widths.{widthsIn}
-use Rattle.table.specs.Answer.{headerNumber, lastStep, endingOf, firstOut, byHorizon, byTasks, byWalk, answer_of}
+use Rattle.rule.specs.Widths.{widths_in}
+use Rattle.table.specs.Answer.{header_number, last_step, ending_of, first_out, by_horizon, by_tasks, by_walk, answer_of}
 use Rattle.table.specs.Load.{load_of}
 use Rattle.table.specs.Words.{visited, count, chain, table_of}
 use Rattle.table.specs.declared.Loaded.{Loaded}
-use Rattle.simulation.specs.Machine.{withRelease, releasedDue, earliest, workedTick}
-use Rattle.simulation.specs.Places.{mapPlaces, setWhere}
-use Rattle.simulation.specs.TickState.{pairedIn, loadedNumbers, initialTickState, afterEvents, nextEventAfter, evenAtTick, grantedAt, nextTickState}
-use Rattle.text.specs.Decimal.{all, value, decimal, lastDigits, digitCount, digitsWithin}
+use Rattle.simulation.specs.Machine.{with_release, released_due, earliest, worked_tick}
+use Rattle.simulation.specs.Places.{map_places, set_where}
+use Rattle.simulation.specs.TickState.{paired_in, loaded_numbers, initial_tick_state, after_events, next_event_after, even_at_tick, granted_at, next_tick_state}
+use Rattle.text.specs.Decimal.{all, value, decimal, last_digits, digit_count, digits_within}
 use Rattle.text.specs.Format.{words_of, lines, is_number}
-use Rattle.text.specs.Output.{letters, fields, line_of, firstLine, row_line, row_lines, printed, output}
+use Rattle.text.specs.Output.{letters, fields, line_of, first_line, row_line, row_lines, printed, output}
 use Rattle.printer.specs.Cells.{cells}
-use Rattle.printer.specs.Rows.{rowTextOf, textIn, lineIn, linesIn}
+use Rattle.printer.specs.Rows.{row_text_of, text_in, line_in, lines_in}
 
 -- a table: its name, its words and the text of them, the first line of what is printed, how many rows, and their lines
 pub record Print : Type 0 where
@@ -62,20 +62,19 @@ prints =
 
 -- what is printed for a text, and what is to be
 pub texts : map (λ p. output (letters p.text)) prints ≡ map (λ p. letters p.first ++ letters p.lines) prints
-unfolding output words_of lines is_number all value printed firstLine row_line row_lines line_of fields decimal lastDigits digitCount digitsWithin answer_of byWalk
-    byTasks byHorizon firstOut endingOf lastStep headerNumber table_of chain count visited computing
+unfolding output words_of lines is_number all value printed first_line row_line row_lines line_of fields decimal last_digits digit_count digits_within answer_of by_walk
+    by_tasks by_horizon first_out ending_of last_step header_number table_of chain count visited computing
 texts = refl
 
 -- the lines that the run of a table gives from tick 0 on, beginning with the text of no claimants
 abbrev pub stepped : Loaded → ℕ → List ℕ
-stepped t k = linesIn (loadedNumbers t) k (initialTickState t) (rowTextOf (loadedNumbers t) 0 (initialTickState t).even)
+stepped t k = lines_in (loaded_numbers t) k (initial_tick_state t) (row_text_of (loaded_numbers t) 0 (initial_tick_state t).even)
 
 abbrev rows : Print → List ℕ
 rows p = letters p.lines
 
 pub runs : map (λ p. stepped (load_of p.words) p.rows) prints ≡ map (λ p. letters p.lines) prints
-unfolding linesIn lineIn textIn cells nextTickState afterEvents nextEventAfter evenAtTick grantedAt pairedIn withRelease releasedDue earliest workedTick
-    mapPlaces setWhere widthsIn fields decimal
-    lastDigits digitCount digitsWithin load_of answer_of byWalk byTasks byHorizon firstOut endingOf lastStep headerNumber table_of chain count visited horizon S
+unfolding lines_in line_in text_in cells next_tick_state after_events next_event_after even_at_tick granted_at paired_in with_release released_due earliest worked_tick map_places set_where widths_in fields decimal
+    last_digits digit_count digits_within load_of answer_of by_walk by_tasks by_horizon first_out ending_of last_step header_number table_of chain count visited horizon S
     hyperperiod lcm least any filtered member up_from owner row given left grants claimants
 runs = refl

@@ -4,7 +4,7 @@ use mathlib.Core.List.{List}
 use mathlib.Core.Path.{◌∙◌}
 use Prim.Native.Nat.{ℕ}
 use lib.ListN.{take}
-use Rattle.text.specs.Format.{enoughBytes}
+use Rattle.text.specs.Format.{enough_bytes}
 use Rattle.text.proofs.Exact.{output-enough}
 use Rattle.printer.specs.Printer.{MadeFrom}
 use Rattle.printer.specs.Pieces.{Pieces, Printed}
@@ -12,11 +12,10 @@ use Rattle.printer.specs.declared.Printer.{Printer}
 use Rattle.printer.proofs.Pieces.{pieces}
 
 -- a printer of the front has all of the output of the whole input left
-pub front-made : (bs : List ℕ) {p : Printer} → MadeFrom (take enoughBytes bs) p → MadeFrom bs p
+pub front-made : (bs : List ℕ) {p : Printer} → MadeFrom (take enough_bytes bs) p → MadeFrom bs p
 front-made bs m = record { valid = m.valid; whole = m.whole ∙ output-enough bs }
 
 -- THEOREM (front-pieces)
 pub front-pieces :
-    (bs : List ℕ) {p p' : Printer} {sizes : List ℕ} {parts : List (List ℕ)} → MadeFrom (take enoughBytes bs) p → Pieces p sizes parts p'
-    → Printed bs p' sizes parts
+    (bs : List ℕ) {p p' : Printer} {sizes : List ℕ} {parts : List (List ℕ)} → MadeFrom (take enough_bytes bs) p → Pieces p sizes parts p' → Printed bs p' sizes parts
 front-pieces bs m qs = pieces bs (front-made bs m) qs

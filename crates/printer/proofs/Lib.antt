@@ -2,8 +2,6 @@
 pub mod Safe
 pub mod Limits
 pub mod Owed
-pub mod Allocation
-pub mod CellsWritten
 pub mod Step
 pub mod Refines
 pub mod Emitting

@@ -3,58 +3,59 @@ use native.Mathlib.Omega.{arith}
 use mathlib.Core.Path.{◌≡◌, refl, sym, ap, ap₂, ◌∙◌, subst, subst⁻¹}
 use mathlib.Core.List.{List, [], ◌++◌, append-nil}
 use mathlib.Core.Bool.{true, false}
-use mathlib.Core.Logic.{⊎_elim}
+use mathlib.Core.Logic.{inl, inr, ⊎_elim}
 use native.Mathlib.Nat.{eq-zero-or-pos}
 use Prim.Native.Nat.{ℕ, ◌-◌, ◌≤◌, ◌<◌}
 use lib.Bits.{bit_and, and_zero_l}
 use lib.ListN.{length, get_or, take, replicate, length-append}
 use lib.Seq.{take-append_seam}
 use borrow.Author.Tests.{eq-eqb}
-use Rattle.model.specs.Fence.{unfencedCount}
+use Rattle.model.specs.Fence.{unfenced_count}
 use Rattle.model.specs.Task.{Table, AllValid, task}
 use Rattle.model.specs.Search.{any}
 use Rattle.model.proofs.Bools.{not-true-false}
 use Rattle.model.specs.Task as plain
 use Rattle.model.specs.Lists.{Missed}
 use Rattle.model.specs.Horizon.{horizon}
-use Rattle.model.specs.Verdict.{verdict}
-use Rattle.model.specs.Sizes.{mostCores, mostTasks}
+use Rattle.model.specs.Verdict.{FirstMiss, verdict}
+use Rattle.model.specs.Verdict as model
+use Rattle.model.proofs.Horizon.{horizon-enough}
+use Rattle.model.proofs.Verdict.{verdict-exact}
+use Rattle.model.specs.Sizes.{most_cores, most_tasks}
 use Rattle.table.specs.declared.Answer.{Answer}
-use Rattle.table.specs.declared.Answer.TheVariants.{Taken, Refused}
+use Rattle.table.specs.declared.Answer.TheVariants.{Passed, Refused}
 use Rattle.table.specs.declared.Loaded.{Loaded}
-use Rattle.table.specs.Words.{coreCount, fence, table_of}
-use Rattle.table.specs.Answer.{answer_of, headerNumber}
-use Rattle.table.specs.AnswerMeaning.{answerMeaning}
-use Rattle.table.specs.Load.{LoadOf, refusal}
+use Rattle.table.specs.Words.{core_count, fence, table_of}
+use Rattle.table.specs.Answer.{answer_of, header_number}
+use Rattle.table.specs.Load.{load_meaning, LoadOf, refusal}
 use Rattle.table.proofs.Exact.{refusal-exact, passed-exact}
-use Rattle.table.specs.Limits.{InRange, OneOut, taskOut}
-use Rattle.table.specs.Task.{task_of, noTask}
+use Rattle.table.specs.Limits.{InRange, OneOut, task_out}
+use Rattle.table.specs.Task.{task_of, no_task}
 use Rattle.table.proofs.Inside.{Inside}
 use Rattle.table.proofs.Passed.{passed-cores, passed-inside}
 use Rattle.table.proofs.Places.{task-at}
 use Rattle.table.proofs.Tests.{task-decides}
-use Rattle.rule.specs.Widths.{widthsIn}
+use Rattle.rule.specs.Widths.{widths_in}
 use Rattle.simulation.specs.declared.machine.Registers.{Registers}
 use Rattle.simulation.specs.Places.{segment}
-use Rattle.simulation.specs.TickState.{loadedNumbers, TickState, tickStateOf, initialTickState}
+use Rattle.simulation.specs.TickState.{loaded_numbers, TickState, tick_state_of, initial_tick_state}
 use Rattle.judge.specs.declared.Verdict.{Verdict}
 use Rattle.judge.specs.declared.Verdict.TheVariants as judge
-use Rattle.judge.specs.JudgeAnswer.{JudgeAnswer, judged, refused, verdictMeaning, verdictCase}
-use Rattle.table.specs.Fit.{loadedTable, Fit}
+use Rattle.judge.specs.JudgeAnswer.{JudgeAnswer, judged, refused, verdict_meaning, verdict_case}
+use Rattle.table.specs.Fit.{loaded_table, Fit}
 use Rattle.judge.specs.Judged.{Judged}
 use Rattle.simulation.proofs.RefinesTick.{refines-start}
 use Rattle.table.proofs.Fit.{fit, same-table}
 use Rattle.judge.proofs.Contract.{meaning-case, passed_is, refused-is}
-use Rattle.text.specs.Format.{mostNumbers, Words, readWords, noText, words_of}
+use Rattle.text.specs.Format.{most_numbers, Words, read_words, no_text, words_of}
 use Rattle.text.specs.Input.{input_of, ReadOf}
-use Rattle.text.specs.Output.{firstLine, row_lines, rowsPrinted, printed, printedBy, outputOf, output, longestCells, longestLine}
-use Rattle.text.proofs.RowsPrinted.{end-case, rows-met}
+use Rattle.text.specs.Output.{first_line, row_lines, rows_printed, printed, printed_by, output_of, output, longest_cells, longest_line}
 use Rattle.text.specs.Written.{Put}
 use Rattle.printer.specs.Cells.{cells}
 use Rattle.text.specs.FirstLine.{end_of}
-use Rattle.printer.specs.Rows.{rowTextOf, linesIn}
-use Rattle.printer.specs.Valid.{out_at, tableValid, owed, within, valid}
-use Rattle.printer.specs.Printer.{runStateOf, textKept, remaining, PrinterStartOf, WordsPrinter, MadeFrom}
+use Rattle.printer.specs.Rows.{row_text_of, lines_in}
+use Rattle.printer.specs.Valid.{out_at, table_valid, owed, within, valid}
+use Rattle.printer.specs.Printer.{run_state_of, text_kept, remaining, PrinterStartOf, WordsPrinter, MadeFrom}
 use Rattle.text.specs.declared.Input.{Input}
 use Rattle.printer.specs.declared.Printer.{Printer}
 use Rattle.text.proofs.Writing.{put_front}
@@ -70,11 +71,11 @@ none_within b = eq-eqb (bit_and 0 b) 0 (and_zero_l b)
 
 -- the first line is written, and the run is before tick 0
 module _
-    (t : Loaded) (e : ℕ) (v : Verdict) (registers : Registers) (places : List ℕ) (m : tickStateOf registers places ≡ initialTickState t) (widths : List ℕ)
-    (w : widths ≡ (loadedNumbers t).widths) (row line : List ℕ) (size ready : ℕ)
-    (p : (Put (replicate longestCells 0) 0 (cells t.rule t.cores t.fence (take t.count (widthsIn registers.even widths)) 0) row size)
-    × (size ≤ longestCells))
-    (q : (Put (replicate longestLine 0) 0 (firstLine (verdictMeaning v)) line ready) × (ready ≤ longestLine))
+    (t : Loaded) (e : ℕ) (v : Verdict) (registers : Registers) (places : List ℕ) (m : tick_state_of registers places ≡ initial_tick_state t) (widths : List ℕ)
+    (w : widths ≡ (loaded_numbers t).widths) (row line : List ℕ) (size ready : ℕ)
+    (p : (Put (replicate longest_cells 0) 0 (cells t.rule t.cores t.fence (take t.count (widths_in registers.even widths)) 0) row size)
+    × (size ≤ longest_cells))
+    (q : (Put (replicate longest_line 0) 0 (first_line (verdict_meaning v)) line ready) × (ready ≤ longest_line))
   where
     abbrev first : Printer
     first = record {
@@ -87,20 +88,19 @@ module _
       given = 0;
     }
 
-    kept : textKept first ≡ rowTextOf (loadedNumbers t) 0 (initialTickState t).even
+    kept : text_kept first ≡ row_text_of (loaded_numbers t) 0 (initial_tick_state t).even
     kept =
         put_front p.0
-        ∙ ap₂ (λ (x : List ℕ) (y : ℕ). cells t.rule t.cores t.fence (take t.count (widthsIn y x)) 0) w (ap (λ (s : TickState). s.even) m)
+        ∙ ap₂ (λ (x : List ℕ) (y : ℕ). cells t.rule t.cores t.fence (take t.count (widths_in y x)) 0) w (ap (λ (s : TickState). s.even) m)
 
     rows :
-        (0 < e → Fit t × (e ≤ t.horizon) × ((q u : ℕ) → u < e → ¬ Missed (loadedTable t) q u))
-        → linesIn (loadedNumbers t) e (initialTickState t) (textKept first) ≡ row_lines (loadedTable t) 0 e
+        (0 < e → Fit t × (e ≤ t.horizon) × ((q u : ℕ) → u < e → ¬ Missed (loaded_table t) q u))
+        → lines_in (loaded_numbers t) e (initial_tick_state t) (text_kept first) ≡ row_lines (loaded_table t) 0 e
     rows f =
         ⊎_elim
-        (λ (z : e ≡ 0). let none : linesIn (loadedNumbers t) 0 (initialTickState t) (textKept first) ≡ row_lines (loadedTable t) 0 0 = unfold linesIn row_lines
-        in refl in
-        subst⁻¹ (λ (k : ℕ). linesIn (loadedNumbers t) k (initialTickState t) (textKept first) ≡ row_lines (loadedTable t) 0 k) z none)
-        (λ (l : 0 < e). rows-follow t (f l).0 e (initialTickState t) (textKept first) (refines-start t (f l).0) kept (λ q u b. (f l).2 q u (omega arith)))
+        (λ (z : e ≡ 0). let none : lines_in (loaded_numbers t) 0 (initial_tick_state t) (text_kept first) ≡ row_lines (loaded_table t) 0 0 = unfold lines_in row_lines in refl in
+        subst⁻¹ (λ (k : ℕ). lines_in (loaded_numbers t) k (initial_tick_state t) (text_kept first) ≡ row_lines (loaded_table t) 0 k) z none)
+        (λ (l : 0 < e). rows-follow t (f l).0 e (initial_tick_state t) (text_kept first) (refines-start t (f l).0) kept (λ q u b. (f l).2 q u (omega arith)))
         (eq-zero-or-pos e)
 
     -- the registers's numbers
@@ -128,22 +128,22 @@ module _
       whole = λ f. unfold remaining in
           let z : ready - 0 ≡ ready = omega arith in
           let y : e - registers.tick ≡ e = omega (arith, tick) in
-          ap₂ (λ (i j : ℕ). take i line ++ linesIn (loadedNumbers t) j (runStateOf first) (textKept first)) z y
-          ∙ ap₂ (λ (x y : List ℕ). x ++ y) (put_front q.0) (ap (λ (s : TickState). linesIn (loadedNumbers t) e s (textKept first)) m ∙ rows f);
+          ap₂ (λ (i j : ℕ). take i line ++ lines_in (loaded_numbers t) j (run_state_of first) (text_kept first)) z y
+          ∙ ap₂ (λ (x y : List ℕ). x ++ y) (put_front q.0) (ap (λ (s : TickState). lines_in (loaded_numbers t) e s (text_kept first)) m ∙ rows f);
     }
 
 -- THE WORDS
 
 -- what was loaded is small enough to be printed
-pub load-small : (ws : List ℕ) (r : Loaded) → LoadOf ws r → (r.cores ≤ mostCores) × (r.count ≤ mostTasks)
+pub load-small : (ws : List ℕ) (r : Loaded) → LoadOf ws r → (r.cores ≤ most_cores) × (r.count ≤ most_tasks)
 load-small ws r l = go r.answer refl
   where
-    go : (a : Answer) → r.answer ≡ a → (r.cores ≤ mostCores) × (r.count ≤ mostTasks)
-    go Taken e =
-        let h = l.holds (ap answerMeaning e) in
-        (omega (arith, h.cores, (passed-cores ws (l.passed.0 (ap answerMeaning e))).1), h.count-from.1)
+    go : (a : Answer) → r.answer ≡ a → (r.cores ≤ most_cores) × (r.count ≤ most_tasks)
+    go Passed e =
+        let h = l.holds (ap load_meaning e) in
+        (omega (arith, h.cores, (passed-cores ws (l.passed.0 (ap load_meaning e))).1), h.count-from.1)
     go (Refused n p) e =
-        let z : r ≡ refusal n p = l.zeros n p (ap answerMeaning e) in
+        let z : r ≡ refusal n p = l.zeros n p (ap load_meaning e) in
         (omega (arith, ap (λ (x : Loaded). x.cores) z), omega (arith, ap (λ (x : Loaded). x.count) z))
 
 -- a width that is within its limits
@@ -151,83 +151,98 @@ one_in : (m v : ℕ) → InRange 1 m v → ¬ OneOut m v
 one_in m v f w = ⊎_elim (λ x. omega (arith, f.0)) (λ x. omega (arith, f.1)) w
 
 -- a task that is within its limits is not turned down
-inside-in : (m : ℕ) (τ : plain.Task) → Inside m τ → taskOut m τ ≡ false
+inside-in : (m : ℕ) (τ : plain.Task) → Inside m τ → task_out m τ ≡ false
 inside-in m τ i =
-    not-true-false (taskOut m τ) (λ e.
+    not-true-false (task_out m τ) (λ e.
     ⊎_elim
-    (λ w. ⊎_elim (one_in m τ.oddWidth i.odd-from) (one_in m τ.evenWidth i.even-from) w)
-    (λ w. ⊎_elim (λ x. omega (arith, i.offset-most))
-    (λ w. ⊎_elim (λ x. x i.length_from) (λ w. ⊎_elim (λ x. x i.period-from) (λ x. x i.deadline-from) w) w) w)
+    (λ w. ⊎_elim (one_in m τ.odd_width i.odd-from) (one_in m τ.even_width i.even-from) w)
+    (λ w. ⊎_elim (λ x. omega (arith, i.offset-most)) (λ w. ⊎_elim (λ x. x i.length_from) (λ w. ⊎_elim (λ x. x i.period-from) (λ x. x i.deadline-from) w) w) w)
     ((task-decides m τ).0 e))
 
 -- and what was loaded is valid
-load-valid : (ws : List ℕ) (r : Loaded) → LoadOf ws r → tableValid r ≡ true
+load-valid : (ws : List ℕ) (r : Loaded) → LoadOf ws r → table_valid r ≡ true
 load-valid ws r l = go r.answer refl
   where
-    go : (a : Answer) → r.answer ≡ a → tableValid r ≡ true
-    go Taken e = none_out r (load-small ws r l).1 (load-small ws r l).0 in-limits
+    go : (a : Answer) → r.answer ≡ a → table_valid r ≡ true
+    go Passed e = none_out r (load-small ws r l).1 (load-small ws r l).0 in-limits
       where
         in-limits : (p : ℕ) → p < r.count → out_at r p ≡ false
         in-limits p b =
-            let h = l.holds (ap answerMeaning e) in
-            let i = passed-inside ws (l.passed.0 (ap answerMeaning e)) p (omega (arith, h.count)) in
-            let same : task_of (get_or r.tasks p noTask) ≡ task (table_of ws) p =
-            sym (task-at r.tasks r.count p b) ∙ ap (λ (τs : List plain.Task). get_or τs p plain.absentTask) h.tasks in
-            ap₂ (λ (m : ℕ) (τ : plain.Task). taskOut m τ) (ap₂ unfencedCount h.fence h.cores) same
-            ∙ inside-in (unfencedCount (fence ws) (coreCount ws)) (task (table_of ws) p) i
-    go (Refused n p) e = subst⁻¹ (λ (x : Loaded). tableValid x ≡ true) (l.zeros n p (ap answerMeaning e)) (unfold tableValid any in refl)
+            let h = l.holds (ap load_meaning e) in
+            let i = passed-inside ws (l.passed.0 (ap load_meaning e)) p (omega (arith, h.count)) in
+            let same : task_of (get_or r.tasks p no_task) ≡ task (table_of ws) p =
+            sym (task-at r.tasks r.count p b) ∙ ap (λ (τs : List plain.Task). get_or τs p plain.absent_task) h.tasks in
+            ap₂ (λ (m : ℕ) (τ : plain.Task). task_out m τ) (ap₂ unfenced_count h.fence h.cores) same ∙ inside-in (unfenced_count (fence ws) (core_count ws)) (task (table_of ws) p) i
+    go (Refused n p) e = subst⁻¹ (λ (x : Loaded). table_valid x ≡ true) (l.zeros n p (ap load_meaning e)) (unfold table_valid any in refl)
+
+end-case : (v : model.Verdict) (h : ℕ) → end_of (verdict_case (judged v)) h ≡ rows_printed v h
+end-case (model.Firm a b) h = refl
+end-case (model.Full a b) h = refl
+end-case (model.Miss a b) h = refl
+
+-- the rows that are printed are those of the run before the first miss, up to the horizon
+rows-met :
+    (s : Table) → AllValid s → (v : model.Verdict) → verdict s ≡ v
+    → (rows_printed v (horizon s) ≤ horizon s) × ((q u : ℕ) → u < rows_printed v (horizon s) → ¬ Missed s q u)
+rows-met s ok (model.Firm a b) e = (omega arith, λ q u l. (verdict-exact s ok).accepted.0 (a, b, inl e) q u)
+rows-met s ok (model.Full a b) e = (omega arith, λ q u l. (verdict-exact s ok).accepted.0 (a, b, inr e) q u)
+rows-met s ok (model.Miss t p) e = (inside, first.no-earlier)
+  where
+    first : FirstMiss s t p
+    first = ((verdict-exact s ok).miss t p).0 e
+
+    inside : t ≤ horizon s
+    inside =
+        let near : ¬ (horizon s < t) = λ far. horizon-enough s ok (λ q u l. first.no-earlier q u (omega arith)) first.place.0 t first.missed in
+        omega arith
 
 pub words-made :
     (ws : List ℕ) (r : Loaded) (v : Verdict) (p : Printer) → LoadOf ws r → Judged ws v → PrinterStartOf r (end_of v r.horizon) v p → WordsPrinter ws p
 words-made ws r v p l j s = go r.answer refl
   where
     go : (a : Answer) → r.answer ≡ a → WordsPrinter ws p
-    go Taken e = record {
+    go Passed e = record {
       valid = ok;
       whole =
           rest-valid p ok ∙ s.whole (λ h. (f, near, λ q u b. rows.1 q u (subst (λ (x : ℕ). u < x) ends b)))
-          ∙ ap₂ (λ (x : Verdict) (n : ℕ). firstLine (verdictMeaning x) ++ row_lines (loadedTable r) 0 n) is ends
-          ∙ ap (λ (x : JudgeAnswer). firstLine x ++ row_lines (loadedTable r) 0 (rowsPrinted (verdict (loadedTable r)) (horizon (loadedTable r))))
-          (meaning-case (judged (verdict (loadedTable r))))
-          ∙ printed-is (loadedTable r) ∙ ap printed (same-table ws r l e)
-          ∙ sym (ap (λ (a : Answer). printedBy a (table_of ws)) passes);
+          ∙ ap₂ (λ (x : Verdict) (n : ℕ). first_line (verdict_meaning x) ++ row_lines (loaded_table r) 0 n) is ends
+          ∙ ap (λ (x : JudgeAnswer). first_line x ++ row_lines (loaded_table r) 0 (rows_printed (verdict (loaded_table r)) (horizon (loaded_table r)))) (meaning-case (judged (verdict (loaded_table r))))
+          ∙ printed-is (loaded_table r) ∙ ap printed (same-table ws r l e)
+          ∙ sym (ap (λ (a : Answer). printed_by a (table_of ws)) passes);
     }
       where
         f : Fit r
         f = fit ws r l e
 
-        passes : answer_of ws ≡ Taken
-        passes = (passed-exact ws).1 (l.passed.0 (ap answerMeaning e))
+        passes : answer_of ws ≡ Passed
+        passes = (passed-exact ws).1 (l.passed.0 (ap load_meaning e))
 
-        is : v ≡ verdictCase (judged (verdict (loadedTable r)))
-        is = j.value ∙ passed_is ws passes ∙ ap (λ (x : Table). verdictCase (judged (verdict x))) (sym (same-table ws r l e))
+        is : v ≡ verdict_case (judged (verdict (loaded_table r)))
+        is = j.value ∙ passed_is ws passes ∙ ap (λ (x : Table). verdict_case (judged (verdict x))) (sym (same-table ws r l e))
 
-        rows :
-            (rowsPrinted (verdict (loadedTable r)) (horizon (loadedTable r)) ≤ horizon (loadedTable r))
-            × ((q u : ℕ) → u < rowsPrinted (verdict (loadedTable r)) (horizon (loadedTable r)) → ¬ Missed (loadedTable r) q u)
-        rows = rows-met (loadedTable r) f.valid (verdict (loadedTable r)) refl
+        rows : (rows_printed (verdict (loaded_table r)) (horizon (loaded_table r)) ≤ horizon (loaded_table r)) × ((q u : ℕ) → u < rows_printed (verdict (loaded_table r)) (horizon (loaded_table r)) → ¬ Missed (loaded_table r) q u)
+        rows = rows-met (loaded_table r) f.valid (verdict (loaded_table r)) refl
 
-        ends : end_of v r.horizon ≡ rowsPrinted (verdict (loadedTable r)) (horizon (loadedTable r))
-        ends = ap₂ (λ (x : Verdict) (h : ℕ). end_of x h) is f.horizon ∙ end-case (verdict (loadedTable r)) (horizon (loadedTable r))
+        ends : end_of v r.horizon ≡ rows_printed (verdict (loaded_table r)) (horizon (loaded_table r))
+        ends = ap₂ (λ (x : Verdict) (h : ℕ). end_of x h) is f.horizon ∙ end-case (verdict (loaded_table r)) (horizon (loaded_table r))
 
         near : end_of v r.horizon ≤ r.horizon
         near = omega (arith, ends, rows.0, f.horizon)
 
         ok : valid p ≡ true
-        ok = s.valid (load-valid ws r l) (omega (arith, near, (l.holds (ap answerMeaning e)).horizon-most))
+        ok = s.valid (load-valid ws r l) (omega (arith, near, (l.holds (ap load_meaning e)).horizon-most))
 
-        printed-is : (x : Table) → firstLine (judged (verdict x)) ++ row_lines x 0 (rowsPrinted (verdict x) (horizon x)) ≡ printed x
+        printed-is : (x : Table) → first_line (judged (verdict x)) ++ row_lines x 0 (rows_printed (verdict x) (horizon x)) ≡ printed x
         printed-is x = unfold printed in refl
     go (Refused n q) e = record {
       valid = ok;
       whole =
-          rest-valid p ok ∙ s.whole (λ h. absurd (omega (arith, ends)))
-          ∙ ap₂ (λ (x : Verdict) (m : ℕ). firstLine (verdictMeaning x) ++ row_lines (loadedTable r) 0 m) is ends
-          ∙ none ∙ sym (ap (λ (a : Answer). printedBy a (table_of ws)) refuses);
+          rest-valid p ok ∙ s.whole (λ h. absurd (omega (arith, ends))) ∙ ap₂ (λ (x : Verdict) (m : ℕ). first_line (verdict_meaning x) ++ row_lines (loaded_table r) 0 m) is ends
+          ∙ none ∙ sym (ap (λ (a : Answer). printed_by a (table_of ws)) refuses);
     }
       where
         refuses : answer_of ws ≡ Refused n q
-        refuses = (refusal-exact ws n q).1 ((l.refused n q).0 (ap answerMeaning e))
+        refuses = (refusal-exact ws n q).1 ((l.refused n q).0 (ap load_meaning e))
 
         is : v ≡ judge.Refused n q
         is = j.value ∙ refused-is ws n q refuses
@@ -238,8 +253,8 @@ words-made ws r v p l j s = go r.answer refl
         ok : valid p ≡ true
         ok = s.valid (load-valid ws r l) (omega (arith, ends))
 
-        none : firstLine (refused n q) ++ row_lines (loadedTable r) 0 0 ≡ firstLine (refused n q)
-        none = unfold row_lines in append-nil (firstLine (refused n q))
+        none : first_line (refused n q) ++ row_lines (loaded_table r) 0 0 ≡ first_line (refused n q)
+        none = unfold row_lines in append-nil (first_line (refused n q))
 
 -- THE BYTES
 
@@ -248,25 +263,25 @@ pub read_fits : (bs : List ℕ) (r : Input) → ReadOf bs r → r.count ≤ leng
 read_fits bs r h = subst⁻¹ (λ (i : Input). i.count ≤ length i.words) h.value (go (words_of bs))
   where
     go : (x : Words) → (input_of x).count ≤ length (input_of x).words
-    go (readWords ws) = omega (arith, length-append ws (replicate (mostNumbers - length ws) 0))
-    go noText = omega arith
+    go (read_words ws) = omega (arith, length-append ws (replicate (most_numbers - length ws) 0))
+    go no_text = omega arith
 
 -- no words are turned down with 1
-no_words : printedBy (answer_of []) (table_of []) ≡ firstLine (refused 1 0)
-unfolding answer_of headerNumber
+no_words : printed_by (answer_of []) (table_of []) ≡ first_line (refused 1 0)
+unfolding answer_of header_number
 no_words = refl
 
 pub bytes-made : (bs : List ℕ) (r : Input) (p : Printer) → ReadOf bs r → WordsPrinter (take r.count r.words) p → MadeFrom bs p
 bytes-made bs r p h w = record { valid = w.valid; whole = w.whole ∙ go (words_of bs) refl ∙ out }
   where
-    out : outputOf (words_of bs) ≡ output bs
+    out : output_of (words_of bs) ≡ output bs
     out = unfold output in refl
 
     read-words : (x : Words) → words_of bs ≡ x → take r.count r.words ≡ take (input_of x).count (input_of x).words
     read-words x e = ap (λ (i : Input). take i.count i.words) (h.value ∙ ap input_of e)
 
-    go : (x : Words) → words_of bs ≡ x → printedBy (answer_of (take r.count r.words)) (table_of (take r.count r.words)) ≡ outputOf (words_of bs)
-    go (readWords ws) e =
-        ap (λ (l : List ℕ). printedBy (answer_of l) (table_of l)) (read-words (readWords ws) e ∙ take-append_seam ws (replicate (mostNumbers - length ws) 0))
-        ∙ ap outputOf (sym e)
-    go noText e = ap (λ (l : List ℕ). printedBy (answer_of l) (table_of l)) (read-words noText e) ∙ no_words ∙ ap outputOf (sym e)
+    go : (x : Words) → words_of bs ≡ x → printed_by (answer_of (take r.count r.words)) (table_of (take r.count r.words)) ≡ output_of (words_of bs)
+    go (read_words ws) e =
+        ap (λ (l : List ℕ). printed_by (answer_of l) (table_of l)) (read-words (read_words ws) e ∙ take-append_seam ws (replicate (most_numbers - length ws) 0))
+        ∙ ap output_of (sym e)
+    go no_text e = ap (λ (l : List ℕ). printed_by (answer_of l) (table_of l)) (read-words no_text e) ∙ no_words ∙ ap output_of (sym e)

@@ -20,17 +20,17 @@ concatenated [] = []
 concatenated (x ∷ xs) = x ++ concatenated xs
 
 -- the number of bytes that the buffers hold
-unfoldable pub totalRoom : List ℕ → ℕ
-totalRoom [] = 0
-totalRoom (n ∷ ns) = n + totalRoom ns
+unfoldable pub total_room : List ℕ → ℕ
+total_room [] = 0
+total_room (n ∷ ns) = n + total_room ns
 
 -- the claims about the pieces of an input
 pub record Printed (bs : List ℕ) (p' : Printer) (sizes : List ℕ) (parts : List (List ℕ)) : Type 0 where
   -- put together they are the front of the output, as much of it as the buffers hold
-  pub front : concatenated parts ≡ take (totalRoom sizes) (output bs)
+  pub front : concatenated parts ≡ take (total_room sizes) (output bs)
   -- once the buffers hold as many bytes as the output has, they are the whole of it
-  pub all : length (output bs) ≤ totalRoom sizes → concatenated parts ≡ output bs
+  pub all : length (output bs) ≤ total_room sizes → concatenated parts ≡ output bs
   -- .. and every further piece is empty: there are finitely many
-  pub ends : length (output bs) ≤ totalRoom sizes → (before after : List ℕ) (r : Piece) → PieceOf p' before after r → r.length ≡ 0
+  pub ends : length (output bs) ≤ total_room sizes → (before after : List ℕ) (r : Piece) → PieceOf p' before after r → r.length ≡ 0
   -- before that a piece into a buffer that is not empty is not empty
-  pub goes_on : totalRoom sizes < length (output bs) → (before after : List ℕ) (r : Piece) → PieceOf p' before after r → 0 < length before → 0 < r.length
+  pub goes_on : total_room sizes < length (output bs) → (before after : List ℕ) (r : Piece) → PieceOf p' before after r → 0 < length before → 0 < r.length

@@ -1,9 +1,9 @@
 // Everything that the program prints for an input, piece by piece.
 ghost use Rattle.std.specs.Prelude.{true, ◌≡◌, ◌≤◌, take};
-ghost use Rattle.simulation.specs.TickState.{numbersBy, tickStateOf};
+ghost use Rattle.simulation.specs.TickState.{numbers_by, tick_state_of};
 ghost use Rattle.printer.specs.Valid.{valid};
 ghost use Rattle.printer.specs.Printer.{Stepping, Stepped, PrinterStartOf, WordsPrinter, MadeFrom, PieceOf};
-ghost use Rattle.model.specs.Sizes.{mostCores, mostTasks};
+ghost use Rattle.model.specs.Sizes.{most_cores, most_tasks};
 
 mod cells; // cells.rt: the text of a row's cores
 mod valid; // valid.rt: whether a printer can be stepped
@@ -55,8 +55,8 @@ fn next_line(
     text: &mut [u8; CELLS],
     line: &mut [u8; LINE],
 ) -> Stage
-    requires { Stepping (numbersBy setting widths.now times.now) stage places.old text.old line.old }
-    ensures { Stepped (numbersBy setting widths.now times.now) (tickStateOf stage.registers places.old)
+    requires { Stepping (numbers_by setting widths.now times.now) stage places.old text.old line.old }
+    ensures { Stepped (numbers_by setting widths.now times.now) (tick_state_of stage.registers places.old)
         (take stage.text text.old) line.old result places.new text.new line.new }
 {
     let registers = stage.registers;
@@ -84,7 +84,7 @@ fn next_line(
 
 // The printer of a verdict's line and of the rows of its table up to a tick.
 fn start(table: Loaded, end: u32, verdict: Verdict) -> Printer
-    requires { (table.cores ≤ mostCores) × (table.count ≤ mostTasks) }
+    requires { (table.cores ≤ most_cores) × (table.count ≤ most_tasks) }
     ensures { PrinterStartOf table end verdict result }
 {
     let columns = simulation::columns::columns_of(table);

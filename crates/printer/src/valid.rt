@@ -1,7 +1,7 @@
 // Whether the numbers of any printer are in their limits.
 ghost use Rattle.std.specs.Prelude.{◌≡◌};
 ghost use Rattle.simulation.specs.Places.{segment};
-ghost use Rattle.printer.specs.Valid.{tableValid, owed, within, valid};
+ghost use Rattle.printer.specs.Valid.{table_valid, owed, within, valid};
 
 use crate::Printer;
 use model::{MOST_CORES, MOST_TASKS};
@@ -12,7 +12,7 @@ use text::row::{CELLS, LINE};
 
 // Whether a table's count, core count and tasks are in their limits.
 fn table_valid(table: Loaded) -> bool
-    ensures { result ≡ tableValid table }
+    ensures { result ≡ table_valid table }
 {
     let count = table.count;
     let cores = table.cores;

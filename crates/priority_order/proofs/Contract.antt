@@ -17,17 +17,17 @@ use Rattle.table.specs.Words.{count, table_of}
 use Rattle.judge.proofs.Contract.{judged-exact}
 use Rattle.judge.specs.declared.Verdict.{Verdict}
 use Rattle.judge.specs.declared.Verdict.TheVariants as judge
-use Rattle.judge.specs.JudgeAnswer.{verdictMeaning}
+use Rattle.judge.specs.JudgeAnswer.{verdict_meaning}
 use Rattle.judge.specs.Judged.{Judged}
 use Rattle.priority_order.specs.declared.Outcome.TheVariants.{Firm, Full, None, Refused}
 use Rattle.priority_order.specs.declared.OrderAnswer.{OrderAnswer}
 use Rattle.priority_order.specs.declared.repair.Late.{Late}
-use Rattle.priority_order.specs.Answer.{DoesNotFit, Fits, OrderOf, Tried, answerBy, answer_in, givenOrder, no_order, orderAnswerOf, order_by, positionsOf}
-use Rattle.priority_order.specs.Orders.{Permutation, ownOrder, reordered}
-use Rattle.priority_order.specs.Repair.{Choice, just, keptAfter, lateOf, laterOf, nextOrder}
-use Rattle.priority_order.specs.Repair.{noMiss, nothing, powerAfter, repairs, same, unlessKept, verdictIn}
-use Rattle.priority_order.specs.Sorted.{sortedOrder, sortedOrders}
-use Rattle.priority_order.specs.Tried.{firstThat, isAccepted, isFirm, latestFrom, or_else, sortedFirst, triedOrders, unlessAccepted}
+use Rattle.priority_order.specs.Answer.{DoesNotFit, Fits, OrderOf, Tried, answer_by, answer_in, given_order, no_order, order_answer_of, order_by, positions_of}
+use Rattle.priority_order.specs.Orders.{Permutation, own_order, reordered}
+use Rattle.priority_order.specs.Repair.{Choice, just, kept_after, late_of, later_of, next_order}
+use Rattle.priority_order.specs.Repair.{no_miss, nothing, power_after, repairs, same, unless_kept, verdict_in}
+use Rattle.priority_order.specs.Sorted.{sorted_order, sorted_orders}
+use Rattle.priority_order.specs.Tried.{first_that, is_accepted, is_firm, latest_from, or_else, sorted_first, tried_orders, unless_accepted}
 use Rattle.priority_order.proofs.Choosing.{firm-accepted, first-just, first-nothing}
 use Rattle.priority_order.proofs.Moving.{own-permutation}
 use Rattle.priority_order.proofs.Reordering.{order-applies, order-table, tasks-few}
@@ -51,7 +51,7 @@ every_append n [] us e f = f
 every_append n (o ∷ os) us e f = (e.0, every_append n os us e.1 f)
 
 module _ (ws : List ℕ) (none : NoneApplies ws) where
-  every-sorted : (i k : ℕ) → Every (count ws) (map (sortedOrder (table_of ws)) (up_from i k))
+  every-sorted : (i k : ℕ) → Every (count ws) (map (sorted_order (table_of ws)) (up_from i k))
   unfolding Every up_from
   every-sorted i zero = tt
   every-sorted i (suc k) = (sorted-order ws none i, every-sorted (suc i) k)
@@ -60,59 +60,59 @@ module _ (ws : List ℕ) (none : NoneApplies ws) where
   unfolding Every repairs
   every-repair zero kept number power o x = tt
   every-repair (suc m) kept number power o x =
-      go (nextOrder ws o) refl (λ n y. every-repair m (keptAfter number power kept n) (suc number) (powerAfter number power) n y)
+      go (next_order ws o) refl (λ n y. every-repair m (kept_after number power kept n) (suc number) (power_after number power) n y)
     where
-      go : (c : Choice) → nextOrder ws o ≡ c
-          → ((n : List ℕ) → Permutation (count ws) n → Every (count ws) (repairs ws m (keptAfter number power kept n) (suc number) (powerAfter number power) n))
+      go : (c : Choice) → next_order ws o ≡ c
+          → ((n : List ℕ) → Permutation (count ws) n → Every (count ws) (repairs ws m (kept_after number power kept n) (suc number) (power_after number power) n))
           → Every (count ws)
-          (unlessKept kept c (λ n. n ∷ repairs ws m (keptAfter number power kept n) (suc number) (powerAfter number power) n))
+          (unless_kept kept c (λ n. n ∷ repairs ws m (kept_after number power kept n) (suc number) (power_after number power) n))
       go nothing e ih = tt
       go (just n) e ih = kept-or (same n kept)
         where
           here : Permutation (count ws) n
           here = next-permutation ws none o n x e
 
-          kept-or : (t : Bool) → Every (count ws) (cond t [] (n ∷ repairs ws m (keptAfter number power kept n) (suc number) (powerAfter number power) n))
+          kept-or : (t : Bool) → Every (count ws) (cond t [] (n ∷ repairs ws m (kept_after number power kept n) (suc number) (power_after number power) n))
           kept-or true = tt
           kept-or false = (here, ih n here)
 
   latest-permutation : (x : Late) (os : List (List ℕ)) → Permutation (count ws) x.order → Every (count ws) os
-      → Permutation (count ws) (latestFrom ws x os).order
-  unfolding Every latestFrom
+      → Permutation (count ws) (latest_from ws x os).order
+  unfolding Every latest_from
   latest-permutation x [] p e = p
-  latest-permutation x (o ∷ os) p e = latest-permutation (laterOf x (lateOf (verdictIn ws o) o)) os
-      (go ((lateOf (verdictIn ws o) o).some && (not x.some || ltb x.tick (lateOf (verdictIn ws o) o).tick))) e.1
+  latest-permutation x (o ∷ os) p e = latest-permutation (later_of x (late_of (verdict_in ws o) o)) os
+      (go ((late_of (verdict_in ws o) o).some && (not x.some || ltb x.tick (late_of (verdict_in ws o) o).tick))) e.1
     where
-      go : (t : Bool) → Permutation (count ws) (cond {A = Late} t (lateOf (verdictIn ws o) o) x).order
-      go true = subst (Permutation (count ws)) (sym (late-order (verdictIn ws o) o)) e.0
+      go : (t : Bool) → Permutation (count ws) (cond {A = Late} t (late_of (verdict_in ws o) o) x).order
+      go true = subst (Permutation (count ws)) (sym (late-order (verdict_in ws o) o)) e.0
       go false = p
 
   -- THE ORDERS TRIED are permutations
-  every-tried : (m : ℕ) → Every (count ws) (triedOrders ws m)
-  unfolding triedOrders Every
-  every-tried m = every_append (count ws) (sortedFirst ws m) _ five (go (firstThat isAccepted ws (sortedFirst ws m)))
+  every-tried : (m : ℕ) → Every (count ws) (tried_orders ws m)
+  unfolding tried_orders Every
+  every-tried m = every_append (count ws) (sorted_first ws m) _ five (go (first_that is_accepted ws (sorted_first ws m)))
     where
-      five : Every (count ws) (sortedFirst ws m)
-      five = every-sorted 0 (min m sortedOrders)
+      five : Every (count ws) (sorted_first ws m)
+      five = every-sorted 0 (min m sorted_orders)
 
       late : Late
-      late = latestFrom ws (noMiss ownOrder) (sortedFirst ws m)
+      late = latest_from ws (no_miss own_order) (sorted_first ws m)
 
-      some : (t : Bool) → Every (count ws) (cond t (repairs ws (m - sortedOrders) late.order 1 1 late.order) [])
+      some : (t : Bool) → Every (count ws) (cond t (repairs ws (m - sorted_orders) late.order 1 1 late.order) [])
       some true =
-          every-repair (m - sortedOrders) late.order 1 1 late.order
-          (latest-permutation (noMiss ownOrder) (sortedFirst ws m) (own-permutation (count ws) (tasks-few ws none)) five)
+          every-repair (m - sorted_orders) late.order 1 1 late.order
+          (latest-permutation (no_miss own_order) (sorted_first ws m) (own-permutation (count ws) (tasks-few ws none)) five)
       some false = tt
 
-      go : (c : Choice) → Every (count ws) (unlessAccepted c (cond late.some (repairs ws (m - sortedOrders) late.order 1 1 late.order) []))
+      go : (c : Choice) → Every (count ws) (unless_accepted c (cond late.some (repairs ws (m - sorted_orders) late.order 1 1 late.order) []))
       go nothing = some late.some
       go (just o) = tt
 
   pub tried-permutation : (m : ℕ) (o : List ℕ) → Tried ws m o → Permutation (count ws) o
-  tried-permutation m o t = subst (Permutation (count ws)) t.2 (every-at (count ws) (triedOrders ws m) (every-tried m) t.0 t.1)
+  tried-permutation m o t = subst (Permutation (count ws)) t.2 (every-at (count ws) (tried_orders ws m) (every-tried m) t.0 t.1)
 
   -- an order that is accepted fits
-  fits : (m : ℕ) (o : List ℕ) → Tried ws m o → (v : Verdict) → verdictIn ws o ≡ v → isAccepted v ≡ true → Fits ws m o v
+  fits : (m : ℕ) (o : List ℕ) → Tried ws m o → (v : Verdict) → verdict_in ws o ≡ v → is_accepted v ≡ true → Fits ws m o v
   fits m o t v e a =
       let x = tried-permutation m o t in
       let j : Judged (reordered ws o) v = subst (Judged (reordered ws o)) e (judged-exact (reordered ws o)) in
@@ -125,40 +125,40 @@ module _ (ws : List ℕ) (none : NoneApplies ws) where
         never = y.1;
       }
     where
-      never : (u : Verdict) → Judged (reordered ws o) u → isAccepted u ≡ true → NoneApplies (reordered ws o) × NeverMissed (table_of (reordered ws o))
+      never : (u : Verdict) → Judged (reordered ws o) u → is_accepted u ≡ true → NoneApplies (reordered ws o) × NeverMissed (table_of (reordered ws o))
       never (judge.Firm a b) j h = j.accepted.0 (a, b, inl refl)
       never (judge.Full a b) j h = j.accepted.0 (a, b, inr refl)
       never (judge.Miss a b) j h = absurd (false≢true h)
       never (judge.Refused a b) j h = absurd (false≢true h)
 
   -- one that is not does not
-  unfit : (o : List ℕ) → Permutation (count ws) o → isAccepted (verdictIn ws o) ≡ false → DoesNotFit ws o
-  unfit o x h = go (verdictIn ws o) refl h
+  unfit : (o : List ℕ) → Permutation (count ws) o → is_accepted (verdict_in ws o) ≡ false → DoesNotFit ws o
+  unfit o x h = go (verdict_in ws o) refl h
     where
       us : List ℕ
       us = reordered ws o
 
-      go : (v : Verdict) → verdictIn ws o ≡ v → isAccepted v ≡ false → DoesNotFit ws o
+      go : (v : Verdict) → verdict_in ws o ≡ v → is_accepted v ≡ false → DoesNotFit ws o
       go (judge.Firm a b) e f = absurd (false≢true (sym f))
       go (judge.Full a b) e f = absurd (false≢true (sym f))
-      go (judge.Miss t p) e f = inl (t, p, (((judged-exact us).miss t p).0 (ap verdictMeaning e)).1)
+      go (judge.Miss t p) e f = inl (t, p, (((judged-exact us).miss t p).0 (ap verdict_meaning e)).1)
       go (judge.Refused n p) e f =
-          let first = ((judged-exact us).refused n p).0 (ap verdictMeaning e) in
+          let first = ((judged-exact us).refused n p).0 (ap verdict_meaning e) in
           let y = order-applies ws none o x n p first.0 in
           inr (subst (λ (k : ℕ). First us 9 k) y.1 (subst (λ (k : ℕ). First us k p) y.0 first))
 
   -- THE CHOICE
   module _ (m : ℕ) where
     abbrev os : List (List ℕ)
-    os = triedOrders ws m
+    os = tried_orders ws m
 
     abbrev Right : OrderAnswer → Type 0
-    Right r = r ≡ orderAnswerOf ws m → OrderOf ws m r
+    Right r = r ≡ order_answer_of ws m → OrderOf ws m r
 
     never-refused : (n p : ℕ) → First ws n p → ⊥
     never-refused n p f = none n p f.0
 
-    right-given : (o : List ℕ) → Tried ws m o → (v : Verdict) → verdictIn ws o ≡ v → isAccepted v ≡ true → Right (givenOrder v (positionsOf (count ws) o))
+    right-given : (o : List ℕ) → Tried ws m o → (v : Verdict) → verdict_in ws o ≡ v → is_accepted v ≡ true → Right (given_order v (positions_of (count ws) o))
     right-given o t (judge.Firm a b) e h value = record {
       value = value;
       refused = λ n p. (λ q. let z : ◌≡◌ {A = ℕ} 0 1 = cc in absurd (omega arith), λ f. absurd (never-refused n p f));
@@ -176,7 +176,7 @@ module _ (ws : List ℕ) (none : NoneApplies ws) where
     right-given o t (judge.Miss a b) e h value = absurd (false≢true h)
     right-given o t (judge.Refused a b) e h value = absurd (false≢true h)
 
-    right-none : firstThat isAccepted ws os ≡ nothing → Right (no_order (None (0 + length os)))
+    right-none : first_that is_accepted ws os ≡ nothing → Right (no_order (None (0 + length os)))
     right-none e value = record {
       value = value;
       refused = λ n p. (λ q. let z : ◌≡◌ {A = ℕ} 0 1 = cc in absurd (omega arith), λ f. absurd (never-refused n p f));
@@ -185,7 +185,7 @@ module _ (ws : List ℕ) (none : NoneApplies ws) where
       none = λ n q. (
         count_of n q,
         λ o t. unfit o (tried-permutation m o t)
-            (subst (λ (p : List ℕ). isAccepted (verdictIn ws p) ≡ false) t.2 (first-nothing ws isAccepted os e t.0 t.1)),
+            (subst (λ (p : List ℕ). is_accepted (verdict_in ws p) ≡ false) t.2 (first-nothing ws is_accepted os e t.0 t.1)),
       );
     }
       where
@@ -194,28 +194,28 @@ module _ (ws : List ℕ) (none : NoneApplies ws) where
 
     -- by what is first Firm, and first accepted
     right : Right (answer_in ws 0 os)
-    right = go (firstThat isFirm ws os) refl (firstThat isAccepted ws os) refl
+    right = go (first_that is_firm ws os) refl (first_that is_accepted ws os) refl
       where
-        go : (c : Choice) → firstThat isFirm ws os ≡ c → (d : Choice) → firstThat isAccepted ws os ≡ d → Right (answerBy ws (0 + length os) (or_else c d))
+        go : (c : Choice) → first_that is_firm ws os ≡ c → (d : Choice) → first_that is_accepted ws os ≡ d → Right (answer_by ws (0 + length os) (or_else c d))
         go (just o) e d f =
-            let y = first-just ws isFirm os o e in
-            right-given o (y.0, y.1, y.2) (verdictIn ws o) refl (firm-accepted (verdictIn ws o) y.3)
+            let y = first-just ws is_firm os o e in
+            right-given o (y.0, y.1, y.2) (verdict_in ws o) refl (firm-accepted (verdict_in ws o) y.3)
         go nothing e (just o) f =
-            let y = first-just ws isAccepted os o f in
-            right-given o (y.0, y.1, y.2) (verdictIn ws o) refl y.3
+            let y = first-just ws is_accepted os o f in
+            right-given o (y.0, y.1, y.2) (verdict_in ws o) refl y.3
         go nothing e nothing f = right-none f
 
     -- the contract of a table that passes
-    pub passed-order : (r : OrderAnswer) → r ≡ answer_in ws 0 (triedOrders ws m) → OrderOf ws m r
+    pub passed-order : (r : OrderAnswer) → r ≡ answer_in ws 0 (tried_orders ws m) → OrderOf ws m r
     passed-order r e = subst (OrderOf ws m) (sym e) (right value)
       where
-        value : answer_in ws 0 (triedOrders ws m) ≡ orderAnswerOf ws m
-        value = unfold orderAnswerOf in ap (λ (a : Answer). order_by a (answer_in ws 0 (triedOrders ws m))) (sym ((passed-exact ws).1 none))
+        value : answer_in ws 0 (tried_orders ws m) ≡ order_answer_of ws m
+        value = unfold order_answer_of in ap (λ (a : Answer). order_by a (answer_in ws 0 (tried_orders ws m))) (sym ((passed-exact ws).1 none))
 
 -- .. of one that is refused
 pub refused-order : (ws : List ℕ) (m n p : ℕ) → First ws n p → (r : OrderAnswer) → r ≡ no_order (Refused n p) → OrderOf ws m r
 refused-order ws m n p first r e = subst (OrderOf ws m) (sym e) (record {
-  value = unfold orderAnswerOf in ap (λ (a : Answer). order_by a (answer_in ws 0 (triedOrders ws m))) (sym ((refusal-exact ws n p).1 first));
+  value = unfold order_answer_of in ap (λ (a : Answer). order_by a (answer_in ws 0 (tried_orders ws m))) (sym ((refusal-exact ws n p).1 first));
   refused = λ k q. (same_first k q, only k q);
   firm = λ c d q. let z : ◌≡◌ {A = ℕ} 0 1 = cc in absurd (omega arith);
   full = λ c d q. let z : ◌≡◌ {A = ℕ} 0 1 = cc in absurd (omega arith);

@@ -4,21 +4,21 @@ use mathlib.Core.Path.{refl, ◌≡◌}
 use Prim.Native.Nat.{ℕ, ◌-◌}
 use lib.ListN.{length, replicate}
 use Rattle.model.proofs.Computing.{computing}
-use Rattle.model.specs.Sizes.{mostTasks}
-use Rattle.table.specs.Answer.{answer_of, byHorizon, byTasks, byWalk, endingOf, firstOut, headerNumber, lastStep}
+use Rattle.model.specs.Sizes.{most_tasks}
+use Rattle.table.specs.Answer.{answer_of, by_horizon, by_tasks, by_walk, ending_of, first_out, header_number, last_step}
 use Rattle.table.specs.Words.{chain, count, visited, table_of}
-use Rattle.judge.specs.Judged.{verdictOf}
+use Rattle.judge.specs.Judged.{verdict_of}
 use Rattle.conflict.specs.Relinked.{linked}
-use Rattle.sentence.specs.Facts.{namedFrom}
-use Rattle.sentence.specs.Waiting.{ranWhileWaiting, tally}
+use Rattle.sentence.specs.Facts.{named_from}
+use Rattle.sentence.specs.Waiting.{ran_while_waiting, tally}
 use Rattle.priority_order.specs.declared.Outcome.{Outcome}
 use Rattle.priority_order.specs.declared.Outcome.TheVariants.{Firm, Full, None, Refused}
 use Rattle.priority_order.specs.declared.OrderAnswer.{OrderAnswer}
-use Rattle.priority_order.specs.Answer.{no_order, orderAnswerOf, positionsOf}
-use Rattle.priority_order.specs.Orders.{moved, ownOrder, reordered, source_of}
-use Rattle.priority_order.specs.Repair.{mostFrom, nextOrder, repairs, same}
-use Rattle.priority_order.specs.Sorted.{keysOf, sortedOrder, sortedTo}
-use Rattle.priority_order.specs.Tried.{firstThat, latestFrom, triedOrders}
+use Rattle.priority_order.specs.Answer.{no_order, order_answer_of, positions_of}
+use Rattle.priority_order.specs.Orders.{moved, own_order, reordered, source_of}
+use Rattle.priority_order.specs.Repair.{most_from, next_order, repairs, same}
+use Rattle.priority_order.specs.Sorted.{keys_of, sorted_order, sorted_to}
+use Rattle.priority_order.specs.Tried.{first_that, latest_from, tried_orders}
 
 -- LINES: the words of a table, the most judgings, and the answer
 
@@ -29,11 +29,11 @@ pub record Line : Type 0 where
 
 -- the value by the definitions
 abbrev pub worked : Line → Line
-worked l = record { words = l.words; judgings = l.judgings; result = orderAnswerOf l.words l.judgings }
+worked l = record { words = l.words; judgings = l.judgings; result = order_answer_of l.words l.judgings }
 
 -- these positions are given; none is
 abbrev gives : List ℕ → ℕ → Outcome → List ℕ → Line
-gives ws m x ps = record { words = ws; judgings = m; result = record { outcome = x; order = ps ++ replicate (mostTasks - length ps) 0 } }
+gives ws m x ps = record { words = ws; judgings = m; result = record { outcome = x; order = ps ++ replicate (most_tasks - length ps) 0 } }
 
 abbrev without : List ℕ → ℕ → Outcome → Line
 without ws m x = record { words = ws; judgings = m; result = no_order x }
@@ -87,8 +87,6 @@ lines =
     ∷ []
 
 pub computed : map worked lines ≡ lines
-unfolding orderAnswerOf positionsOf triedOrders firstThat latestFrom repairs nextOrder same mostFrom keysOf sortedOrder sortedTo moved ownOrder reordered
-    source_of
-    linked verdictOf answer_of byHorizon byTasks byWalk endingOf firstOut headerNumber lastStep chain count visited table_of namedFrom ranWhileWaiting tally
-    computing
+unfolding order_answer_of positions_of tried_orders first_that latest_from repairs next_order same most_from keys_of sorted_order sorted_to moved own_order reordered source_of
+    linked verdict_of answer_of by_horizon by_tasks by_walk ending_of first_out header_number last_step chain count visited table_of named_from ran_while_waiting tally computing
 computed = refl

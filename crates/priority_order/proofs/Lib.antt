@@ -9,5 +9,4 @@ pub mod Repairing
 pub mod Choosing
 pub mod Searching
 pub mod Contract
-pub mod OrderWords
 pub mod Examples

@@ -9,33 +9,33 @@ use lib.ListN.{drop, get_or, length}
 use lib.Seq.{drop-cons}
 use borrow.Author.Tests.{eq-eqb, eqb-true, le-ltb}
 use Rattle.model.proofs.Bools.{and_left, and_right}
-use Rattle.sentence.specs.Facts.{Part, namedFrom}
-use Rattle.priority_order.specs.Repair.{mostFrom, same}
+use Rattle.sentence.specs.Facts.{Part, named_from}
+use Rattle.priority_order.specs.Repair.{most_from, same}
 
 -- the better of the best so far and the count of place i
 abbrev pub better : Part → ℕ → ℕ → Part
 better best i n = cond (ltb best.count n) (record { position = suc i; count = n }) best
 
-pub most-more : (best : Part) (i n : ℕ) (ns : List ℕ) → mostFrom best (namedFrom i (n ∷ ns)) ≡ mostFrom (better best i n) (namedFrom (suc i) ns)
-unfolding mostFrom namedFrom
+pub most-more : (best : Part) (i n : ℕ) (ns : List ℕ) → most_from best (named_from i (n ∷ ns)) ≡ most_from (better best i n) (named_from (suc i) ns)
+unfolding most_from named_from
 most-more best i n ns = go (eqb n 0) refl
   where
     rest : List Part
-    rest = namedFrom (suc i) ns
+    rest = named_from (suc i) ns
 
-    go : (b : Bool) → eqb n 0 ≡ b → mostFrom best (cond b rest (record { position = suc i; count = n } ∷ rest)) ≡ mostFrom (better best i n) rest
+    go : (b : Bool) → eqb n 0 ≡ b → most_from best (cond b rest (record { position = suc i; count = n } ∷ rest)) ≡ most_from (better best i n) rest
     go true e =
         let z : n ≡ 0 = eqb-true n 0 e in
-        ap (λ (t : Bool). mostFrom (cond t (record { position = suc i; count = n }) best) rest) (sym (le-ltb best.count n (omega arith)))
+        ap (λ (t : Bool). most_from (cond t (record { position = suc i; count = n }) best) rest) (sym (le-ltb best.count n (omega arith)))
     go false e = refl
 
 -- the walk has come to place i
 pub most_step : (best : Part) (i : ℕ) (ran : List ℕ) → i < length ran
-    → mostFrom best (namedFrom i (drop i ran)) ≡ mostFrom (better best i (get_or ran i 0)) (namedFrom (suc i) (drop (suc i) ran))
-most_step best i ran l = ap (λ (ns : List ℕ). mostFrom best (namedFrom i ns)) (drop-cons ran i 0 l) ∙ most-more best i (get_or ran i 0) (drop (suc i) ran)
+    → most_from best (named_from i (drop i ran)) ≡ most_from (better best i (get_or ran i 0)) (named_from (suc i) (drop (suc i) ran))
+most_step best i ran l = ap (λ (ns : List ℕ). most_from best (named_from i ns)) (drop-cons ran i 0 l) ∙ most-more best i (get_or ran i 0) (drop (suc i) ran)
 
-pub most-end : (best : Part) (i : ℕ) → best.position ≡ (mostFrom best (namedFrom i [])).position
-unfolding mostFrom namedFrom
+pub most-end : (best : Part) (i : ℕ) → best.position ≡ (most_from best (named_from i [])).position
+unfolding most_from named_from
 most-end best i = refl
 
 -- ---- equal lists

@@ -11,17 +11,17 @@ use lib.Seq.{drop-cons, get_or-take, length-take-le, take-set-lt}
 use borrow.Author.Tests.{ltb-false, ltb-true}
 use Rattle.model.proofs.Lists.{map_at}
 use Rattle.model.specs.Horizon.{horizon}
-use Rattle.model.specs.Sizes.{mostTasks}
-use Rattle.model.specs.Task.{Table, Task, absentTask}
+use Rattle.model.specs.Sizes.{most_tasks}
+use Rattle.model.specs.Task.{Table, Task, absent_task}
 use Rattle.table.proofs.HeaderPasses.{words_long}
 use Rattle.table.proofs.Passed.{passed-count}
 use Rattle.table.proofs.Tasks.{table_at, table-length}
 use Rattle.table.specs.Limits.{HorizonOut}
 use Rattle.table.specs.Numbers.{Applies, NoneApplies, one}
-use Rattle.table.specs.Words.{count, table_of, taskOfRecord, visited}
+use Rattle.table.specs.Words.{count, table_of, task_of_record, visited}
 use Rattle.conflict.proofs.Linked.{All, Distinct, chain-in, chain-reached, distinct_from, next-inside}
 use Rattle.conflict.proofs.LinkedWords.{OnChain, linked-applies, linked-table, same_length}
-use Rattle.conflict.specs.Relinked.{linked, nextWordAt}
+use Rattle.conflict.specs.Relinked.{linked, next_word_at}
 use Rattle.priority_order.specs.Answer.{InOrder}
 use Rattle.priority_order.specs.Orders.{Permutation, reordered}
 
@@ -29,7 +29,7 @@ use Rattle.priority_order.specs.Orders.{Permutation, reordered}
 pub tasks-some : (ws : List ℕ) → NoneApplies ws → 0 < count ws
 tasks-some ws none = omega (arith, (passed-count ws none).0, table-length ws)
 
-pub tasks-few : (ws : List ℕ) → NoneApplies ws → count ws ≤ mostTasks
+pub tasks-few : (ws : List ℕ) → NoneApplies ws → count ws ≤ most_tasks
 tasks-few ws none = omega (arith, (passed-count ws none).1, table-length ws)
 
 -- the walk along an order as code makes it: the records from place i on are yet to be linked, the next of them at word `link`
@@ -90,16 +90,16 @@ module _ (ws : List ℕ) (none : NoneApplies ws) (o : List ℕ) (x : Permutation
   unfolding reordered
   order-table =
       let e = linked-table ws none ns on_chain differ in
-      let tasks : (table_of (reordered ws o)).tasks ≡ map (taskOfRecord ws) ns = ap (λ (s : Table). s.tasks) e in record {
+      let tasks : (table_of (reordered ws o)).tasks ≡ map (task_of_record ws) ns = ap (λ (s : Table). s.tasks) e in record {
         cores = ap (λ (s : Table). s.cores) e;
         fence = ap (λ (s : Table). s.fence) e;
         rule = ap (λ (s : Table). s.rule) e;
-        size = ap {B = ℕ} length tasks ∙ (length-map ns (taskOfRecord ws) ∙ (numbers-length ∙ sym (table-length ws)));
+        size = ap {B = ℕ} length tasks ∙ (length-map ns (task_of_record ws) ∙ (numbers-length ∙ sym (table-length ws)));
         tasks = λ i l.
             let m : i < n = omega (arith, table-length ws) in
-            ap (λ (τs : List Task). get_or τs i absentTask) tasks
-            ∙ (map_at (taskOfRecord ws) ns i absentTask 0 (omega (arith, numbers-length))
-            ∙ (ap (taskOfRecord ws) (numbers-at i m) ∙ sym (table_at ws (get_or o i 0) (x.within i m))));
+            ap (λ (τs : List Task). get_or τs i absent_task) tasks
+            ∙ (map_at (task_of_record ws) ns i absent_task 0 (omega (arith, numbers-length))
+            ∙ (ap (task_of_record ws) (numbers-at i m) ∙ sym (table_at ws (get_or o i 0) (x.within i m))));
       }
 
   -- THE NUMBERS: none but 9
@@ -118,20 +118,20 @@ module _ (ws : List ℕ) (none : NoneApplies ws) (o : List ℕ) (x : Permutation
   }
 
   -- the record at place i, and its words
-  pub linking-record : (i : ℕ) → i < n → (1 ≤ visited ws (get_or o i 0)) × (nextWordAt (visited ws (get_or o i 0)) < length ws)
+  pub linking-record : (i : ℕ) → i < n → (1 ≤ visited ws (get_or o i 0)) × (next_word_at (visited ws (get_or o i 0)) < length ws)
   linking-record i l =
       let h = chain-in ws none (get_or o i 0) (x.within i l) in
       (h.0, next-inside ws (visited ws (get_or o i 0)) h.0 h.1)
 
   pub linking-more : (copy : List ℕ) (link i number : ℕ) → Linking ws o copy link i → i < n → number ≡ visited ws (get_or o i 0)
-      → Linking ws o (set copy link number) (nextWordAt number) (i + 1)
+      → Linking ws o (set copy link number) (next_word_at number) (i + 1)
   unfolding linked
   linking-more copy link i number w l e = record {
     within = omega arith;
     inside = rw e (linking-record i l).1;
     linking =
         rw (add-one i)
-        (ap (linked (nextWordAt number) (drop (suc i) ns)) (take-set-lt (length ws) copy link number w.inside)
+        (ap (linked (next_word_at number) (drop (suc i) ns)) (take-set-lt (length ws) copy link number w.inside)
         ∙ (ap (λ (l : List ℕ). linked link l (take (length ws) copy)) (sym here) ∙ w.linking));
   }
     where

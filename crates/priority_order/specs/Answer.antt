@@ -1,7 +1,7 @@
 -- The answer of `order`, and its contract (issue 45).
 use Rattle.std.specs.Prelude.{List, [], ◌++◌, map, ◌↔◌, ◌⊎◌, ◌≡◌, ℕ, suc, ◌+◌, ◌-◌, ◌<◌, get_or, length, replicate, take}
 use Rattle.model.specs.Lists.{NeverMissed}
-use Rattle.model.specs.Sizes.{mostTasks}
+use Rattle.model.specs.Sizes.{most_tasks}
 use Rattle.model.specs.Task.{Table, task}
 use Rattle.model.specs.Verdict.{FirstMiss}
 use Rattle.table.specs.declared.Answer.{Answer}
@@ -15,55 +15,46 @@ use Rattle.judge.specs.Judged.{Judged}
 use Rattle.priority_order.specs.declared.Outcome.{Outcome}
 use Rattle.priority_order.specs.declared.Outcome.TheVariants.{Firm, Full, None, Refused}
 use Rattle.priority_order.specs.declared.OrderAnswer.{OrderAnswer}
-use Rattle.priority_order.specs.Orders.{Permutation, places_of, reordered}
-use Rattle.priority_order.specs.Repair.{Choice, just, nothing, verdictIn}
-use Rattle.priority_order.specs.Tried.{chosen_of, triedOrders}
+use Rattle.priority_order.specs.Orders.{Permutation, reordered}
+use Rattle.priority_order.specs.Repair.{Choice, just, nothing, verdict_in}
+use Rattle.priority_order.specs.Tried.{chosen_of, tried_orders}
 
 -- 32 numbers: the positions of the given table in an order of n tasks, highest priority first, then zeros
-unfoldable pub positionsOf : ℕ → List ℕ → List ℕ
-positionsOf n o = map suc (take n o) ++ replicate (mostTasks - n) 0
+unfoldable pub positions_of : ℕ → List ℕ → List ℕ
+positions_of n o = map suc (take n o) ++ replicate (most_tasks - n) 0
 
 -- no order is given
 abbrev pub no_order : Outcome → OrderAnswer
-no_order x = record { outcome = x; order = replicate mostTasks 0 }
+no_order x = record { outcome = x; order = replicate most_tasks 0 }
 
 -- an order is given with the verdict on it, which is Firm or Full
-abbrev pub givenOrder : Verdict → List ℕ → OrderAnswer
-givenOrder (judge.Firm a b) ps = record { outcome = Firm a b; order = ps }
-givenOrder (judge.Full a b) ps = record { outcome = Full a b; order = ps }
-givenOrder (judge.Miss t p) ps = no_order (None 0)
-givenOrder (judge.Refused n p) ps = no_order (None 0)
+abbrev pub given_order : Verdict → List ℕ → OrderAnswer
+given_order (judge.Firm a b) ps = record { outcome = Firm a b; order = ps }
+given_order (judge.Full a b) ps = record { outcome = Full a b; order = ps }
+given_order (judge.Miss t p) ps = no_order (None 0)
+given_order (judge.Refused n p) ps = no_order (None 0)
 
 -- the chosen order; or none of the orders tried, with their number
-abbrev pub answerBy : List ℕ → ℕ → Choice → OrderAnswer
-answerBy ws tried nothing = no_order (None tried)
-answerBy ws tried (just o) = givenOrder (verdictIn ws o) (positionsOf (count ws) o)
+abbrev pub answer_by : List ℕ → ℕ → Choice → OrderAnswer
+answer_by ws tried nothing = no_order (None tried)
+answer_by ws tried (just o) = given_order (verdict_in ws o) (positions_of (count ws) o)
 
 -- of these orders, tried after a number of others that do not fit
 abbrev pub answer_in : List ℕ → ℕ → List (List ℕ) → OrderAnswer
-answer_in ws tried os = answerBy ws (tried + length os) (chosen_of ws os)
+answer_in ws tried os = answer_by ws (tried + length os) (chosen_of ws os)
 
 -- by the table's answer
 abbrev pub order_by : Answer → OrderAnswer → OrderAnswer
-order_by table.Taken r = r
+order_by table.Passed r = r
 order_by (table.Refused n p) r = no_order (Refused n p)
 
 -- the answer to the words, of m judgings at most
-unfoldable pub orderAnswerOf : List ℕ → ℕ → OrderAnswer
-orderAnswerOf ws m = order_by (answer_of ws) (answer_in ws 0 (triedOrders ws m))
-
--- the words pass, and these are the positions of an order of their tasks
-pub record GivenIn (ws ps : List ℕ) : Type 0 where
-  pub passes : NoneApplies ws
-  pub order : (o : List ℕ) × Permutation (count ws) o × (ps ≡ positionsOf (count ws) o)
-
--- the words of the table in the order that is answered (`order-words`: they are what its verdict judges)
-unfoldable pub orderedWords : List ℕ → ℕ → List ℕ
-orderedWords ws m = reordered ws (places_of (orderAnswerOf ws m).order)
+unfoldable pub order_answer_of : List ℕ → ℕ → OrderAnswer
+order_answer_of ws m = order_by (answer_of ws) (answer_in ws 0 (tried_orders ws m))
 
 -- order o is one of those tried
 abbrev pub Tried : List ℕ → ℕ → List ℕ → Type 0
-Tried ws m o = (i : ℕ) × (i < length (triedOrders ws m)) × (get_or (triedOrders ws m) i [] ≡ o)
+Tried ws m o = (i : ℕ) × (i < length (tried_orders ws m)) × (get_or (tried_orders ws m) i [] ≡ o)
 
 -- the table in an order: the same cores, fence and rule, and at place i the task of the place that the order has there
 pub record InOrder (s : Table) (o : List ℕ) (r : Table) : Type 0 where
@@ -90,11 +81,11 @@ DoesNotFit ws o = ((t p : ℕ) × FirstMiss (table_of (reordered ws o)) t p) ⊎
 -- the contract of the answer r to the words, of m judgings at most
 pub record OrderOf (ws : List ℕ) (m : ℕ) (r : OrderAnswer) : Type 0 where
   -- its value: of the orders tried the first that is Firm, else the first that is accepted
-  pub value : r ≡ orderAnswerOf ws m
+  pub value : r ≡ order_answer_of ws m
   -- refused with n and p exactly if n is the first number that applies to the words, at p
   pub refused : (n p : ℕ) → (r.outcome ≡ Refused n p) ↔ First ws n p
   -- Firm or Full: the verdict on the table in the order given
-  pub firm : (a b : ℕ) → r.outcome ≡ Firm a b → (o : List ℕ) × (r.order ≡ positionsOf (count ws) o) × Fits ws m o (judge.Firm a b)
-  pub full : (a b : ℕ) → r.outcome ≡ Full a b → (o : List ℕ) × (r.order ≡ positionsOf (count ws) o) × Fits ws m o (judge.Full a b)
+  pub firm : (a b : ℕ) → r.outcome ≡ Firm a b → (o : List ℕ) × (r.order ≡ positions_of (count ws) o) × Fits ws m o (judge.Firm a b)
+  pub full : (a b : ℕ) → r.outcome ≡ Full a b → (o : List ℕ) × (r.order ≡ positions_of (count ws) o) × Fits ws m o (judge.Full a b)
   -- none of the n orders tried fits
-  pub none : (n : ℕ) → r.outcome ≡ None n → (n ≡ length (triedOrders ws m)) × ((o : List ℕ) → Tried ws m o → DoesNotFit ws o)
+  pub none : (n : ℕ) → r.outcome ≡ None n → (n ≡ length (tried_orders ws m)) × ((o : List ℕ) → Tried ws m o → DoesNotFit ws o)

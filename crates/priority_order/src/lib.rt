@@ -1,21 +1,21 @@
 // An order of priorities under which a table is accepted: five sorted orders are tried, then the one with the latest first miss is repaired.
 ghost use Rattle.std.specs.Prelude.{◌≡◌, ◌<◌, ◌≤◌, ◌+◌};
-ghost use Rattle.model.specs.Sizes.{mostTasks};
+ghost use Rattle.model.specs.Sizes.{most_tasks};
 ghost use Rattle.table.specs.Load.{LoadOf};
 ghost use Rattle.table.specs.Numbers.{NoneApplies};
-ghost use Rattle.priority_order.specs.Answer.{OrderOf, answer_in, givenOrder, no_order, positionsOf};
+ghost use Rattle.priority_order.specs.Answer.{OrderOf, answer_in, given_order, no_order, positions_of};
 ghost use Rattle.priority_order.specs.Orders.{OrderIn, Permutation};
-ghost use Rattle.priority_order.specs.Repair.{LateIn, keptAfter, powerAfter, repairs};
-ghost use Rattle.priority_order.specs.Tried.{firstAccepted, isAccepted, isFirm, triedOrders};
+ghost use Rattle.priority_order.specs.Repair.{LateIn, kept_after, power_after, repairs};
+ghost use Rattle.priority_order.specs.Tried.{first_accepted, is_accepted, is_firm, tried_orders};
 
 use judge::Verdict;
-use model::{MOST_TASKS, extremes};
+use model::MOST_TASKS;
 use repair::Late;
 use table::{Answer, Loaded};
 
 mod orders; // orders.rt: an order of 32 places, and a task that moves up in it
 mod sorting; // sorting.rt: the five sorted orders
-pub mod links; // links.rt: the words of the table in an order, and their verdict
+mod links; // links.rt: the words of the table in an order, and their verdict
 mod repair; // repair.rt: the order that follows one that misses
 
 // The most judgings where nothing else is asked.
@@ -61,8 +61,8 @@ fn without(outcome: Outcome) -> OrderAnswer
 
 // An order is given, with the verdict on it, which is Firm or Full.
 fn given(verdict: Verdict, order: [u32; MOST_TASKS], count: usize) -> OrderAnswer
-    requires { Permutation count order × (count ≤ mostTasks) }
-    ensures { result ≡ givenOrder verdict (positionsOf count order) }
+    requires { Permutation count order × (count ≤ most_tasks) }
+    ensures { result ≡ given_order verdict (positions_of count order) }
 {
     let positions = orders::positions(order, count);
     match verdict {
@@ -81,7 +81,7 @@ fn given(verdict: Verdict, order: [u32; MOST_TASKS], count: usize) -> OrderAnswe
 
 // Whether a verdict is Firm.
 fn is_firm(verdict: Verdict) -> bool
-    ensures { result ≡ isFirm verdict }
+    ensures { result ≡ is_firm verdict }
 {
     match verdict {
         Verdict::Firm(_, _) => true,
@@ -93,7 +93,7 @@ fn is_firm(verdict: Verdict) -> bool
 
 // Whether it is Firm or Full.
 fn is_accepted(verdict: Verdict) -> bool
-    ensures { result ≡ isAccepted verdict }
+    ensures { result ≡ is_accepted verdict }
 {
     match verdict {
         Verdict::Firm(_, _) => true,
@@ -105,7 +105,7 @@ fn is_accepted(verdict: Verdict) -> bool
 
 // The first of two orders that is accepted.
 fn first_accepted(first: Accepted, verdict: Verdict, order: [u32; MOST_TASKS]) -> Accepted
-    ensures { result ≡ firstAccepted first verdict order }
+    ensures { result ≡ first_accepted first verdict order }
 {
     if first.some {
         return first;
@@ -125,7 +125,7 @@ fn kept_after(
     kept: [u32; MOST_TASKS],
     order: [u32; MOST_TASKS],
 ) -> [u32; MOST_TASKS]
-    ensures { result ≡ keptAfter number power kept order }
+    ensures { result ≡ kept_after number power kept order }
 {
     if number == power { order } else { kept }
 }
@@ -133,7 +133,7 @@ fn kept_after(
 // The next power of two after order number `number`.
 fn power_after(number: u64, power: u64) -> u64
     requires { power ≤ 9000000000 }
-    ensures { result ≡ powerAfter number power }
+    ensures { result ≡ power_after number power }
 {
     if number == power { 2 * power } else { power }
 }
@@ -174,7 +174,7 @@ fn repaired(words: &[u32], count: usize, start: Late, tried: u32, most: u32) -> 
 // The five in turn, and then repair.
 fn search(words: &[u32], table: Loaded, judgings: u32) -> OrderAnswer
     requires { NoneApplies words.now × LoadOf words.now table }
-    ensures { result ≡ answer_in words.now 0 (triedOrders words.now judgings) }
+    ensures { result ≡ answer_in words.now 0 (tried_orders words.now judgings) }
 {
     let count = table.count;
     let own = orders::own();
@@ -189,7 +189,7 @@ fn search(words: &[u32], table: Loaded, judgings: u32) -> OrderAnswer
         position: 0,
         order: own,
     };
-    let first = extremes::smaller(judgings, SORTED);
+    let first = judge::narrower(judgings, SORTED);
     let mut number: u32 = 0;
     while number < first {
         let order = sorting::sorted(table, number);
@@ -219,7 +219,7 @@ pub fn order(words: &[u32], judgings: u32) -> OrderAnswer
     let table = table::load(words);
     let answer = table.answer;
     match answer {
-        Answer::Taken => search(words, table, judgings),
+        Answer::Passed => search(words, table, judgings),
         Answer::Refused(number, position) => without(Outcome::Refused(number, position)),
     }
 }

@@ -3,8 +3,7 @@ ghost use Rattle.std.specs.Prelude.{◌≡◌, ◌<◌, length, take};
 ghost use Rattle.table.specs.Numbers.{NoneApplies};
 ghost use Rattle.table.specs.Words.{count, visited};
 ghost use Rattle.judge.specs.Judged.{Judged};
-ghost use Rattle.priority_order.specs.Answer.{GivenIn};
-ghost use Rattle.priority_order.specs.Orders.{OrderIn, places_of, reordered};
+ghost use Rattle.priority_order.specs.Orders.{OrderIn, reordered};
 
 use conflict::links::WORDS;
 use judge::Verdict;
@@ -42,16 +41,6 @@ pub(crate) fn reordered(words: &[u32], order: [u32; MOST_TASKS], count: usize) -
     }
     copy[link] = 0;
     copy
-}
-
-// The words of the table in the order of these positions.
-pub fn ordered(words: &[u32], positions: [u32; MOST_TASKS]) -> [u32; WORDS]
-    requires { GivenIn words.now positions }
-    ensures { take (length words.now) result ≡ reordered words.now (places_of positions) }
-{
-    let table = table::load(words);
-    let places = crate::orders::places(positions);
-    reordered(words, places, table.count)
 }
 
 // The verdict on the table in an order.

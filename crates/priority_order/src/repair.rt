@@ -1,9 +1,9 @@
 // The order that follows one that misses: the late task goes to the place directly above the task that ran most while it waited.
 ghost use Rattle.std.specs.Prelude.{true, ◌≡◌, length};
-ghost use Rattle.model.specs.Sizes.{mostTasks};
+ghost use Rattle.model.specs.Sizes.{most_tasks};
 ghost use Rattle.sentence.specs.Facts.{named};
 ghost use Rattle.priority_order.specs.Orders.{OrderIn};
-ghost use Rattle.priority_order.specs.Repair.{LateIn, blockingIn, choice_of, lateOf, laterOf, mostRan, nextOrder, noMiss};
+ghost use Rattle.priority_order.specs.Repair.{LateIn, blocking_in, choice_of, late_of, later_of, most_ran, next_order, no_miss};
 
 use judge::Verdict;
 use model::MOST_TASKS;
@@ -26,7 +26,7 @@ pub struct Next {
 
 // An order that has no first miss.
 fn met(order: [u32; MOST_TASKS]) -> Late
-    ensures { result ≡ noMiss order }
+    ensures { result ≡ no_miss order }
 {
     Late {
         some: false,
@@ -38,7 +38,7 @@ fn met(order: [u32; MOST_TASKS]) -> Late
 
 // An order by the verdict on it.
 pub(crate) fn late_of(verdict: Verdict, order: [u32; MOST_TASKS]) -> Late
-    ensures { result ≡ lateOf verdict order }
+    ensures { result ≡ late_of verdict order }
 {
     match verdict {
         Verdict::Firm(_, _) => met(order),
@@ -55,7 +55,7 @@ pub(crate) fn late_of(verdict: Verdict, order: [u32; MOST_TASKS]) -> Late
 
 // The one with the later first miss, the first of equal ones.
 pub(crate) fn later(first: Late, other: Late) -> Late
-    ensures { result ≡ laterOf first other }
+    ensures { result ≡ later_of first other }
 {
     if other.some & (!first.some | (first.tick < other.tick)) {
         return other;
@@ -65,8 +65,8 @@ pub(crate) fn later(first: Late, other: Late) -> Late
 
 // The position with the largest count, at equal counts the highest; 0 where every count is 0.
 fn most_ran(ran: [u64; MOST_TASKS]) -> u32
-    requires { length ran ≡ mostTasks }
-    ensures { result ≡ mostRan (named ran) }
+    requires { length ran ≡ most_tasks }
+    ensures { result ≡ most_ran (named ran) }
 {
     let mut most: u64 = 0;
     let mut position: u32 = 0;
@@ -84,7 +84,7 @@ fn most_ran(ran: [u64; MOST_TASKS]) -> u32
 // The position of the task that ran most while the late one waited; 0 where nobody ran.
 fn blocking(words: &[u32], late: Late, count: usize) -> u32
     requires { OrderIn words.now count late.order × (late.some ≡ true) × LateIn words.now late }
-    ensures { result ≡ blockingIn words.now late }
+    ensures { result ≡ blocking_in words.now late }
 {
     let order = late.order;
     let part = crate::links::reordered(words, order, count);
@@ -98,7 +98,7 @@ fn blocking(words: &[u32], late: Late, count: usize) -> u32
 // The order that follows one that misses.
 pub(crate) fn next_order(words: &[u32], late: Late, count: usize) -> Next
     requires { OrderIn words.now count late.order × LateIn words.now late }
-    ensures { choice_of result ≡ nextOrder words.now late.order }
+    ensures { choice_of result ≡ next_order words.now late.order }
 {
     let order = late.order;
     if !late.some {

@@ -7,54 +7,54 @@ use native.Mathlib.Numerals.{add-one}
 use native.Mathlib.Omega.{arith}
 use lib.ListN.{length, take, get_or, set}
 use lib.Seq.{take-suc, length-take-le}
-use Rattle.text.specs.Decimal.{decimal, digitCount, digitsWithin, lastDigits}
+use Rattle.text.specs.Decimal.{decimal, digit_count, digits_within, last_digits}
 use Rattle.text.specs.Format.{newline}
 use Rattle.text.specs.Written.{Put}
 use Rattle.text.proofs.Writing.{put_one, put_then, put-length}
-use Rattle.text.specs.Output.{space, fields, letters, line_of, firstLine}
+use Rattle.text.specs.Output.{space, fields, letters, line_of, first_line}
 use Rattle.table.specs.declared.Answer.{Answer}
-use Rattle.table.specs.declared.Answer.TheVariants.{Taken, Refused}
+use Rattle.table.specs.declared.Answer.TheVariants.{Passed, Refused}
 use Rattle.table.specs.declared.Loaded.{Loaded}
-use Rattle.table.specs.AnswerMeaning.{answerMeaning}
-use Rattle.table.specs.Load.{LoadedAs, LoadOf}
+use Rattle.table.specs.Load.{load_meaning, LoadedAs, LoadOf}
 use Rattle.table.specs.Numbers.{NoneApplies}
 use Rattle.table.specs.Words.{table_of}
-use Rattle.table.specs.declared.FigureAnswer.{FigureAnswer}
+use Rattle.response_time.specs.declared.ResponseTimes.{ResponseTimes}
 use Rattle.response_time.specs.ResponseTimes.{ResponseTimesOf}
 use Rattle.response_time.specs.Numbers.{words}
+use Rattle.slack.specs.declared.SlackAnswer.{SlackAnswer}
 use Rattle.slack.specs.Answer.{SlackOf}
 use Rattle.slack.specs.Numbers as sparing
 use Rattle.interference.specs.declared.Bounds.{Bounds}
 use Rattle.interference.specs.Bounds.{BoundsOf}
-use Rattle.query.specs.Figures.{boundLinesBy, figureLines, figureLinesBy, noBoundsLine}
-use Rattle.query.specs.Query.{boundsText, responseTimesText, slackText}
+use Rattle.query.specs.Figures.{bound_lines_by, figure_lines, figure_lines_by, no_bounds_line}
+use Rattle.query.specs.Query.{bounds_text, response_times_text, slack_text}
 
 -- a line for each number, from position 1 on, as it is printed
-pub figures-printed : figureLines 0 (2 ∷ 50 ∷ []) ≡ letters "1 2" ++ (newline ∷ (letters "2 50" ++ (newline ∷ [])))
-unfolding figureLines line_of fields decimal digitCount digitsWithin lastDigits
+pub figures-printed : figure_lines 0 (2 ∷ 50 ∷ []) ≡ letters "1 2" ++ (newline ∷ (letters "2 50" ++ (newline ∷ [])))
+unfolding figure_lines line_of fields decimal digit_count digits_within last_digits
 figures-printed = refl
 
 -- the line of one number more
-lines_more : (q : ℕ) (xs : List ℕ) (x : ℕ) → figureLines q (xs ++ (x ∷ [])) ≡ figureLines q xs ++ line_of (decimal (suc (q + length xs))) (x ∷ [])
-unfolding figureLines
+lines_more : (q : ℕ) (xs : List ℕ) (x : ℕ) → figure_lines q (xs ++ (x ∷ [])) ≡ figure_lines q xs ++ line_of (decimal (suc (q + length xs))) (x ∷ [])
+unfolding figure_lines
 lines_more q [] x =
     let e : q ≡ q + 0 = omega arith in
     append-nil (line_of (decimal (suc q)) (x ∷ [])) ∙ ap (λ (n : ℕ). line_of (decimal (suc n)) (x ∷ [])) e
 lines_more q (y ∷ ys) x =
     let e : suc q + length ys ≡ q + suc (length ys) = omega arith in
     ap (λ (l : List ℕ). line_of (decimal (suc q)) (y ∷ []) ++ l)
-    (lines_more (suc q) ys x ∙ ap (λ (n : ℕ). figureLines (suc q) ys ++ line_of (decimal (suc n)) (x ∷ [])) e)
-    ∙ sym (append_assoc (line_of (decimal (suc q)) (y ∷ [])) (figureLines (suc q) ys) (line_of (decimal (suc (q + suc (length ys)))) (x ∷ [])))
+    (lines_more (suc q) ys x ∙ ap (λ (n : ℕ). figure_lines (suc q) ys ++ line_of (decimal (suc n)) (x ∷ [])) e)
+    ∙ sym (append_assoc (line_of (decimal (suc q)) (y ∷ [])) (figure_lines (suc q) ys) (line_of (decimal (suc (q + suc (length ys)))) (x ∷ [])))
 
 -- .. of the first k + 1
 lines_next :
-    (xs : List ℕ) (k : ℕ) → k < length xs → figureLines 0 (take k xs) ++ line_of (decimal (k + 1)) (get_or xs k 0 ∷ []) ≡ figureLines 0 (take (k + 1) xs)
+    (xs : List ℕ) (k : ℕ) → k < length xs → figure_lines 0 (take k xs) ++ line_of (decimal (k + 1)) (get_or xs k 0 ∷ []) ≡ figure_lines 0 (take (k + 1) xs)
 lines_next xs k h =
     let n : length (take k xs) ≡ k = length-take-le k xs (omega arith) in
     let e : k + 1 ≡ suc (0 + length (take k xs)) = omega (arith, n) in
-    ap (λ (m : ℕ). figureLines 0 (take k xs) ++ line_of (decimal m) (get_or xs k 0 ∷ [])) e
+    ap (λ (m : ℕ). figure_lines 0 (take k xs) ++ line_of (decimal m) (get_or xs k 0 ∷ [])) e
     ∙ sym (lines_more 0 (take k xs) (get_or xs k 0))
-    ∙ ap (figureLines 0) (sym (ap (λ (j : ℕ). take j xs) (add-one k) ∙ take-suc xs k 0 h))
+    ∙ ap (figure_lines 0) (sym (ap (λ (j : ℕ). take j xs) (add-one k) ∙ take-suc xs k 0 h))
 
 -- a line is a position, a space, a number and a newline
 line-text : (s : List ℕ) (n x : ℕ) → ((s ++ decimal n) ++ (space ∷ decimal x)) ++ (newline ∷ []) ≡ s ++ line_of (decimal n) (x ∷ [])
@@ -63,11 +63,11 @@ line-text s n x = simp (append_assoc, append-nil)
 
 -- the line of one number more is put
 pub put-line :
-    (l m n o : List ℕ) (at middle end k : ℕ) (xs : List ℕ) → Put l 0 (figureLines 0 (take k xs)) m at → k < length xs
+    (l m n o : List ℕ) (at middle end k : ℕ) (xs : List ℕ) → Put l 0 (figure_lines 0 (take k xs)) m at → k < length xs
     → Put m at (decimal (k + 1)) n middle → Put n middle (space ∷ decimal (get_or xs k 0)) o end → middle ≤ end → end < length l
-    → Put l 0 (figureLines 0 (take (k + 1) xs)) (set o end newline) (end + 1)
+    → Put l 0 (figure_lines 0 (take (k + 1) xs)) (set o end newline) (end + 1)
 put-line l m n o at middle end k xs p h q r b f =
-    let s = figureLines 0 (take k xs) in
+    let s = figure_lines 0 (take k xs) in
     let two : Put l 0 (s ++ decimal (k + 1)) n middle = put_then p q (omega arith) in
     let three : Put l 0 ((s ++ decimal (k + 1)) ++ (space ∷ decimal (get_or xs k 0))) o end = put_then two r (omega arith) in
     let e : length o ≡ length l = put-length three (omega arith) in
@@ -82,65 +82,65 @@ module _ (ws : List ℕ) (none : NoneApplies ws) (t : Loaded) (l : LoadOf ws t) 
   loads = l.holds (l.passed.1 none)
 
   -- one for each of its tasks
-  pub lines-text : (a : Answer) (xs : List ℕ) → a ≡ Taken → figureLines 0 (take t.count xs) ≡ figureLinesBy a (take (length (table_of ws).tasks) xs)
+  pub lines-text : (a : Answer) (xs : List ℕ) → a ≡ Passed → figure_lines 0 (take t.count xs) ≡ figure_lines_by a (take (length (table_of ws).tasks) xs)
   lines-text a xs e =
-      ap (λ (n : ℕ). figureLines 0 (take n xs)) loads.count
-      ∙ ap (λ (b : Answer). figureLinesBy b (take (length (table_of ws).tasks) xs)) (sym e)
+      ap (λ (n : ℕ). figure_lines 0 (take n xs)) loads.count
+      ∙ ap (λ (b : Answer). figure_lines_by b (take (length (table_of ws).tasks) xs)) (sym e)
 
 -- the refusal
-pub refusal-text : (a : Answer) (xs : List ℕ) (n p : ℕ) → a ≡ Refused n p → line_of (letters "refused") (n ∷ p ∷ []) ≡ figureLinesBy a xs
-unfolding firstLine
-refusal-text a xs n p e = ap (λ (b : Answer). figureLinesBy b xs) (sym e)
+pub refusal-text : (a : Answer) (xs : List ℕ) (n p : ℕ) → a ≡ Refused n p → line_of (letters "refused") (n ∷ p ∷ []) ≡ figure_lines_by a xs
+unfolding first_line
+refusal-text a xs n p e = ap (λ (b : Answer). figure_lines_by b xs) (sym e)
 
 -- WHAT `response_times` ANSWERS
 
-module _ (ws : List ℕ) (r : FigureAnswer) (h : ResponseTimesOf ws r) where
+module _ (ws : List ℕ) (r : ResponseTimes) (h : ResponseTimesOf ws r) where
   -- the output follows from it
-  pub response-times-by : figureLinesBy r.answer (take (length (table_of ws).tasks) r.figures) ≡ responseTimesText ws
-  unfolding responseTimesText
-  response-times-by = ap (λ (w : FigureAnswer). figureLinesBy w.answer (take (length (table_of ws).tasks) w.figures)) h.value
+  pub response-times-by : figure_lines_by r.answer (take (length (table_of ws).tasks) r.responses) ≡ response_times_text ws
+  unfolding response_times_text
+  response-times-by = ap (λ (w : ResponseTimes). figure_lines_by w.answer (take (length (table_of ws).tasks) w.responses)) h.value
 
   -- no number turns down a table whose response times are given
-  pub response-times-none : r.answer ≡ Taken → NoneApplies ws
-  response-times-none e n p a = h.passed.0 (ap answerMeaning e) n p (words n p a)
+  pub response-times-none : r.answer ≡ Passed → NoneApplies ws
+  response-times-none e n p a = h.passed.0 (ap load_meaning e) n p (words n p a)
 
 -- WHAT `slack` ANSWERS
 
-module _ (ws : List ℕ) (r : FigureAnswer) (h : SlackOf ws r) where
+module _ (ws : List ℕ) (r : SlackAnswer) (h : SlackOf ws r) where
   -- the output follows from it
-  pub slack-by : figureLinesBy r.answer (take (length (table_of ws).tasks) r.figures) ≡ slackText ws
-  unfolding slackText
-  slack-by = ap (λ (w : FigureAnswer). figureLinesBy w.answer (take (length (table_of ws).tasks) w.figures)) h.value
+  pub slack-by : figure_lines_by r.answer (take (length (table_of ws).tasks) r.slack) ≡ slack_text ws
+  unfolding slack_text
+  slack-by = ap (λ (w : SlackAnswer). figure_lines_by w.answer (take (length (table_of ws).tasks) w.slack)) h.value
 
   -- no number turns down a table whose slack is given
-  pub slack-none : r.answer ≡ Taken → NoneApplies ws
-  slack-none e n p a = h.passed.0 (ap answerMeaning e) n p (sparing.words n p a)
+  pub slack-none : r.answer ≡ Passed → NoneApplies ws
+  slack-none e n p a = h.passed.0 (ap load_meaning e) n p (sparing.words n p a)
 
 -- WHAT `response_bounds` ANSWERS
 
 module _ (ws : List ℕ) (r : Bounds) (h : BoundsOf ws r) where
   -- what is said goes by it
-  bounds-by : boundLinesBy r.tested.met r.answer (take (length (table_of ws).tasks) r.tested.bounds) ≡ boundsText ws
-  unfolding boundsText
+  bounds-by : bound_lines_by r.tested.met r.answer (take (length (table_of ws).tasks) r.tested.bounds) ≡ bounds_text ws
+  unfolding bounds_text
   bounds-by =
-      ap (λ (w : Bounds). boundLinesBy w.tested.met w.answer (take (length (table_of ws).tasks) w.tested.bounds)) h.value
+      ap (λ (w : Bounds). bound_lines_by w.tested.met w.answer (take (length (table_of ws).tasks) w.tested.bounds)) h.value
 
-  pub bounds-met : r.tested.met ≡ true → figureLinesBy r.answer (take (length (table_of ws).tasks) r.tested.bounds) ≡ boundsText ws
+  pub bounds-met : r.tested.met ≡ true → figure_lines_by r.answer (take (length (table_of ws).tasks) r.tested.bounds) ≡ bounds_text ws
   bounds-met e =
-      ap (λ (t : Bool). boundLinesBy t r.answer (take (length (table_of ws).tasks) r.tested.bounds)) (sym e) ∙ bounds-by
+      ap (λ (t : Bool). bound_lines_by t r.answer (take (length (table_of ws).tasks) r.tested.bounds)) (sym e) ∙ bounds-by
 
-  pub bounds-unmet : r.tested.met ≡ false → noBoundsLine r.answer ≡ boundsText ws
+  pub bounds-unmet : r.tested.met ≡ false → no_bounds_line r.answer ≡ bounds_text ws
   bounds-unmet e =
-      ap (λ (t : Bool). boundLinesBy t r.answer (take (length (table_of ws).tasks) r.tested.bounds)) (sym e) ∙ bounds-by
+      ap (λ (t : Bool). bound_lines_by t r.answer (take (length (table_of ws).tasks) r.tested.bounds)) (sym e) ∙ bounds-by
 
   -- no number turns down a table whose test is given
-  pub bounds-none : r.answer ≡ Taken → NoneApplies ws
-  bounds-none e = h.passed.0 (ap answerMeaning e)
+  pub bounds-none : r.answer ≡ Passed → NoneApplies ws
+  bounds-none e = h.passed.0 (ap load_meaning e)
 
 -- that there are none, or the refusal
-pub none-text : (a : Answer) → a ≡ Taken → letters "none" ++ (newline ∷ []) ≡ noBoundsLine a
-none-text a e = ap noBoundsLine (sym e)
+pub none-text : (a : Answer) → a ≡ Passed → letters "none" ++ (newline ∷ []) ≡ no_bounds_line a
+none-text a e = ap no_bounds_line (sym e)
 
-pub none-refused : (a : Answer) (n p : ℕ) → a ≡ Refused n p → line_of (letters "refused") (n ∷ p ∷ []) ≡ noBoundsLine a
-unfolding firstLine
-none-refused a n p e = ap noBoundsLine (sym e)
+pub none-refused : (a : Answer) (n p : ℕ) → a ≡ Refused n p → line_of (letters "refused") (n ∷ p ∷ []) ≡ no_bounds_line a
+unfolding first_line
+none-refused a n p e = ap no_bounds_line (sym e)

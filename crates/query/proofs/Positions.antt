@@ -7,32 +7,33 @@ use native.Mathlib.Nat.{not-suc-le-zero}
 use native.Mathlib.Numerals.{add-one}
 use native.Mathlib.Omega.{arith}
 use lib.ListN.{length, length-append}
-use Rattle.model.proofs.Computing.{Equal}
 use Rattle.model.specs.Search.{bit}
-use Rattle.text.specs.Decimal.{decimal, digitCount, digitsWithin, lastDigits}
+use Rattle.text.specs.Decimal.{decimal, digit_count, digits_within, last_digits}
+use Rattle.text.specs.Format.{newline}
 use Rattle.text.specs.Written.{Put}
-use Rattle.text.specs.Output.{space, fields, letters, line_of, firstLine}
+use Rattle.text.specs.Output.{space, fields, letters, line_of, first_line}
 use Rattle.text.proofs.Decimals.{decimal-some}
 use Rattle.text.proofs.RowText.{fields-append}
 use Rattle.text.proofs.Writing.{put_then}
 use Rattle.table.specs.declared.Answer.{Answer}
-use Rattle.table.specs.declared.Answer.TheVariants.{Taken, Refused}
+use Rattle.table.specs.declared.Answer.TheVariants.{Passed, Refused}
 use Rattle.conflict.specs.declared.ConflictAnswer.{ConflictAnswer}
 use Rattle.conflict.specs.Answer.{ConflictOf}
-use Rattle.query.specs.Positions.{positionsBelow, spaced, spacedAt, positionLine, positionsBy}
-use Rattle.query.specs.Query.{conflictText}
+use Rattle.query.specs.Positions.{positions_below, spaced, spaced_at, position_line, positions_by}
+use Rattle.query.specs.Query.{conflict_text}
 
 -- the positions of places 1 and 2, of place 0 alone, and of places 0, 9 and 31, as they are printed
-pub positions-printed : Equal (
-    (positionLine 6, letters "2 3\n") ∷ (positionLine 1, letters "1\n") ∷ (positionLine (2 ^ 31 + 2 ^ 9 + 1), letters "1 10 32\n") ∷ [])
-unfolding positionsBelow spaced fields decimal digitCount digitsWithin lastDigits
-positions-printed = refl
+pub positions-printed :
+    (position_line 6 ≡ letters "2 3" ++ (newline ∷ [])) × (position_line 1 ≡ letters "1" ++ (newline ∷ []))
+    × (position_line (2 ^ 31 + 2 ^ 9 + 1) ≡ letters "1 10 32" ++ (newline ∷ []))
+unfolding positions_below spaced fields decimal digit_count digits_within last_digits
+positions-printed = (refl, refl, refl)
 
 -- ONE NUMBER MORE
 
 -- after other bytes it has a space before it
-pub spaced-behind : (at n : ℕ) → 0 < at → spacedAt at n ≡ space ∷ decimal n
-unfolding spacedAt
+pub spaced-behind : (at n : ℕ) → 0 < at → spaced_at at n ≡ space ∷ decimal n
+unfolding spaced_at
 spaced-behind zero n h = absurd (not-suc-le-zero h)
 spaced-behind (suc at) n h = refl
 
@@ -40,8 +41,8 @@ fields-more : (ns : List ℕ) (x : ℕ) → fields (ns ++ (x ∷ [])) ≡ fields
 unfolding fields
 fields-more ns x = fields-append ns (x ∷ []) ∙ ap (λ (l : List ℕ). fields ns ++ (space ∷ l)) (append-nil (decimal x))
 
-pub spaced-more : (ns : List ℕ) (x : ℕ) → spaced (ns ++ (x ∷ [])) ≡ spaced ns ++ spacedAt (length (spaced ns)) x
-unfolding spaced spacedAt fields
+spaced-more : (ns : List ℕ) (x : ℕ) → spaced (ns ++ (x ∷ [])) ≡ spaced ns ++ spaced_at (length (spaced ns)) x
+unfolding spaced spaced_at fields
 spaced-more [] x = append-nil (decimal x)
 spaced-more (n ∷ ns) x =
     let some : 0 < length (decimal n ++ fields ns) = omega (arith, decimal-some n, length-append (decimal n) (fields ns)) in
@@ -53,38 +54,38 @@ spaced-more (n ∷ ns) x =
 
 -- a place of the set is put
 pub put-position :
-    (l m n : List ℕ) (at end p x : ℕ) → Put l 0 (spaced (positionsBelow p x)) m at → bit x p ≡ true → Put m at (spacedAt at (p + 1)) n end → end ≤ length l
-    → Put l 0 (spaced (positionsBelow (p + 1) x)) n end
-unfolding positionsBelow
+    (l m n : List ℕ) (at end p x : ℕ) → Put l 0 (spaced (positions_below p x)) m at → bit x p ≡ true → Put m at (spaced_at at (p + 1)) n end → end ≤ length l
+    → Put l 0 (spaced (positions_below (p + 1) x)) n end
+unfolding positions_below
 put-position l m n at end p x before e more h =
-    let s = positionsBelow p x in
+    let s = positions_below p x in
     let ends : at ≡ length (spaced s) = omega (arith, before.ends) in
-    let next : spaced s ++ spacedAt at (p + 1) ≡ spaced (positionsBelow (p + 1) x) =
-    ap (λ (k : ℕ). spaced s ++ spacedAt k (p + 1)) ends
-    ∙ (ap (λ (k : ℕ). spaced s ++ spacedAt (length (spaced s)) k) (add-one p)
+    let next : spaced s ++ spaced_at at (p + 1) ≡ spaced (positions_below (p + 1) x) =
+    ap (λ (k : ℕ). spaced s ++ spaced_at k (p + 1)) ends
+    ∙ (ap (λ (k : ℕ). spaced s ++ spaced_at (length (spaced s)) k) (add-one p)
     ∙ (sym (spaced-more s (suc p))
-    ∙ (ap (λ (t : Bool). spaced (cond t (s ++ (suc p ∷ [])) s)) (sym e) ∙ ap (λ (k : ℕ). spaced (positionsBelow k x)) (sym (add-one p))))) in
+    ∙ (ap (λ (t : Bool). spaced (cond t (s ++ (suc p ∷ [])) s)) (sym e) ∙ ap (λ (k : ℕ). spaced (positions_below k x)) (sym (add-one p))))) in
     subst (λ (t : List ℕ). Put l 0 t n end) next (put_then before more h)
 
 -- any other is skipped
-pub pass-position : (p x : ℕ) → bit x p ≡ false → positionsBelow p x ≡ positionsBelow (p + 1) x
-unfolding positionsBelow
+pub pass-position : (p x : ℕ) → bit x p ≡ false → positions_below p x ≡ positions_below (p + 1) x
+unfolding positions_below
 pass-position p x e =
-    ap (λ (t : Bool). cond t (positionsBelow p x ++ (suc p ∷ [])) (positionsBelow p x)) (sym e) ∙ ap (λ (k : ℕ). positionsBelow k x) (sym (add-one p))
+    ap (λ (t : Bool). cond t (positions_below p x ++ (suc p ∷ [])) (positions_below p x)) (sym e) ∙ ap (λ (k : ℕ). positions_below k x) (sym (add-one p))
 
 -- WHAT `conflict` ANSWERS
 
 module _ (ws : List ℕ) (r : ConflictAnswer) (h : ConflictOf ws r) where
   -- the output follows from it
-  by-kept : positionsBy r.answer r.kept ≡ conflictText ws
-  unfolding conflictText
-  by-kept = ap (λ (w : ConflictAnswer). positionsBy w.answer w.kept) h.value
+  by-kept : positions_by r.answer r.kept ≡ conflict_text ws
+  unfolding conflict_text
+  by-kept = ap (λ (w : ConflictAnswer). positions_by w.answer w.kept) h.value
 
   -- the positions kept
-  pub kept-text : r.answer ≡ Taken → positionLine r.kept ≡ conflictText ws
-  kept-text e = ap (λ (a : Answer). positionsBy a r.kept) (sym e) ∙ by-kept
+  pub kept-text : r.answer ≡ Passed → position_line r.kept ≡ conflict_text ws
+  kept-text e = ap (λ (a : Answer). positions_by a r.kept) (sym e) ∙ by-kept
 
   -- the refusal
-  pub conflict-refused : (n p : ℕ) → r.answer ≡ Refused n p → line_of (letters "refused") (n ∷ p ∷ []) ≡ conflictText ws
-  unfolding firstLine
-  conflict-refused n p e = ap (λ (a : Answer). positionsBy a r.kept) (sym e) ∙ by-kept
+  pub conflict-refused : (n p : ℕ) → r.answer ≡ Refused n p → line_of (letters "refused") (n ∷ p ∷ []) ≡ conflict_text ws
+  unfolding first_line
+  conflict-refused n p e = ap (λ (a : Answer). positions_by a r.kept) (sym e) ∙ by-kept

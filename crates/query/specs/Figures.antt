@@ -2,26 +2,26 @@
 use Rattle.std.specs.Prelude.{Bool, cond, List, [], ◌∷◌, ◌++◌, ℕ, suc}
 use Rattle.judge.specs.JudgeAnswer.{refused}
 use Rattle.table.specs.declared.Answer.{Answer}
-use Rattle.table.specs.declared.Answer.TheVariants.{Taken, Refused}
+use Rattle.table.specs.declared.Answer.TheVariants.{Passed, Refused}
 use Rattle.text.specs.Decimal.{decimal}
 use Rattle.text.specs.Format.{newline}
-use Rattle.text.specs.Output.{letters, line_of, firstLine}
+use Rattle.text.specs.Output.{letters, line_of, first_line}
 
 -- the lines of numbers, of which the first is that of place q
-unfoldable pub figureLines : ℕ → List ℕ → List ℕ
-figureLines q [] = []
-figureLines q (x ∷ xs) = line_of (decimal (suc q)) (x ∷ []) ++ figureLines (suc q) xs
+unfoldable pub figure_lines : ℕ → List ℕ → List ℕ
+figure_lines q [] = []
+figure_lines q (x ∷ xs) = line_of (decimal (suc q)) (x ∷ []) ++ figure_lines (suc q) xs
 
 -- by the answer: a line for each task, or the refusal
-abbrev pub figureLinesBy : Answer → List ℕ → List ℕ
-figureLinesBy Taken xs = figureLines 0 xs
-figureLinesBy (Refused n p) xs = firstLine (refused n p)
+abbrev pub figure_lines_by : Answer → List ℕ → List ℕ
+figure_lines_by Passed xs = figure_lines 0 xs
+figure_lines_by (Refused n p) xs = first_line (refused n p)
 
 -- a table that does not pass the interference test has no bounds: `none`, or the refusal
-abbrev pub noBoundsLine : Answer → List ℕ
-noBoundsLine Taken = letters "none" ++ (newline ∷ [])
-noBoundsLine (Refused n p) = firstLine (refused n p)
+abbrev pub no_bounds_line : Answer → List ℕ
+no_bounds_line Passed = letters "none" ++ (newline ∷ [])
+no_bounds_line (Refused n p) = first_line (refused n p)
 
 -- by whether it passes
-abbrev pub boundLinesBy : Bool → Answer → List ℕ → List ℕ
-boundLinesBy met a xs = cond met (figureLinesBy a xs) (noBoundsLine a)
+abbrev pub bound_lines_by : Bool → Answer → List ℕ → List ℕ
+bound_lines_by met a xs = cond met (figure_lines_by a xs) (no_bounds_line a)

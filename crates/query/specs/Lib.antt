@@ -1,5 +1,4 @@
 -- What the program query prints: one definition, of the whole input.
 pub mod Figures
 pub mod Positions
-pub mod OrderText
 pub mod Query

@@ -10,54 +10,54 @@ use borrow.Author.Tests.{ltb-true}
 use Rattle.model.specs.Advance as entries
 use Rattle.model.specs.Refusals as answers
 use Rattle.run.specs.declared.Run.{Run}
-use Rattle.table.specs.declared.Answer.{Answer}
-use Rattle.table.specs.declared.Answer.TheVariants.{Taken, Refused}
-use Rattle.table.specs.AnswerMeaning.{answerMeaning}
-use Rattle.run.specs.Run.{firmIn}
-use Rattle.run.specs.Numbers.{runOut, pastCount, unknownIn, firstLateIn, wrongEmptiesIn, wrongReportsIn}
-use Rattle.run.specs.Advance.{advanceAnswer, advanceOf}
-use Rattle.run.specs.Withdraw.{withdrawAnswer, withdrawOf, withdrawAllOf}
+use Rattle.run.specs.declared.Answer.{Answer}
+use Rattle.run.specs.declared.Answer.TheVariants.{Taken, Refused}
+use Rattle.run.specs.Answer.{answer_meaning}
+use Rattle.run.specs.Run.{firm_in}
+use Rattle.run.specs.Numbers.{run_out, past_count, unknown_in, first_late_in, wrong_empties_in, wrong_reports_in}
+use Rattle.run.specs.Advance.{advance_answer, advance_of}
+use Rattle.run.specs.Withdraw.{withdraw_answer, withdraw_of, withdraw_all_of}
 use Rattle.run.proofs.RunOut.{few}
 use Rattle.refinement.specs.Entries.{entry_of, answers}
 use Rattle.refinement.specs.Replay.{code, EntryAnswer, codes}
 
 -- the answers of an advance are small ..
-small-advance : (r : Run) (x e : ℕ) → EntryAnswer (answerMeaning (advanceOf r x e).answer)
-unfolding advanceOf advanceAnswer
-small-advance r x e = by_out (runOut r) refl
+small-advance : (r : Run) (x e : ℕ) → EntryAnswer (answer_meaning (advance_of r x e).answer)
+unfolding advance_of advance_answer
+small-advance r x e = by_out (run_out r) refl
   where
-    by-sets : (t u : Bool) → EntryAnswer (answerMeaning (cond t (Refused 20 0) (cond u (Refused 16 0) Taken)))
+    by-sets : (t u : Bool) → EntryAnswer (answer_meaning (cond t (Refused 20 0) (cond u (Refused 16 0) Taken)))
     by-sets true u = ((omega arith, omega arith), omega arith)
     by-sets false true = ((omega arith, omega arith), omega arith)
     by-sets false false = tt
 
     rest : Answer
-    rest = cond (wrongEmptiesIn r e) (Refused 20 0) (cond (wrongReportsIn r e x) (Refused 16 0) Taken)
+    rest = cond (wrong_empties_in r e) (Refused 20 0) (cond (wrong_reports_in r e x) (Refused 16 0) Taken)
 
-    by-late : runOut r ≡ false → (t : Bool) → ltb (firstLateIn r) r.count ≡ t → EntryAnswer (answerMeaning (cond t (Refused 15 (suc (firstLateIn r))) rest))
-    by-late q true l = ((omega arith, omega arith), omega (arith, ltb-true (firstLateIn r) r.count l, few r q))
-    by-late q false l = by-sets (wrongEmptiesIn r e) (wrongReportsIn r e x)
+    by-late : run_out r ≡ false → (t : Bool) → ltb (first_late_in r) r.count ≡ t → EntryAnswer (answer_meaning (cond t (Refused 15 (suc (first_late_in r))) rest))
+    by-late q true l = ((omega arith, omega arith), omega (arith, ltb-true (first_late_in r) r.count l, few r q))
+    by-late q false l = by-sets (wrong_empties_in r e) (wrong_reports_in r e x)
 
-    by_out : (t : Bool) → runOut r ≡ t
-        → EntryAnswer (answerMeaning (cond t (Refused 14 0) (cond (ltb (firstLateIn r) r.count) (Refused 15 (suc (firstLateIn r))) rest)))
+    by_out : (t : Bool) → run_out r ≡ t
+        → EntryAnswer (answer_meaning (cond t (Refused 14 0) (cond (ltb (first_late_in r) r.count) (Refused 15 (suc (first_late_in r))) rest)))
     by_out true q = ((omega arith, omega arith), omega arith)
-    by_out false q = by-late q (ltb (firstLateIn r) r.count) refl
+    by_out false q = by-late q (ltb (first_late_in r) r.count) refl
 
 -- .. and those of a withdrawal
-small-withdraw : (r : Run) (unknown : Bool) → EntryAnswer (answerMeaning (withdrawAnswer r unknown))
-unfolding withdrawAnswer
-small-withdraw r unknown = go (runOut r) (firmIn r) unknown
+small-withdraw : (r : Run) (unknown : Bool) → EntryAnswer (answer_meaning (withdraw_answer r unknown))
+unfolding withdraw_answer
+small-withdraw r unknown = go (run_out r) (firm_in r) unknown
   where
-    go : (t u v : Bool) → EntryAnswer (answerMeaning (cond t (Refused 14 0) (cond u (cond v (Refused 22 0) Taken) (Refused 21 0))))
+    go : (t u v : Bool) → EntryAnswer (answer_meaning (cond t (Refused 14 0) (cond u (cond v (Refused 22 0) Taken) (Refused 21 0))))
     go true u v = ((omega arith, omega arith), omega arith)
     go false false v = ((omega arith, omega arith), omega arith)
     go false true true = ((omega arith, omega arith), omega arith)
     go false true false = tt
 
-pub small-answer : (r : Run) (x : entries.Entry) → EntryAnswer (answerMeaning (entry_of r x).answer)
+pub small-answer : (r : Run) (x : entries.Entry) → EntryAnswer (answer_meaning (entry_of r x).answer)
 small-answer r (entries.advance x e) = small-advance r x e
-small-answer r (entries.withdraw p) = unfold withdrawOf in small-withdraw r (unknownIn r p)
-small-answer r (entries.withdrawAll x) = unfold withdrawAllOf in small-withdraw r (pastCount r.count x)
+small-answer r (entries.withdraw p) = unfold withdraw_of in small-withdraw r (unknown_in r p)
+small-answer r (entries.withdraw_all x) = unfold withdraw_all_of in small-withdraw r (past_count r.count x)
 
 -- LAW: no two small answers have the same number ..
 pub code-injective : (a b : answers.Answer) → EntryAnswer a → EntryAnswer b → code a ≡ code b → a ≡ b
@@ -70,15 +70,15 @@ code-injective (answers.refused n p) (answers.refused m q) h k e =
     λ i. answers.refused (a i) (b i)
 
 -- .. so the numbers of a list of entries determine its answers
-pub codes-injective : (r s : Run) (xs ys : List entries.Entry) → codes r xs ≡ codes s ys → map answerMeaning (answers r xs) ≡ map answerMeaning (answers s ys)
+pub codes-injective : (r s : Run) (xs ys : List entries.Entry) → codes r xs ≡ codes s ys → map answer_meaning (answers r xs) ≡ map answer_meaning (answers s ys)
 unfolding answers
 codes-injective r s [] [] e = refl
 codes-injective r s [] (y ∷ ys) e = absurd (let z : ◌≡◌ {A = ℕ} 0 (suc (length (codes (entry_of s y).run ys))) = ap (λ (l : List ℕ). length l) e in omega arith)
 codes-injective r s (x ∷ xs) [] e = absurd (let z : ◌≡◌ {A = ℕ} (suc (length (codes (entry_of r x).run xs))) 0 = ap (λ (l : List ℕ). length l) e in omega arith)
 codes-injective r s (x ∷ xs) (y ∷ ys) e =
-    let a : code (answerMeaning (entry_of r x).answer) ≡ code (answerMeaning (entry_of s y).answer) = cc in
+    let a : code (answer_meaning (entry_of r x).answer) ≡ code (answer_meaning (entry_of s y).answer) = cc in
     let b : codes (entry_of r x).run xs ≡ codes (entry_of s y).run ys = cc in
-    let u = code-injective (answerMeaning (entry_of r x).answer) (answerMeaning (entry_of s y).answer)
+    let u = code-injective (answer_meaning (entry_of r x).answer) (answer_meaning (entry_of s y).answer)
     (small-answer r x) (small-answer s y) a in
     let v = codes-injective (entry_of r x).run (entry_of s y).run xs ys b in
     λ i. u i ∷ v i

@@ -8,10 +8,10 @@ use Rattle.model.specs.Advance.{Entry, advance}
 use Rattle.phase.specs.declared.Phase.{Phase}
 use Rattle.phase.specs.declared.Phase.TheVariants.{Coming, Working, Holding, Resting}
 use Rattle.run.specs.declared.Run.{Run}
-use Rattle.table.specs.declared.Answer.{Answer}
-use Rattle.table.specs.declared.Answer.TheVariants.{Taken, Refused}
+use Rattle.run.specs.declared.Answer.{Answer}
+use Rattle.run.specs.declared.Answer.TheVariants.{Taken, Refused}
 use Rattle.run.specs.declared.Row.{Row}
-use Rattle.refinement.proofs.HandBuilt.{Line, worked, rows, t, at-even, one, two, runB, on1, on2, no}
+use Rattle.refinement.proofs.HandBuilt.{Line, worked, rows, t, at-even, one, two, run_b, on1, on2, no}
 use Rattle.refinement.proofs.Running.{running}
 
 -- a line with its name
@@ -89,11 +89,9 @@ empty-lines =
     ∷ built "or has worked"
     (single 1 (Working 1 1 1)) (sets 0 1 ∷ []) (empty-no ∷ []) (row-20 ∷ on1 1 ∷ []) (single 1 (Working 1 1 1))
     ∷ built "on a holder, which is not reported either"
-    (single 3 (Holding 1 1)) (sets 0 1 ∷ sets 1 0 ∷ none ∷ []) (empty-no ∷ report-no ∷ Taken ∷ []) (row-20 ∷ on1 1 ∷ on1 1 ∷ on1 1 ∷ [])
-    (single 3 (Holding 2 2))
+    (single 3 (Holding 1 1)) (sets 0 1 ∷ sets 1 0 ∷ none ∷ []) (empty-no ∷ report-no ∷ Taken ∷ []) (row-20 ∷ on1 1 ∷ on1 1 ∷ on1 1 ∷ []) (single 3 (Holding 2 2))
     ∷ built "on Holding(0,0) built by hand: it is within the limits, and no job that may be empty"
-    (single 3 (Holding 0 0)) (sets 0 1 ∷ sets 1 0 ∷ none ∷ []) (empty-no ∷ report-no ∷ Taken ∷ []) (row-20 ∷ on1 1 ∷ on1 1 ∷ on1 1 ∷ [])
-    (single 3 (Holding 1 1))
+    (single 3 (Holding 0 0)) (sets 0 1 ∷ sets 1 0 ∷ none ∷ []) (empty-no ∷ report-no ∷ Taken ∷ []) (row-20 ∷ on1 1 ∷ on1 1 ∷ on1 1 ∷ []) (single 3 (Holding 1 1))
     ∷ built "on Coming, and in the tick of the release"
     (one 1 1 (t 2 1 3 4 6 (Coming 1))) (sets 0 1 ∷ none ∷ sets 0 1 ∷ []) (empty-no ∷ Taken ∷ Taken ∷ []) (row-20 ∷ on1 0 ∷ on1 0 ∷ on1 0 ∷ [])
     (one 1 1 (t 2 1 3 4 6 (Resting 1)))
@@ -116,8 +114,8 @@ empty-lines =
     ∷ built "a report on a task that gets cores only because the one above is empty"
     (wide (Working 0 0 0) (Working 0 0 0)) (sets 2 0 ∷ sets 2 1 ∷ []) (report-no ∷ Taken ∷ []) (on2 1 1 ∷ on2 2 2 ∷ on2 0 0 ∷ []) (wide (Resting 1) (Resting 1))
     ∷ built "B with position 1 empty: position 2 takes both cores, and position 3 is late"
-    (runB 1 (Working 0 0 0) (Working 0 0 0) (Working 0 0 0)) (sets 0 1 ∷ none ∷ none ∷ []) (Taken ∷ Taken ∷ Refused 15 3 ∷ [])
-    (on2 2 2 ∷ on2 3 0 ∷ no 15 3 ∷ no 15 3 ∷ []) (runB 1 (Resting 2) (Resting 2) (Working 2 1 1))
+    (run_b 1 (Working 0 0 0) (Working 0 0 0) (Working 0 0 0)) (sets 0 1 ∷ none ∷ none ∷ []) (Taken ∷ Taken ∷ Refused 15 3 ∷ [])
+    (on2 2 2 ∷ on2 3 0 ∷ no 15 3 ∷ no 15 3 ∷ []) (run_b 1 (Resting 2) (Resting 2) (Working 2 1 1))
     ∷ []
 
 -- every line is its value by the definitions: one table with one check

@@ -8,10 +8,10 @@ use Prim.Native.Nat.{ℕ, zero, suc, ◌/◌, ◌%◌, ◌^◌, ◌≤◌}
 use native.Mathlib.Nat.{not-suc-le-zero, le_of_suc-le-suc}
 use lib.ListN.{length, get_or, take, drop}
 use lib.Seq.{length-take-le}
-use Rattle.model.specs.Jobs.{Book, emptyBook}
-use Rattle.model.specs.Advance.{Entry, emptiesOf}
+use Rattle.model.specs.Jobs.{Book, empty_book}
+use Rattle.model.specs.Advance.{Entry, empties_of}
 use Rattle.model.specs.Refusals.{Answer, taken, refused, Asked, shown, asked}
-use Rattle.model.specs.Lists.{answersFrom, bookFrom, book, enter, noReports, rows_from}
+use Rattle.model.specs.Lists.{answers_from, book_from, book, enter, no_reports, rows_from}
 use Rattle.model.specs.Task.{Table, Task, Rule, greedy, limited, idling, lending}
 use Rattle.model.specs.Verdict.{Verdict, Firm, Full, Miss}
 use Rattle.model.proofs.Computing.{computing}
@@ -22,13 +22,12 @@ use Rattle.model.proofs.WithdrawSetExamples.{together-lines, together-examples}
 use Rattle.model.proofs.WidthExamples.{width-lines, width-examples}
 use Rattle.model.proofs.LendExamples.{lend-lines, lend-examples}
 use Rattle.table.specs.Words.{visited, count, chain, table_of}
-use Rattle.table.specs.Answer.{headerNumber, lastStep, endingOf, firstOut, byHorizon, byTasks, byWalk, answer_of}
-use Rattle.judge.specs.Judged.{verdictOf}
-use Rattle.table.specs.AnswerMeaning.{answerMeaning}
-use Rattle.run.specs.Answer.{askedIn64}
-use Rattle.run.specs.Start.{startAnswer, start_of}
+use Rattle.table.specs.Answer.{header_number, last_step, ending_of, first_out, by_horizon, by_tasks, by_walk, answer_of}
+use Rattle.judge.specs.Judged.{verdict_of}
+use Rattle.run.specs.Answer.{answer_meaning, asked_in64}
+use Rattle.run.specs.Start.{start_answer, start_of}
 use Rattle.run.proofs.StartExact.{start-exact, start-taken}
-use Rattle.refinement.specs.Replay.{code, SlicesFit, ReplayOutcome, lastRow, startRefused, outcomeMeaning, MatchesBook, ReplayOf}
+use Rattle.refinement.specs.Replay.{code, SlicesFit, ReplayOutcome, last_row, start_refused, outcome_meaning, MatchesBook, ReplayOf}
 use Rattle.refinement.proofs.Listed.{listing, entries-listing}
 
 -- THE WORDS OF A LINE
@@ -41,7 +40,7 @@ number_of lending = 4
 
 -- a task's record
 abbrev entry : ℕ → Task → List ℕ
-entry next τ = next ∷ τ.offset ∷ τ.oddWidth ∷ τ.length ∷ τ.deadline ∷ τ.period ∷ τ.evenWidth ∷ []
+entry next τ = next ∷ τ.offset ∷ τ.odd_width ∷ τ.length ∷ τ.deadline ∷ τ.period ∷ τ.even_width ∷ []
 
 -- the records of tasks in priority order, numbered from n on
 unfoldable pub records : ℕ → List Task → List ℕ
@@ -61,13 +60,13 @@ Shows l =
     (k : ℕ) → k ≤ length l.entries → (numbers bytes : List ℕ) (o : ReplayOutcome)
     → ReplayOf (words_of l) (listing (take k l.entries)) numbers bytes o → SlicesFit (listing (take k l.entries)) numbers bytes
     → (o.numbers ≡ map code (take k l.answers) ++ drop k numbers)
-    × (emptiesOf (get_or l.entries k noReports) ≡ 0 → outcomeMeaning o ≡ lastRow (askedIn64 (get_or l.rows k (shown []))))
+    × (empties_of (get_or l.entries k no_reports) ≡ 0 → outcome_meaning o ≡ last_row (asked_in64 (get_or l.rows k (shown []))))
 
 -- a replay of any words is refused by 13, and everything is as found
 abbrev pub Misses : Line → Type 0
 Misses l =
     (es numbers bytes : List ℕ) (o : ReplayOutcome) → ReplayOf (words_of l) es numbers bytes o
-    → (outcomeMeaning o ≡ startRefused 13 0) × ((o.numbers ≡ numbers) × (o.bytes ≡ bytes))
+    → (outcome_meaning o ≡ start_refused 13 0) × ((o.numbers ≡ numbers) × (o.bytes ≡ bytes))
 
 -- the one where the line's verdict is Firm or Full, the other where it is Miss
 abbrev pub ByVerdict : Verdict → Line → Type 0
@@ -77,34 +76,34 @@ ByVerdict (Miss t p) l = Misses l
 
 -- FROM THE CONTRACT
 
-answers-take : (s : Table) (b : Book) (xs : List Entry) (k : ℕ) → answersFrom s b (take k xs) ≡ take k (answersFrom s b xs)
-unfolding answersFrom
+answers-take : (s : Table) (b : Book) (xs : List Entry) (k : ℕ) → answers_from s b (take k xs) ≡ take k (answers_from s b xs)
+unfolding answers_from
 answers-take s b xs zero = refl
 answers-take s b [] (suc k) = refl
-answers-take s b (x ∷ xs) (suc k) = ap (λ (l : List Answer). answersFrom s b (x ∷ []) ++ l) (answers-take s (enter s x b) xs k)
+answers-take s b (x ∷ xs) (suc k) = ap (λ (l : List Answer). answers_from s b (x ∷ []) ++ l) (answers-take s (enter s x b) xs k)
 
 -- row k is asked with the empty jobs of the entry that follows it
 rows_at :
     (s : Table) (b : Book) (xs : List Entry) (k : ℕ) (d : Asked) → k ≤ length xs
-    → get_or (rows_from s b xs) k d ≡ asked s (bookFrom s b (take k xs)) (emptiesOf (get_or xs k noReports))
-unfolding rows_from bookFrom
+    → get_or (rows_from s b xs) k d ≡ asked s (book_from s b (take k xs)) (empties_of (get_or xs k no_reports))
+unfolding rows_from book_from
 rows_at s b [] zero d h = refl
 rows_at s b (x ∷ xs) zero d h = refl
 rows_at s b [] (suc k) d h = absurd (not-suc-le-zero h)
 rows_at s b (x ∷ xs) (suc k) d h = rows_at s (enter s x b) xs k d (le_of_suc-le-suc h)
 
 -- a line's words are those of its table, and start answers by its verdict
-abbrev startOutcome : Verdict → Answer
-startOutcome (Firm a b) = taken
-startOutcome (Full a b) = taken
-startOutcome (Miss t p) = refused 13 0
+abbrev start_outcome : Verdict → Answer
+start_outcome (Firm a b) = taken
+start_outcome (Full a b) = taken
+start_outcome (Miss t p) = refused 13 0
 
 module _ (l : Line) (works : worked l ≡ l) (table : table_of (words_of l) ≡ l.table) where
-  shows : answerMeaning (start_of (words_of l)).answer ≡ taken → Shows l
+  shows : answer_meaning (start_of (words_of l)).answer ≡ taken → Shows l
   shows start k h numbers bytes o r fit = (
     b.each-answer ∙ (ap (λ (al : List Answer). map code al ++ drop (length xs) numbers) said
         ∙ ap (λ (n : ℕ). map code (take k l.answers) ++ drop n numbers) (length-take-le k l.entries h)),
-    λ q. b.row-after ∙ ap (λ (a : Asked). lastRow (askedIn64 a)) (row q),
+    λ q. b.row-after ∙ ap (λ (a : Asked). last_row (asked_in64 a)) (row q),
   )
     where
       xs : List Entry
@@ -113,23 +112,23 @@ module _ (l : Line) (works : worked l ≡ l) (table : table_of (words_of l) ≡ 
       b : MatchesBook (words_of l) xs numbers bytes o
       b = subst (λ (ys : List Entry). MatchesBook (words_of l) ys numbers bytes o) (entries-listing xs) (r.book ((start-taken (words_of l)).0 start) fit)
 
-      said : answersFrom (table_of (words_of l)) emptyBook xs ≡ take k l.answers
+      said : answers_from (table_of (words_of l)) empty_book xs ≡ take k l.answers
       said =
-          ap (λ (s : Table). answersFrom s emptyBook xs) table
-          ∙ (answers-take l.table emptyBook l.entries k ∙ ap (λ (m : Line). take k m.answers) works)
+          ap (λ (s : Table). answers_from s empty_book xs) table
+          ∙ (answers-take l.table empty_book l.entries k ∙ ap (λ (m : Line). take k m.answers) works)
 
-      row : emptiesOf (get_or l.entries k noReports) ≡ 0 → asked (table_of (words_of l)) (book (table_of (words_of l)) xs) 0 ≡ get_or l.rows k (shown [])
+      row : empties_of (get_or l.entries k no_reports) ≡ 0 → asked (table_of (words_of l)) (book (table_of (words_of l)) xs) 0 ≡ get_or l.rows k (shown [])
       row q =
           ap (λ (s : Table). asked s (book s xs) 0) table
           ∙ (ap (asked l.table (book l.table xs)) (sym q)
-          ∙ (sym (rows_at l.table emptyBook l.entries k (shown []) h) ∙ ap (λ (m : Line). get_or m.rows k (shown [])) works))
+          ∙ (sym (rows_at l.table empty_book l.entries k (shown []) h) ∙ ap (λ (m : Line). get_or m.rows k (shown [])) works))
 
-  misses : answerMeaning (start_of (words_of l)).answer ≡ refused 13 0 → Misses l
+  misses : answer_meaning (start_of (words_of l)).answer ≡ refused 13 0 → Misses l
   misses start es numbers bytes o r =
       let e = (r.refused 13 0).1 ((start-exact (words_of l) 13 0).0 start) in
       (e, r.refused-found 13 0 e)
 
-  by-verdict : (v : Verdict) → answerMeaning (start_of (words_of l)).answer ≡ startOutcome v → ByVerdict v l
+  by-verdict : (v : Verdict) → answer_meaning (start_of (words_of l)).answer ≡ start_outcome v → ByVerdict v l
   by-verdict (Firm a b) e = shows e
   by-verdict (Full a b) e = shows e
   by-verdict (Miss t p) e = misses e
@@ -158,14 +157,14 @@ pub record Begins : Type 0 where
   pub start : Answer
 
 abbrev begins : Line → Begins
-begins l = record { table = table_of (words_of l); start = answerMeaning (start_of (words_of l)).answer }
+begins l = record { table = table_of (words_of l); start = answer_meaning (start_of (words_of l)).answer }
 
 expected : Line → Begins
-expected l = record { table = l.table; start = startOutcome l.result }
+expected l = record { table = l.table; start = start_outcome l.result }
 
 -- what an example opens, so that its words' table and the answer of start compute
 unfoldable starting : Unit {0}
-unfolding computing expected records start_of startAnswer verdictOf answer_of byWalk byTasks byHorizon firstOut endingOf lastStep headerNumber table_of
+unfolding computing expected records start_of start_answer verdict_of answer_of by_walk by_tasks by_horizon first_out ending_of last_step header_number table_of
     chain count visited
 starting = tt
 

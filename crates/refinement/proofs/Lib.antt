@@ -1,5 +1,4 @@
--- The theorems on a list of entries: from the relation of one task to `refines`, `sets-book`, `sets-kept`, `working-book`, `demand-3` and `fenced`, and
--- examples through
+-- The theorems on a list of entries: from the relation of one task to `refines`, `sets-book`, `sets-kept`, `working-book`, `demand-3` and `fenced`, and examples through
 -- `replay`.
 pub mod PhaseRelated
 pub mod Emptied

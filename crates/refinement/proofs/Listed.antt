@@ -10,27 +10,27 @@ use native.Mathlib.Numerals.{add-one}
 use lib.ListN.{length, get_or, length-map}
 use lib.Seq.{ext_get_or}
 use borrow.Author.Tests.{not-false, not-true}
-use Rattle.model.specs.Advance.{Entry, advance, withdraw, withdrawAll}
-use Rattle.model.specs.Lists.{noReports}
+use Rattle.model.specs.Advance.{Entry, advance, withdraw, withdraw_all}
+use Rattle.model.specs.Lists.{no_reports}
 use Rattle.model.proofs.Lists.{map_at, map_more, up_at, up-length, up_more}
 use Rattle.model.proofs.Bools.{not-true-false}
 use Rattle.model.proofs.Search.{none_any, none-at}
 use Rattle.model.specs.Search.{any, up_from}
 use Rattle.table.proofs.Decide.{Decides, decides_and, decides_or, decides_eq}
 use Rattle.run.specs.declared.Run.{Run}
-use Rattle.table.specs.declared.Answer.{Answer}
-use Rattle.table.specs.AnswerMeaning.{answerMeaning}
-use Rattle.refinement.specs.Entries.{entry_of, answers, runAfterList}
-use Rattle.refinement.specs.Listing.{IsEntry, isEntry, Listed, listed, entryCount, entryKindAt, entrySecondAt, entryBy, entry_at, entriesIn}
+use Rattle.run.specs.declared.Answer.{Answer}
+use Rattle.run.specs.Answer.{answer_meaning}
+use Rattle.refinement.specs.Entries.{entry_of, answers, run_after_list}
+use Rattle.refinement.specs.Listing.{IsEntry, is_entry, Listed, listed, entry_count, entry_kind_at, entry_second_at, entry_by, entry_at, entries_in}
 use Rattle.refinement.specs.Replay.{code, codes}
 
-pub after_more : (r : Run) (xs : List Entry) (x : Entry) → runAfterList r (xs ++ (x ∷ [])) ≡ (entry_of (runAfterList r xs) x).run
-unfolding runAfterList
+pub after_more : (r : Run) (xs : List Entry) (x : Entry) → run_after_list r (xs ++ (x ∷ [])) ≡ (entry_of (run_after_list r xs) x).run
+unfolding run_after_list
 after_more r [] x = refl
 after_more r (y ∷ xs) x = after_more (entry_of r y).run xs x
 
-answers-more : (r : Run) (xs : List Entry) (x : Entry) → answers r (xs ++ (x ∷ [])) ≡ answers r xs ++ ((entry_of (runAfterList r xs) x).answer ∷ [])
-unfolding runAfterList answers
+answers-more : (r : Run) (xs : List Entry) (x : Entry) → answers r (xs ++ (x ∷ [])) ≡ answers r xs ++ ((entry_of (run_after_list r xs) x).answer ∷ [])
+unfolding run_after_list answers
 answers-more r [] x = refl
 answers-more r (y ∷ xs) x = ap (λ (l : List Answer). (entry_of r y).answer ∷ l) (answers-more (entry_of r y).run xs x)
 
@@ -41,15 +41,14 @@ length-answers r (x ∷ xs) = ap suc (length-answers (entry_of r x).run xs)
 
 -- the numbers of the answers
 abbrev coded : Answer → ℕ
-coded a = code (answerMeaning a)
+coded a = code (answer_meaning a)
 
 pub codes-none : (r : Run) → codes r [] ≡ []
 unfolding answers
 codes-none r = refl
 
-pub codes-more :
-    (r : Run) (xs : List Entry) (x : Entry) → codes r (xs ++ (x ∷ [])) ≡ codes r xs ++ (code (answerMeaning (entry_of (runAfterList r xs) x).answer) ∷ [])
-codes-more r xs x = ap (map coded) (answers-more r xs x) ∙ map_more coded (answers r xs) (entry_of (runAfterList r xs) x).answer
+pub codes-more : (r : Run) (xs : List Entry) (x : Entry) → codes r (xs ++ (x ∷ [])) ≡ codes r xs ++ (code (answer_meaning (entry_of (run_after_list r xs) x).answer) ∷ [])
+codes-more r xs x = ap (map coded) (answers-more r xs x) ∙ map_more coded (answers r xs) (entry_of (run_after_list r xs) x).answer
 
 pub length-codes : (r : Run) (xs : List Entry) → length (codes r xs) ≡ length xs
 length-codes r xs = length-map (answers r xs) coded ∙ length-answers r xs
@@ -66,7 +65,7 @@ pub length-entries : (es : List ℕ) (i : ℕ) → length (map (entry_at es) (up
 length-entries es i = length-map (up_from 0 i) (entry_at es) ∙ up-length 0 i
 
 -- the test decides whether words are an entry's
-pub is-entry-decides : (kind b : ℕ) → Decides (isEntry kind b) (IsEntry kind b)
+pub is-entry-decides : (kind b : ℕ) → Decides (is_entry kind b) (IsEntry kind b)
 is-entry-decides kind b =
     decides_or _ _ _ _ (decides_eq kind 0)
     (decides_and _ _ _ _ (decides_or _ _ _ _ (decides_eq kind 1) (decides_eq kind 2)) (decides_eq b 0))
@@ -77,45 +76,45 @@ unfolding listed
 listed-decides es = decides_and _ _ _ _ (decides_eq (length es % 3) 0) (all-decides, all_found)
   where
     other : ℕ → Bool
-    other i = not (isEntry (entryKindAt es i) (entrySecondAt es i))
+    other i = not (is_entry (entry_kind_at es i) (entry_second_at es i))
 
-    all-decides : not (any (entryCount es) other) ≡ true → (i : ℕ) → i < entryCount es → IsEntry (entryKindAt es i) (entrySecondAt es i)
+    all-decides : not (any (entry_count es) other) ≡ true → (i : ℕ) → i < entry_count es → IsEntry (entry_kind_at es i) (entry_second_at es i)
     all-decides e i l =
-        (is-entry-decides (entryKindAt es i) (entrySecondAt es i)).0
-        (not-false (isEntry (entryKindAt es i) (entrySecondAt es i)) (none-at (entryCount es) other i (not-true (any (entryCount es) other) e) l))
+        (is-entry-decides (entry_kind_at es i) (entry_second_at es i)).0
+        (not-false (is_entry (entry_kind_at es i) (entry_second_at es i)) (none-at (entry_count es) other i (not-true (any (entry_count es) other) e) l))
 
-    all_found : ((i : ℕ) → i < entryCount es → IsEntry (entryKindAt es i) (entrySecondAt es i)) → not (any (entryCount es) other) ≡ true
-    all_found h = ap not (none_any (entryCount es) other (λ i l. ap not ((is-entry-decides (entryKindAt es i) (entrySecondAt es i)).1 (h i l))))
+    all_found : ((i : ℕ) → i < entry_count es → IsEntry (entry_kind_at es i) (entry_second_at es i)) → not (any (entry_count es) other) ≡ true
+    all_found h = ap not (none_any (entry_count es) other (λ i l. ap not ((is-entry-decides (entry_kind_at es i) (entry_second_at es i)).1 (h i l))))
 
 -- words over, or words that are no entry's: no list of entries
 pub not-listed-over : (es : List ℕ) → (length es % 3 ≡ 0 → ⊥) → listed es ≡ false
 not-listed-over es n = not-true-false (listed es) (λ e. n ((listed-decides es).0 e).0)
 
-pub not-listed-at : (es : List ℕ) (i : ℕ) → i < entryCount es → isEntry (entryKindAt es i) (entrySecondAt es i) ≡ false → listed es ≡ false
+pub not-listed-at : (es : List ℕ) (i : ℕ) → i < entry_count es → is_entry (entry_kind_at es i) (entry_second_at es i) ≡ false → listed es ≡ false
 not-listed-at es i l n =
-    not-true-false (listed es) (λ e. true≢false (sym ((is-entry-decides (entryKindAt es i) (entrySecondAt es i)).1 (((listed-decides es).0 e).1 i l)) ∙ n))
+    not-true-false (listed es) (λ e. true≢false (sym ((is-entry-decides (entry_kind_at es i) (entry_second_at es i)).1 (((listed-decides es).0 e).1 i l)) ∙ n))
 
 -- a list of entries in words
 unfoldable pub listing : List Entry → List ℕ
 listing [] = []
 listing (advance x e ∷ xs) = 0 ∷ x ∷ e ∷ listing xs
 listing (withdraw p ∷ xs) = 1 ∷ p ∷ 0 ∷ listing xs
-listing (withdrawAll x ∷ xs) = 2 ∷ x ∷ 0 ∷ listing xs
+listing (withdraw_all x ∷ xs) = 2 ∷ x ∷ 0 ∷ listing xs
 
 length-listing : (xs : List Entry) → length (listing xs) ≡ 3 * length xs
 unfolding listing
 length-listing [] = refl
 length-listing (advance x e ∷ xs) = omega (arith, length-listing xs)
 length-listing (withdraw p ∷ xs) = omega (arith, length-listing xs)
-length-listing (withdrawAll x ∷ xs) = omega (arith, length-listing xs)
+length-listing (withdraw_all x ∷ xs) = omega (arith, length-listing xs)
 
 -- what is after three words is three words on
 further :
-    (a b c : ℕ) (ws : List ℕ) (i : ℕ) (x : Entry) → IsEntry (entryKindAt ws i) (entrySecondAt ws i) × (entry_at ws i ≡ x)
-    → IsEntry (entryKindAt (a ∷ b ∷ c ∷ ws) (suc i)) (entrySecondAt (a ∷ b ∷ c ∷ ws) (suc i)) × (entry_at (a ∷ b ∷ c ∷ ws) (suc i) ≡ x)
+    (a b c : ℕ) (ws : List ℕ) (i : ℕ) (x : Entry) → IsEntry (entry_kind_at ws i) (entry_second_at ws i) × (entry_at ws i ≡ x)
+    → IsEntry (entry_kind_at (a ∷ b ∷ c ∷ ws) (suc i)) (entry_second_at (a ∷ b ∷ c ∷ ws) (suc i)) × (entry_at (a ∷ b ∷ c ∷ ws) (suc i) ≡ x)
 further a b c ws i x h = (
   subst₂ IsEntry (sym kind) (sym second) h.0,
-  (λ j. entryBy (kind j) (first j) (second j)) ∙ h.1,
+  (λ j. entry_by (kind j) (first j) (second j)) ∙ h.1,
 )
   where
     word : ℕ → ℕ
@@ -133,15 +132,15 @@ further a b c ws i x h = (
 -- each entry is in its three words
 listing-at :
     (xs : List Entry) (i : ℕ) → i < length xs
-    → IsEntry (entryKindAt (listing xs) i) (entrySecondAt (listing xs) i) × (entry_at (listing xs) i ≡ get_or xs i noReports)
+    → IsEntry (entry_kind_at (listing xs) i) (entry_second_at (listing xs) i) × (entry_at (listing xs) i ≡ get_or xs i no_reports)
 unfolding listing
 listing-at [] i l = absurd (not-suc-le-zero l)
 listing-at (advance x e ∷ xs) zero l = (inl refl, refl)
 listing-at (withdraw p ∷ xs) zero l = (inr (inl refl, refl), refl)
-listing-at (withdrawAll x ∷ xs) zero l = (inr (inr refl, refl), refl)
-listing-at (advance x e ∷ xs) (suc i) l = further 0 x e (listing xs) i (get_or xs i noReports) (listing-at xs i (le_of_suc-le-suc l))
-listing-at (withdraw p ∷ xs) (suc i) l = further 1 p 0 (listing xs) i (get_or xs i noReports) (listing-at xs i (le_of_suc-le-suc l))
-listing-at (withdrawAll x ∷ xs) (suc i) l = further 2 x 0 (listing xs) i (get_or xs i noReports) (listing-at xs i (le_of_suc-le-suc l))
+listing-at (withdraw_all x ∷ xs) zero l = (inr (inr refl, refl), refl)
+listing-at (advance x e ∷ xs) (suc i) l = further 0 x e (listing xs) i (get_or xs i no_reports) (listing-at xs i (le_of_suc-le-suc l))
+listing-at (withdraw p ∷ xs) (suc i) l = further 1 p 0 (listing xs) i (get_or xs i no_reports) (listing-at xs i (le_of_suc-le-suc l))
+listing-at (withdraw_all x ∷ xs) (suc i) l = further 2 x 0 (listing xs) i (get_or xs i no_reports) (listing-at xs i (le_of_suc-le-suc l))
 
 -- LAW: every list of entries is encoded in words, and decoded from them
 pub listing-listed : (xs : List Entry) → Listed (listing xs)
@@ -149,11 +148,11 @@ listing-listed xs =
     let n = length-listing xs in
     (omega (arith, n), λ i l. (listing-at xs i (omega (arith, n))).0)
 
-pub entries-listing : (xs : List Entry) → entriesIn (listing xs) ≡ xs
+pub entries-listing : (xs : List Entry) → entries_in (listing xs) ≡ xs
 entries-listing xs =
-    ext_get_or noReports (entriesIn (listing xs)) xs (length-entries (listing xs) (entryCount (listing xs)) ∙ omega (arith, length-listing xs))
+    ext_get_or no_reports (entries_in (listing xs)) xs (length-entries (listing xs) (entry_count (listing xs)) ∙ omega (arith, length-listing xs))
     (λ i l.
-    let n = length-entries (listing xs) (entryCount (listing xs)) in
-    let m : i < entryCount (listing xs) = omega (arith, n) in
-    map_at (entry_at (listing xs)) (up_from 0 (entryCount (listing xs))) i noReports 0 (rw (up-length 0 (entryCount (listing xs))) m)
-    ∙ (ap (entry_at (listing xs)) (up_at 0 (entryCount (listing xs)) i 0 m ∙ zero-add i) ∙ (listing-at xs i (omega (arith, length-listing xs))).1))
+    let n = length-entries (listing xs) (entry_count (listing xs)) in
+    let m : i < entry_count (listing xs) = omega (arith, n) in
+    map_at (entry_at (listing xs)) (up_from 0 (entry_count (listing xs))) i no_reports 0 (rw (up-length 0 (entry_count (listing xs))) m)
+    ∙ (ap (entry_at (listing xs)) (up_at 0 (entry_count (listing xs)) i 0 m ∙ zero-add i) ∙ (listing-at xs i (omega (arith, length-listing xs))).1))

@@ -14,7 +14,7 @@ use Rattle.model.specs.Claims.{holds, claims}
 use Rattle.model.proofs.Jobs.{newest-is, claims-if}
 use Rattle.phase.specs.declared.Phase.{Phase}
 use Rattle.phase.specs.declared.Phase.TheVariants.{Coming, Working, Holding, Resting}
-use Rattle.phase.specs.Phase.{claiming, working, lateIn, released}
+use Rattle.phase.specs.Phase.{claiming, working, late_in, released}
 use Rattle.refinement.specs.Refines.{StateOfJob}
 use Rattle.refinement.proofs.PhaseRelated.{Present, PhaseRelated, newest-in, newest-first, early, hold-if, ended-also, rests-off}
 
@@ -30,7 +30,7 @@ due-open τ ok t js even k z h b i d o = go (leb i k) refl
 
 module _ (r : Rule) (τ : Task) (ok : ValidTask τ) (t : ℕ) (js : ℕ → Job) (even : Bool) where
   -- a job that is due and has not ended makes the task late ..
-  pub late_is : (ph : Phase) → PhaseRelated r τ t js even ph → (i : ℕ) → due τ i ≤ t → (js i).ended ≡ false → lateIn τ.deadline ph ≡ true
+  pub late_is : (ph : Phase) → PhaseRelated r τ t js even ph → (i : ℕ) → due τ i ≤ t → (js i).ended ≡ false → late_in τ.deadline ph ≡ true
   late_is (Coming left) h i d o = absurd (omega (arith, h.when, h.some))
   late_is (Working z had u) h i d o =
       let e : i ≡ h.number = due-open τ ok t js even h.number z h.present (le_trans h.by-due ok.constrained) i d o in
@@ -44,7 +44,7 @@ module _ (r : Rule) (τ : Task) (ok : ValidTask τ) (t : ℕ) (js : ℕ → Job)
       absurd (true≢false (sym h.over ∙ subst (λ (x : ℕ). (js x).ended ≡ false) e o))
 
   -- .. and a late task has one
-  pub late-has : (ph : Phase) → PhaseRelated r τ t js even ph → lateIn τ.deadline ph ≡ true → (i : ℕ) × (due τ i ≤ t) × ((js i).ended ≡ false)
+  pub late-has : (ph : Phase) → PhaseRelated r τ t js even ph → late_in τ.deadline ph ≡ true → (i : ℕ) × (due τ i ≤ t) × ((js i).ended ≡ false)
   late-has (Coming left) h e = absurd (false≢true e)
   late-has (Working z had u) h e = (h.number, omega (arith, h.present.when, eqb-true z τ.deadline e), ap (λ (j : Job). j.ended) h.line)
   late-has (Holding z u) h e = absurd (false≢true e)
@@ -65,7 +65,7 @@ module _ (r : Rule) (τ : Task) (ok : ValidTask τ) (t : ℕ) (js : ℕ → Job)
   not-open : (k : ℕ) → (js k).ended ≡ true → eqb (release τ k) t && not (js k).ended ≡ false
   not-open k over = ap (λ (x : Bool). eqb (release τ k) t && not x) over ∙ and-false (eqb (release τ k) t)
 
-  pub newest-does : (ph : Phase) → PhaseRelated r τ t js even ph → lateIn τ.deadline ph ≡ false → Does (newest τ t) ph
+  pub newest-does : (ph : Phase) → PhaseRelated r τ t js even ph → late_in τ.deadline ph ≡ false → Does (newest τ t) ph
   newest-does (Coming left) h n =
       at-newest (Coming left) 0 (newest-first τ t (le_trans ok.deadline-pos ok.constrained) (omega (arith, h.when, h.some))) (record {
         claimed = early r τ t 0 (js 0) (omega (arith, h.when, h.some));

@@ -6,18 +6,17 @@ use mathlib.Core.Path.{◌≡◌, refl}
 use Prim.Native.Nat.{ℕ, ◌-◌, ◌^◌}
 use Prim.Native.String.{String}
 use lib.ListN.{length, replicate}
-use Rattle.model.proofs.Computing.{Equal}
-use Rattle.model.specs.Refusals.{rowRefused, shown}
-use Rattle.model.specs.Sets.{setOf}
+use Rattle.model.specs.Refusals.{row_refused, shown}
+use Rattle.model.specs.Sets.{set_of}
 use Rattle.phase.specs.declared.Phase.{Phase}
 use Rattle.phase.specs.declared.Phase.TheVariants.{Coming, Working, Holding, Resting}
 use Rattle.phase.specs.Task.{unused}
 use Rattle.run.specs.declared.Run.{Run}
 use Rattle.run.specs.declared.Sets.{Sets}
-use Rattle.table.specs.declared.Answer.TheVariants.{Taken, Refused}
+use Rattle.run.specs.declared.Answer.TheVariants.{Taken, Refused}
 use Rattle.run.specs.Row.{row_of}
-use Rattle.run.specs.Sets.{askedIn32, setsIn, setsOf, setsMeaning}
-use Rattle.refinement.proofs.HandBuilt.{at-even, one, t, three, two, fencedRun}
+use Rattle.run.specs.Sets.{asked_in32, sets_in, sets_of, sets_meaning}
+use Rattle.refinement.proofs.HandBuilt.{at-even, one, t, three, two, fenced_run}
 use Rattle.refinement.proofs.Running.{running}
 use Rattle.refinement.proofs.WidthBuilt.{t₂}
 use Rattle.refinement.proofs.WithdrawBuilt.{out}
@@ -36,7 +35,7 @@ asked l = record {
   name = l.name;
   from = l.from;
   empties = l.empties;
-  gets = setsOf l.from l.empties;
+  gets = sets_of l.from l.empties;
   row = (row_of l.from l.empties).bytes;
 }
 
@@ -125,23 +124,21 @@ refused-lines =
     ∷ refuses "15 before 20" (pair 1 (Working 6 0 0) (Working 6 0 0)) 1 15 1
     ∷ refuses "20: not released in this tick" (pair 1 (Working 1 0 0) (Working 0 0 0)) 1 20 0
     ∷ refuses "20: past the count" (pair 1 (Working 0 0 0) (Working 0 0 0)) 4 20 0
-    ∷ refuses "a fence, and no bytes of it" (fencedRun 1 2 3 (t 0 1 1 1 1 (Working 0 0 0))) 0 14 0
+    ∷ refuses "a fence, and no bytes of it" (fenced_run 1 2 3 (t 0 1 1 1 1 (Working 0 0 0))) 0 14 0
     ∷ []
 
 pub sets-examples : map asked sets-lines ≡ sets-lines
-unfolding running setsOf setsIn setOf
+unfolding running sets_of sets_in set_of
 sets-examples = refl
 
 pub refused-examples : map asked refused-lines ≡ refused-lines
-unfolding running setsOf setsIn setOf
+unfolding running sets_of sets_in set_of
 refused-examples = refl
 
 -- the meaning: the 32 sets, or the refusal; and of the book's sets, as 32
-pub meaning-as : Equal (
-    (setsMeaning (setsOf (pair 4 (Holding 1 1) (Working 1 0 0)) 0), shown (2 ∷ 1 ∷ replicate 30 0))
-    ∷ (setsMeaning (setsOf (pair 1 (Working 1 0 0) (Working 6 0 0)) 0), rowRefused 15 2)
-    ∷ (askedIn32 (shown (2 ∷ 1 ∷ [])), shown (2 ∷ 1 ∷ replicate 30 0))
-    ∷ (askedIn32 (rowRefused 15 2), rowRefused 15 2)
-    ∷ [])
-unfolding running setsOf setsIn setOf
-meaning-as = refl
+pub meaning-as : (sets_meaning (sets_of (pair 4 (Holding 1 1) (Working 1 0 0)) 0) ≡ shown (2 ∷ 1 ∷ replicate 30 0))
+    × (sets_meaning (sets_of (pair 1 (Working 1 0 0) (Working 6 0 0)) 0) ≡ row_refused 15 2)
+    × (asked_in32 (shown (2 ∷ 1 ∷ [])) ≡ shown (2 ∷ 1 ∷ replicate 30 0))
+    × (asked_in32 (row_refused 15 2) ≡ row_refused 15 2)
+unfolding running sets_of sets_in set_of
+meaning-as = (refl, refl, refl, refl)

@@ -13,8 +13,8 @@ use Rattle.phase.specs.declared.Phase.TheVariants.{Coming, Working, Holding, Res
 use Rattle.phase.specs.declared.Task.{Task}
 use Rattle.phase.specs.Task.{unused}
 use Rattle.run.specs.declared.Run.{Run}
-use Rattle.table.specs.declared.Answer.TheVariants.{Taken, Refused}
-use Rattle.refinement.proofs.HandBuilt.{rows, t, at-even, fencedRun, one, two, three, on2, no, row64}
+use Rattle.run.specs.declared.Answer.TheVariants.{Taken, Refused}
+use Rattle.refinement.proofs.HandBuilt.{rows, t, at-even, fenced_run, one, two, three, on2, no, row64}
 use Rattle.refinement.proofs.EmptyBuilt.{Named, worked-named, built, sets, none, empty-no, report-no, row-20}
 use Rattle.refinement.proofs.WithdrawBuilt.{out}
 use Rattle.refinement.proofs.Running.{running}
@@ -127,10 +127,9 @@ limit-lines =
     ∷ built "14: a second width of 0, of an odd job" (one 1 2 (t₂ 0 1 0 3 4 6 (Working 0 0 0))) [] [] (no 14 0 ∷ []) (one 1 2 (t₂ 0 1 0 3 4 6 (Working 0 0 0)))
     ∷ built "above the cores" (one 1 2 (t₂ 0 1 3 3 4 6 (Working 0 0 0))) [] [] (no 14 0 ∷ []) (one 1 2 (t₂ 0 1 3 3 4 6 (Working 0 0 0)))
     ∷ built "above the unfenced ones"
-    (fencedRun 1 3 2 (t₂ 0 1 3 3 4 6 (Working 0 0 0))) [] [] (no 14 0 ∷ []) (fencedRun 1 3 2 (t₂ 0 1 3 3 4 6 (Working 0 0 0)))
+    (fenced_run 1 3 2 (t₂ 0 1 3 3 4 6 (Working 0 0 0))) [] [] (no 14 0 ∷ []) (fenced_run 1 3 2 (t₂ 0 1 3 3 4 6 (Working 0 0 0)))
     ∷ built "all of these"
-    (fencedRun 1 3 2 (at-even (t₂ 0 1 2 3 4 6 (Working 0 0 0)))) [] [] (row64 (1 ∷ 255 ∷ 1 ∷ []) ∷ [])
-    (fencedRun 1 3 2 (at-even (t₂ 0 1 2 3 4 6 (Working 0 0 0))))
+    (fenced_run 1 3 2 (at-even (t₂ 0 1 2 3 4 6 (Working 0 0 0)))) [] [] (row64 (1 ∷ 255 ∷ 1 ∷ []) ∷ []) (fenced_run 1 3 2 (at-even (t₂ 0 1 2 3 4 6 (Working 0 0 0))))
     ∷ built "14: a first width above the cores, of an even job"
     (one 1 2 (at-even (t₂ 0 3 1 3 4 6 (Working 0 0 0)))) [] [] (no 14 0 ∷ []) (one 1 2 (at-even (t₂ 0 3 1 3 4 6 (Working 0 0 0))))
     ∷ built "21: first widths rise, second ones fall"

@@ -2,20 +2,20 @@
 use mathlib.Core.Path.{◌≡◌, refl}
 use mathlib.Core.List.{List}
 use Prim.Native.Nat.{ℕ}
-use Rattle.model.specs.Task.{ruleOf}
-use Rattle.model.specs.Jobs.{emptyBook}
+use Rattle.model.specs.Task.{rule_of}
+use Rattle.model.specs.Jobs.{empty_book}
 use Rattle.table.specs.Words.{rule, table_of}
 use Rattle.table.specs.Numbers.{NoneApplies}
 use Rattle.table.proofs.Passed.{passed-valid}
-use Rattle.run.specs.Start.{startedRun}
+use Rattle.run.specs.Start.{started_run}
 use Rattle.run.proofs.StartPasses.{start-passes}
 use Rattle.refinement.proofs.Related.{related-start}
 use Rattle.refinement.proofs.Represents.{Represents}
 
 module _ (ws : List ℕ) (none : NoneApplies ws) where
-  same-rule : ruleOf (rule ws) ≡ (table_of ws).rule
+  same-rule : rule_of (rule ws) ≡ (table_of ws).rule
   unfolding table_of
   same-rule = refl
 
-  pub represents-start : Represents (table_of ws) emptyBook (startedRun (rule ws) (table_of ws))
+  pub represents-start : Represents (table_of ws) empty_book (started_run (rule ws) (table_of ws))
   represents-start = record { passes = start-passes ws none; related = related-start (rule ws) (table_of ws) same-rule (passed-valid ws none) }

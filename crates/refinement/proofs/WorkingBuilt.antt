@@ -1,17 +1,17 @@
--- Runs built by hand, asked which positions work (issue 47), computed from the definitions: holders and lenders do not, borrowers do, whatever cores their
--- sets have; 32 positions, empty and withdrawn jobs; and each refusal, with the empty set.
+-- Runs built by hand, asked who works (issue 47), computed from the definitions: holders and lenders do not, borrowers do, whatever cores their sets have;
+-- 32 positions, empty and withdrawn jobs; and each refusal, with the empty set.
 use mathlib.Core.List.{List, [], ◌∷◌, map}
 use mathlib.Core.Path.{◌≡◌, refl}
 use Prim.Native.Nat.{ℕ, ◌-◌, ◌^◌}
 use Prim.Native.String.{String}
 use lib.ListN.{replicate}
-use Rattle.model.specs.Sets.{setOf}
-use Rattle.model.specs.Working.{setWhere}
+use Rattle.model.specs.Sets.{set_of}
+use Rattle.model.specs.Working.{set_where}
 use Rattle.phase.specs.declared.Phase.TheVariants.{Coming, Working, Holding, Resting}
 use Rattle.run.specs.declared.Run.{Run}
 use Rattle.run.specs.declared.WorkingPositions.{WorkingPositions}
-use Rattle.table.specs.declared.Answer.TheVariants.{Taken, Refused}
-use Rattle.run.specs.Working.{workingOf}
+use Rattle.run.specs.declared.Answer.TheVariants.{Taken, Refused}
+use Rattle.run.specs.Working.{working_of}
 use Rattle.refinement.proofs.HandBuilt.{t, three}
 use Rattle.refinement.proofs.Running.{running}
 use Rattle.refinement.proofs.SetsBuilt.{lenders, pair}
@@ -26,7 +26,7 @@ pub record Line : Type 0 where
 
 -- the value by the definitions
 abbrev pub asked : Line → Line
-asked l = record { name = l.name; from = l.from; empties = l.empties; gets = workingOf l.from l.empties }
+asked l = record { name = l.name; from = l.from; empties = l.empties; gets = working_of l.from l.empties }
 
 abbrev works : String → Run → ℕ → ℕ → Line
 works n r e set = record { name = n; from = r; empties = e; gets = record { answer = Taken; set = set } }
@@ -57,5 +57,5 @@ working-lines =
     ∷ []
 
 pub working-examples : map asked working-lines ≡ working-lines
-unfolding running workingOf setWhere setOf
+unfolding running working_of set_where set_of
 working-examples = refl

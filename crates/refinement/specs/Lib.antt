@@ -1,5 +1,4 @@
--- The claims about a list of entries: the run refines the book, in rows, in sets and in which positions work, demand 3, the replay of a whole list, and the
--- effect of a fence.
+-- The claims about a list of entries: the run refines the book, in rows, in sets and in who works, demand 3, the replay of a whole list, and the effect of a fence.
 pub mod Entries
 pub mod Refines
 pub mod LateRun

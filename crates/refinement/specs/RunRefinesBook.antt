@@ -4,14 +4,14 @@ use Rattle.model.specs.Advance.{Entry}
 use Rattle.model.specs.Refusals.{taken}
 use Rattle.model.specs.FirmGuarantee.{FirmGuarantee}
 use Rattle.table.specs.Words.{table_of}
-use Rattle.table.specs.AnswerMeaning.{answerMeaning}
+use Rattle.run.specs.Answer.{answer_meaning}
 use Rattle.run.specs.Start.{start_of}
 use Rattle.refinement.specs.Refines.{Refines}
 
 -- the claims about the words of a table and a list xs of advances and withdrawals
 pub record RunRefinesBook (ws : List ℕ) (xs : List Entry) : Type 0 where
   -- start takes the table
-  pub started : answerMeaning (start_of ws).answer ≡ taken
+  pub started : answer_meaning (start_of ws).answer ≡ taken
   -- each answer in the list is the book's, and so is the row asked of the run after it with any empty jobs
   pub refines : Refines ws xs
   -- no deadline is missed, the list is behind the full-length run on no job, and under rules 1 to 3, of two lists at one tick the one with no

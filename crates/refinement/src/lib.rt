@@ -3,7 +3,7 @@ ghost use Rattle.refinement.specs.Replay.{ReplayOf};
 
 pub mod replays; // replays.rt: a run through a whole list of entries
 
-use table::Answer;
+use run::Answer;
 
 // The answer of a replay: the last row shown, or refused with number and position; the start refused with number and position; or the lent slices
 // do not fit: too short, or the entries' words are no list of entries.

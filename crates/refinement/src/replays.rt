@@ -1,20 +1,19 @@
 // A run through a whole list of entries.
 ghost use Rattle.std.specs.Prelude.{◌≡◌, ◌++◌, ◌≤◌, length, drop};
-ghost use Rattle.table.specs.AnswerMeaning.{answerMeaning};
-ghost use Rattle.refinement.specs.Entries.{entry_of, runAfterList};
-ghost use Rattle.refinement.specs.Listing.{isEntry, listed, entryCount, entryBy, entriesIn};
-ghost use Rattle.refinement.specs.Replay.{code, EntryAnswer, codes, slicesFit, rowCase, replayedRun};
-ghost use Rattle.model.specs.Sizes.{mostCores};
+ghost use Rattle.run.specs.Answer.{answer_meaning};
+ghost use Rattle.refinement.specs.Entries.{entry_of, run_after_list};
+ghost use Rattle.refinement.specs.Listing.{is_entry, listed, entry_count, entry_by, entries_in};
+ghost use Rattle.refinement.specs.Replay.{code, EntryAnswer, codes, slices_fit, row_case, replayed_run};
+ghost use Rattle.model.specs.Sizes.{most_cores};
 
 use crate::Replayed;
 use model::ROW;
-use run::{Run, RunAnswer};
-use table::Answer;
+use run::{Advanced, Answer, Run};
 
 // An answer as one number: 0 for taken, else number × 256 + position.
 fn code(answer: Answer) -> u32
-    requires { EntryAnswer (answerMeaning answer) }
-    ensures { result ≡ code (answerMeaning answer) }
+    requires { EntryAnswer (answer_meaning answer) }
+    ensures { result ≡ code (answer_meaning answer) }
 {
     match answer {
         Answer::Taken => 0,
@@ -24,7 +23,7 @@ fn code(answer: Answer) -> u32
 
 // Whether words of this kind with this last word are an entry's: an advance's, or a withdrawal's, whose last word is 0.
 fn is_entry(kind: u32, second: u32) -> bool
-    ensures { result ≡ isEntry kind second }
+    ensures { result ≡ is_entry kind second }
 {
     (kind == 0) | (((kind == 1) | (kind == 2)) & (second == 0))
 }
@@ -51,15 +50,15 @@ fn listed(entries: &[u32]) -> bool
 
 // Whether the words are a list of entries, and slices of this number of numbers and bytes have space for its answers and its last row.
 fn fits(entries: &[u32], numbers: usize, bytes: usize) -> bool
-    ensures { result ≡ slicesFit entries.now numbers bytes }
+    ensures { result ≡ slices_fit entries.now numbers bytes }
 {
     let count = entries.len() / 3;
     listed(entries) & ((count <= numbers) & (ROW <= bytes))
 }
 
 // An entry on a run, by its three words: its answer, and the next run.
-pub fn enter(run: Run, kind: u32, first: u32, second: u32) -> RunAnswer
-    ensures { result ≡ entry_of run (entryBy kind first second) }
+pub fn enter(run: Run, kind: u32, first: u32, second: u32) -> Advanced
+    ensures { result ≡ entry_of run (entry_by kind first second) }
 {
     if kind == 0 {
         return run.advance(first, second);
@@ -72,9 +71,9 @@ pub fn enter(run: Run, kind: u32, first: u32, second: u32) -> RunAnswer
 
 // The run after the list; its answers are written as numbers.
 fn enter_all(run: Run, entries: &[u32], numbers: &mut [u32]) -> Run
-    requires { entryCount entries.now ≤ length numbers.old }
-    ensures { (result ≡ runAfterList run (entriesIn entries.now))
-        × (numbers.new ≡ codes run (entriesIn entries.now) ++ drop (entryCount entries.now) numbers.old) }
+    requires { entry_count entries.now ≤ length numbers.old }
+    ensures { (result ≡ run_after_list run (entries_in entries.now))
+        × (numbers.new ≡ codes run (entries_in entries.now) ++ drop (entry_count entries.now) numbers.old) }
 {
     let mut last = run;
     let count = entries.len() / 3;
@@ -92,8 +91,8 @@ fn enter_all(run: Run, entries: &[u32], numbers: &mut [u32]) -> Run
 
 // Writes the row; the bytes after it are unchanged.
 pub fn put(row: [u8; ROW], bytes: &mut [u8])
-    requires { mostCores ≤ length bytes.old }
-    ensures { bytes.new ≡ row ++ drop mostCores bytes.old }
+    requires { most_cores ≤ length bytes.old }
+    ensures { bytes.new ≡ row ++ drop most_cores bytes.old }
 {
     let mut i: usize = 0;
     while i < ROW {
@@ -104,7 +103,7 @@ pub fn put(row: [u8; ROW], bytes: &mut [u8])
 
 // The case of the last row.
 fn row_case(answer: Answer) -> Replayed
-    ensures { result ≡ rowCase answer }
+    ensures { result ≡ row_case answer }
 {
     match answer {
         Answer::Taken => Replayed::Shown,
@@ -120,7 +119,7 @@ pub(crate) fn replay_run(
     bytes: &mut [u8],
 ) -> Replayed
     ensures { record { answer = result; numbers = numbers.new; bytes = bytes.new }
-        ≡ replayedRun run entries.now numbers.old bytes.old }
+        ≡ replayed_run run entries.now numbers.old bytes.old }
 {
     if fits(entries, numbers.len(), bytes.len()) {
         let last = enter_all(run, entries, numbers);

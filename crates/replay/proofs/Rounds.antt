@@ -7,12 +7,12 @@ use Prim.Native.Nat.{ℕ, ◌+◌, ◌-◌, ◌≤◌, ◌<◌}
 use native.Mathlib.Omega.{arith}
 use lib.ListN.{length, take, drop, length-append, length-drop}
 use lib.Seq.{drop-drop, length-take-le}
-use Rattle.splitter.specs.Split.{tooMany}
+use Rattle.splitter.specs.Split.{too_many}
 use Rattle.splitter.specs.Parts.{end_of}
 use Rattle.splitter.proofs.Tables.{part-rest}
 use Rattle.session.specs.declared.Session.{Session}
 use Rattle.session.specs.declared.Fed.{Fed}
-use Rattle.session.specs.Session.{FedOf, FedAgain, none, more, is_over, transcriptOf}
+use Rattle.session.specs.Session.{FedOf, FedAgain, none, more, is_over, transcript_of}
 use Rattle.stream.specs.declared.Sent.{Sent}
 use Rattle.stream.specs.Reading.{MovedToFront, ReadOnceOf}
 use Rattle.stream.specs.Sent.{SentOf}
@@ -24,8 +24,7 @@ use Rattle.replay.specs.Rounds.{RoundOf, ReceivedOf}
 
 -- what is left is fed once more
 again-then :
-    {ended : Bool} {s s' : Session} {bytes text left : List ℕ} → FedAgain ended s bytes text left s' → {before after : List ℕ} {r : Fed}
-    → FedOf s' ended left before after r
+    {ended : Bool} {s s' : Session} {bytes text left : List ℕ} → FedAgain ended s bytes text left s' → {before after : List ℕ} {r : Fed} → FedOf s' ended left before after r
     → FedAgain ended s bytes (text ++ take r.length after) (drop r.taken left) r.session
 again-then {ended} {s} {bytes = bytes} none {before} {after} {r} w =
     subst (λ (t : List ℕ). FedAgain ended s bytes t (drop r.taken bytes) r.session) (append-nil (take r.length after)) (more w none)
@@ -54,9 +53,7 @@ module _ (s : Session) (ended : Bool) (bytes before after : List ℕ) (at : ℕ)
   next-within = omega (arith, w.taken, i.within, length-drop at bytes)
 
   feeds-on : FedAgain ended s bytes (i.text ++ take r.length after) (drop (at + r.taken) bytes) r.session
-  feeds-on =
-      subst (λ (l : List ℕ). FedAgain ended s bytes (i.text ++ take r.length after) l r.session) (drop-drop r.taken at bytes)
-      (again-then i.feeds w)
+  feeds-on = subst (λ (l : List ℕ). FedAgain ended s bytes (i.text ++ take r.length after) l r.session) (drop-drop r.taken at bytes) (again-then i.feeds w)
 
   sent-on : SentOf 0 (i.text ++ take r.length after) sent'
   sent-on = sent-then 0 i.text (take r.length after) sent sent' i.taken i.whole t
@@ -86,7 +83,7 @@ module _ (s : Session) (ended : Bool) (bytes before after : List ℕ) (at : ℕ)
     text = i.text ++ take r.length after;
     feeds = feeds-on;
     sent = sent-on;
-    all = λ _. let k : at ≡ at + r.taken = omega (arith, z) in subst (λ (n : ℕ). transcriptOf r.session (end_of ended) (drop n bytes) ≡ []) k (w.rest z);
+    all = λ _. let k : at ≡ at + r.taken = omega (arith, z) in subst (λ (n : ℕ). transcript_of r.session (end_of ended) (drop n bytes) ≡ []) k (w.rest z);
     again = rw v a;
     short = λ u. omega (arith, w.short z (not-ended ended (sym a ∙ u)), z, length-drop at bytes);
   }
@@ -98,8 +95,7 @@ module _ (s : Session) (ended : Bool) (bytes before after : List ℕ) (at : ℕ)
 -- A READ
 
 module _ (s : Session) (held : ℕ) (before read after : List ℕ) (r : Received) (w : ReadOnceOf held before read r.reading) where
-  pub received-unread :
-      length after ≡ length before → r.reading.failed ≡ true → r.round.sent.count ≡ 0 → r.round.again ≡ false → ReceivedOf s held before after r
+  pub received-unread : length after ≡ length before → r.reading.failed ≡ true → r.round.sent.count ≡ 0 → r.round.again ≡ false → ReceivedOf s held before after r
   received-unread same f e a = record {
     same = same;
     came = [];
@@ -111,8 +107,7 @@ module _ (s : Session) (held : ℕ) (before read after : List ℕ) (r : Received
   }
 
   pub received-bytes :
-      r.reading.failed ≡ false → RoundOf s r.reading.ended (take r.reading.held read) r.round
-      → MovedToFront r.round.taken r.reading.held read after r.held
+      r.reading.failed ≡ false → RoundOf s r.reading.ended (take r.reading.held read) r.round → MovedToFront r.round.taken r.reading.held read after r.held
       → ReceivedOf s held before after r
   received-bytes f t q = record {
     same = q.same ∙ w.behind.same;

@@ -40,7 +40,7 @@ fn feed_all(start: Session, bytes: &[u8], ended: bool) -> Round
         at += fed.taken;
         let length = fed.length;
         sent = stream::send(sent.count, &out[..length]);
-        if !sent.whole {
+        if sent.whole {} else {
             return Round {
                 session: session,
                 taken: at,
@@ -66,7 +66,7 @@ fn receive(session: Session, buffer: &mut [u8], held: usize) -> Received
 {
     let reading = stream::read(buffer, held);
     if reading.failed {
-        stream::report_unread(b"sivorandra");
+        stream::report_unread(b"replay");
         let sent = Sent {
             count: 0,
             whole: true,
@@ -102,7 +102,7 @@ fn main() {
     while rounds > 0 {
         let received = receive(session, &mut buffer, held);
         let round = received.round;
-        if !round.again {
+        if round.again {} else {
             return;
         }
         let next = round.session;

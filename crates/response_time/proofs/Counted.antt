@@ -13,7 +13,7 @@ use Rattle.model.specs.Jobs.{Job}
 use Rattle.model.specs.Lists.{NeverMissed, full}
 use Rattle.model.specs.Horizon.{horizon}
 use Rattle.model.specs.Task.{AllValid, ValidTask, Table, Task, release, task}
-use Rattle.response_time.specs.Response.{worstResponse, worstResponseBy, responseTime}
+use Rattle.response_time.specs.Response.{worst_response, worst_response_by, response_time}
 use Rattle.response_time.proofs.Greatest.{greatest-at, greatest-least}
 use Rattle.response_time.proofs.Response.{ended-later, worst-response-exact, time-ended, time-first}
 
@@ -41,24 +41,24 @@ module _ (s : Table) (ok : AllValid s) (nm : NeverMissed s) (p : ℕ) (l : p < l
 
   -- the time of job k, counted once it has ended
   abbrev counted : ℕ → ℕ → ℕ
-  counted n k = cond (ended n k) (responseTime s p k) 0
+  counted n k = cond (ended n k) (response_time s p k) 0
 
-  counted-on : (n k : ℕ) → ended n k ≡ true → counted n k ≡ responseTime s p k
+  counted-on : (n k : ℕ) → ended n k ≡ true → counted n k ≡ response_time s p k
   counted-on n k e = rw e
 
   counted-off : (n k : ℕ) → ended n k ≡ false → counted n k ≡ 0
   counted-off n k e = rw e
 
   -- what is counted is within the longest so far, and the longest so far is within what bounds them all
-  counted-most : (n k : ℕ) → counted n k ≤ worstResponseBy s p n
+  counted-most : (n k : ℕ) → counted n k ≤ worst_response_by s p n
   counted-most n k = go (ended n k) refl
     where
-      go : (b : Bool) → ended n k ≡ b → counted n k ≤ worstResponseBy s p n
-      go true e = unfold worstResponseBy in greatest-at (suc n) (counted n) k (le_trans (number-below n k e) (omega arith))
+      go : (b : Bool) → ended n k ≡ b → counted n k ≤ worst_response_by s p n
+      go true e = unfold worst_response_by in greatest-at (suc n) (counted n) k (le_trans (number-below n k e) (omega arith))
       go false e = rw (counted-off n k e) (omega arith)
 
-  worst-response-least : (n m : ℕ) → ((k : ℕ) → counted n k ≤ m) → worstResponseBy s p n ≤ m
-  unfolding worstResponseBy
+  worst-response-least : (n m : ℕ) → ((k : ℕ) → counted n k ≤ m) → worst_response_by s p n ≤ m
+  unfolding worst_response_by
   worst-response-least n m h = greatest-least (suc n) (counted n) m (λ k g. h k)
 
   -- later ticks take nothing back
@@ -69,28 +69,27 @@ module _ (s : Table) (ok : AllValid s) (nm : NeverMissed s) (p : ℕ) (l : p < l
       go true e = rw (counted-on n k e, counted-on m k (ended-later s p k n m h e)) (omega arith)
       go false e = rw (counted-off n k e) (omega arith)
 
-  worst-response-grows : (n m : ℕ) → n ≤ m → worstResponseBy s p n ≤ worstResponseBy s p m
-  worst-response-grows n m h = worst-response-least n (worstResponseBy s p m) (λ k. le_trans (counted-stays n m k h) (counted-most m k))
+  worst-response-grows : (n m : ℕ) → n ≤ m → worst_response_by s p n ≤ worst_response_by s p m
+  worst-response-grows n m h = worst-response-least n (worst_response_by s p m) (λ k. le_trans (counted-stays n m k h) (counted-most m k))
 
   -- AT TICK 0 no job has ended
-  pub worst-response-start : worstResponseBy s p 0 ≡ 0
+  pub worst-response-start : worst_response_by s p 0 ≡ 0
   worst-response-start = le_antisymm (worst-response-least 0 0 (λ k. start k)) (omega arith)
     where
       start : (k : ℕ) → counted 0 k ≤ 0
       start k = unfold full in omega arith
 
   -- NO JOB HAS ENDED between two ticks
-  pub worst-response-same : (n m : ℕ) → n ≤ m → ((k : ℕ) → ended m k ≡ ended n k) → worstResponseBy s p m ≡ worstResponseBy s p n
+  pub worst-response-same : (n m : ℕ) → n ≤ m → ((k : ℕ) → ended m k ≡ ended n k) → worst_response_by s p m ≡ worst_response_by s p n
   worst-response-same n m h e =
       le_antisymm
-      (worst-response-least m (worstResponseBy s p n)
-      (λ k. subst (λ (b : Bool). cond b (responseTime s p k) 0 ≤ worstResponseBy s p n) (sym (e k)) (counted-most n k)))
+      (worst-response-least m (worst_response_by s p n) (λ k. subst (λ (b : Bool). cond b (response_time s p k) 0 ≤ worst_response_by s p n) (sym (e k)) (counted-most n k)))
       (worst-response-grows n m h)
 
   -- a job that ends in tick n takes the ticks up to the end of that tick
-  time-now : (n k : ℕ) → release τ k ≤ n → ended n k ≡ false → ended (suc n) k ≡ true → responseTime s p k ≡ suc n - release τ k
+  time-now : (n k : ℕ) → release τ k ≤ n → ended n k ≡ false → ended (suc n) k ≡ true → response_time s p k ≡ suc n - release τ k
   time-now n k b o e =
-      let t : ℕ = responseTime s p k in
+      let t : ℕ = response_time s p k in
       let next : release τ k + suc (n - release τ k) ≡ suc n = omega arith in
       -- not before: the job would have ended at n
       let above : ¬ (t < suc (n - release τ k)) = λ h.
@@ -103,8 +102,8 @@ module _ (s : Table) (ok : AllValid s) (nm : NeverMissed s) (p : ℕ) (l : p < l
   -- ONE JOB HAS ENDED, in tick m, and no other since tick n
   pub worst-response-more :
       (n m K : ℕ) → n ≤ m → release τ K ≤ m → ended m K ≡ false → ended (suc m) K ≡ true → ((k : ℕ) → (k ≡ K → ⊥) → ended (suc m) k ≡ ended n k)
-      → worstResponseBy s p (suc m) ≡ max (worstResponseBy s p n) (suc m - release τ K)
-  worst-response-more n m K h b o e same = le_antisymm (worst-response-least (suc m) (max (worstResponseBy s p n) time) (λ k. up k (eqb k K) refl)) down
+      → worst_response_by s p (suc m) ≡ max (worst_response_by s p n) (suc m - release τ K)
+  worst-response-more n m K h b o e same = le_antisymm (worst-response-least (suc m) (max (worst_response_by s p n) time) (λ k. up k (eqb k K) refl)) down
     where
       time : ℕ
       time = suc m - release τ K
@@ -112,28 +111,28 @@ module _ (s : Table) (ok : AllValid s) (nm : NeverMissed s) (p : ℕ) (l : p < l
       own : counted (suc m) K ≡ time
       own = counted-on (suc m) K e ∙ time-now m K b o e
 
-      up : (k : ℕ) (x : Bool) → eqb k K ≡ x → counted (suc m) k ≤ max (worstResponseBy s p n) time
-      up k true q = subst (λ (i : ℕ). counted (suc m) i ≤ max (worstResponseBy s p n) time) (sym (eqb-true k K q)) (omega (arith, own))
+      up : (k : ℕ) (x : Bool) → eqb k K ≡ x → counted (suc m) k ≤ max (worst_response_by s p n) time
+      up k true q = subst (λ (i : ℕ). counted (suc m) i ≤ max (worst_response_by s p n) time) (sym (eqb-true k K q)) (omega (arith, own))
       up k false q =
           le_trans
-          (subst (λ (x : Bool). cond x (responseTime s p k) 0 ≤ worstResponseBy s p n) (sym (same k (eqb-false k K q))) (counted-most n k))
+          (subst (λ (x : Bool). cond x (response_time s p k) 0 ≤ worst_response_by s p n) (sym (same k (eqb-false k K q))) (counted-most n k))
           (omega arith)
 
-      down : max (worstResponseBy s p n) time ≤ worstResponseBy s p (suc m)
+      down : max (worst_response_by s p n) time ≤ worst_response_by s p (suc m)
       down = omega (arith, worst-response-grows n (suc m) (omega arith), own, counted-most (suc m) K)
 
   -- FROM THE HORIZON ON it is the response time: no job takes longer
-  pub worst-response-after : (n : ℕ) → horizon s ≤ n → worstResponseBy s p n ≡ worstResponse s p
-  worst-response-after n h = le_antisymm (worst-response-least n (worstResponse s p) (λ k. within k (ended n k))) (worst-response-grows (horizon s) n h)
+  pub worst-response-after : (n : ℕ) → horizon s ≤ n → worst_response_by s p n ≡ worst_response s p
+  worst-response-after n h = le_antisymm (worst-response-least n (worst_response s p) (λ k. within k (ended n k))) (worst-response-grows (horizon s) n h)
     where
-      within : (k : ℕ) (x : Bool) → cond x (responseTime s p k) 0 ≤ worstResponse s p
+      within : (k : ℕ) (x : Bool) → cond x (response_time s p k) 0 ≤ worst_response s p
       within k true = most
         where
-          over : ¬ (worstResponse s p < responseTime s p k)
+          over : ¬ (worst_response s p < response_time s p k)
           over g =
-              let z : ℕ = release τ k + worstResponse s p in
-              true≢false (sym ((worst-response-exact s ok nm p l).bound k z (le_refl z)) ∙ time-first s ok nm p l k (worstResponse s p) g)
+              let z : ℕ = release τ k + worst_response s p in
+              true≢false (sym ((worst-response-exact s ok nm p l).bound k z (le_refl z)) ∙ time-first s ok nm p l k (worst_response s p) g)
 
-          most : responseTime s p k ≤ worstResponse s p
+          most : response_time s p k ≤ worst_response s p
           most = omega (arith, over)
       within k false = omega arith

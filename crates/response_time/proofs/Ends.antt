@@ -23,8 +23,8 @@ pub record Ended (js : ℕ → Job) (E : ℕ) : Type 0 where
   pub from : (k : ℕ) → E ≤ k → (js k).ended ≡ false
 
 -- a place that works has ended the jobs before the one that it works on, and one that rests those before the next
-pub works-ended : (τ : Task) (handledTo : ℕ) (js : ℕ → Job) (l m n : ℕ) → (h : PlaceWorks τ handledTo js l m n) → Ended js h.number
-works-ended τ handledTo js l m n h = record {
+pub works-ended : (τ : Task) (handled_to : ℕ) (js : ℕ → Job) (l m n : ℕ) → (h : PlaceWorks τ handled_to js l m n) → Ended js h.number
+works-ended τ handled_to js l m n h = record {
   below = h.past;
   from = λ k g. ⊎_elim
       (λ (e : h.number ≡ k). subst (λ (i : ℕ). (js i).ended ≡ false) e (ap (λ (j : Job). j.ended) h.line))
@@ -32,8 +32,8 @@ works-ended τ handledTo js l m n h = record {
       (eq-or-lt_of_le g);
 }
 
-pub rests-ended : (τ : Task) (handledTo : ℕ) (js : ℕ → Job) (l m n : ℕ) → (h : PlaceRests τ handledTo js l m n) → Ended js h.number
-rests-ended τ handledTo js l m n h = record { below = h.past; from = λ k g. ap (λ (j : Job). j.ended) (h.later k g) }
+pub rests-ended : (τ : Task) (handled_to : ℕ) (js : ℕ → Job) (l m n : ℕ) → (h : PlaceRests τ handled_to js l m n) → Ended js h.number
+rests-ended τ handled_to js l m n h = record { below = h.past; from = λ k g. ap (λ (j : Job). j.ended) (h.later k g) }
 
 -- of two lines with the same number the same jobs have ended
 pub ended_same : (js js' : ℕ → Job) (E : ℕ) → Ended js E → Ended js' E → (k : ℕ) → (js' k).ended ≡ (js k).ended

@@ -4,31 +4,31 @@ use mathlib.Core.Path.{refl, ◌≡◌}
 use Prim.Native.Nat.{ℕ, ◌-◌}
 use lib.ListN.{drop, length, replicate}
 use Rattle.model.proofs.Computing.{computing}
-use Rattle.model.specs.Sizes.{mostTasks}
-use Rattle.table.proofs.Examples.{chained, wordsA}
-use Rattle.table.specs.Answer.{answer_of, byHorizon, byTasks, byWalk, endingOf, firstOut, headerNumber, lastStep}
+use Rattle.model.specs.Sizes.{most_tasks}
+use Rattle.table.proofs.Examples.{chained, words_a}
+use Rattle.table.specs.Answer.{answer_of, by_horizon, by_tasks, by_walk, ending_of, first_out, header_number, last_step}
 use Rattle.table.specs.Words.{chain, count, visited, table_of}
-use Rattle.judge.specs.Judged.{verdictOf}
-use Rattle.table.specs.declared.FigureAnswer.{FigureAnswer}
-use Rattle.response_time.specs.ResponseTimes.{responseTimesIn, responseTimesOf, noTimes}
+use Rattle.judge.specs.Judged.{verdict_of}
+use Rattle.response_time.specs.declared.ResponseTimes.{ResponseTimes}
+use Rattle.response_time.specs.ResponseTimes.{response_times_in, response_times_of, no_times}
 use Rattle.response_time.specs.ResponseTimes as answers
-use Rattle.response_time.specs.Response.{greatest, worstResponseBy, responseTime}
+use Rattle.response_time.specs.Response.{greatest, worst_response_by, response_time}
 
 -- a line: the words of a table, and what is answered of them
 pub record Line : Type 0 where
   pub words : List ℕ
-  pub result : FigureAnswer
+  pub result : ResponseTimes
 
 -- the value by the definitions of a line's words
 abbrev pub worked : Line → Line
-worked l = record { words = l.words; result = responseTimesOf l.words }
+worked l = record { words = l.words; result = response_times_of l.words }
 
 -- these response times are given, with zeros past them; the words are turned down by a number, with its position
 abbrev gives : List ℕ → List ℕ → Line
-gives ws xs = record { words = ws; result = answers.givenTimes (xs ++ replicate (mostTasks - length xs) 0) }
+gives ws xs = record { words = ws; result = answers.given_times (xs ++ replicate (most_tasks - length xs) 0) }
 
 abbrev refuses : List ℕ → ℕ → ℕ → Line
-refuses ws n p = record { words = ws; result = noTimes n p }
+refuses ws n p = record { words = ws; result = no_times n p }
 
 -- a header with an empty fence, and a record's seven words, with widths v and w and with both widths v
 abbrev header : ℕ → ℕ → ℕ → List ℕ
@@ -41,20 +41,20 @@ abbrev entry : ℕ → ℕ → ℕ → ℕ → ℕ → ℕ → List ℕ
 entry n o v c d p = entry₂ n o v v c d p
 
 -- the tasks of A on five cores, of which 0 and 3 are fenced; A's and B's records in chain order under a rule; E; F
-abbrev fencedA : List ℕ
-fencedA = 3 ∷ 5 ∷ 1 ∷ 9 ∷ 0 ∷ drop 5 wordsA
+abbrev fenced_a : List ℕ
+fenced_a = 3 ∷ 5 ∷ 1 ∷ 9 ∷ 0 ∷ drop 5 words_a
 
-abbrev ruledA : ℕ → List ℕ
-ruledA r = header 1 3 r ++ entry 2 0 2 2 5 5 ++ entry 3 0 2 3 5 5 ++ entry 0 0 1 4 5 5
+abbrev ruled_a : ℕ → List ℕ
+ruled_a r = header 1 3 r ++ entry 2 0 2 2 5 5 ++ entry 3 0 2 3 5 5 ++ entry 0 0 1 4 5 5
 
-abbrev ruledB : ℕ → List ℕ
-ruledB r = header 1 2 r ++ entry 2 0 1 3 3 4 ++ entry 3 0 2 1 4 4 ++ entry 0 0 1 2 2 4
+abbrev ruled_b : ℕ → List ℕ
+ruled_b r = header 1 2 r ++ entry 2 0 1 3 3 4 ++ entry 3 0 2 1 4 4 ++ entry 0 0 1 2 2 4
 
-abbrev wordsE : List ℕ
-wordsE = header 1 1 2 ++ entry 2 1 1 1 1 2 ++ entry 0 0 1 1 2 3
+abbrev words_e : List ℕ
+words_e = header 1 1 2 ++ entry 2 1 1 1 1 2 ++ entry 0 0 1 1 2 3
 
-abbrev wordsF : List ℕ
-wordsF = header 1 1 1 ++ entry 0 0 1 2 1 2
+abbrev words_f : List ℕ
+words_f = header 1 1 1 ++ entry 0 0 1 2 1 2
 
 -- four cores, rule 3: the third task has its worst job before the last S (`only-before-S`)
 abbrev early : List ℕ
@@ -72,13 +72,13 @@ alternating c = header 1 2 1 ++ entry₂ 2 0 1 2 2 2 2 ++ entry 0 0 1 c 6 6
 abbrev pub lines : List Line
 lines =
     -- A, which is Full, with its records permuted and with a fence; A2 misses on the horizon; A3, and rule 4 with its response times
-    gives wordsA (2 ∷ 5 ∷ 4 ∷ []) ∷ gives fencedA (2 ∷ 5 ∷ 4 ∷ []) ∷ refuses (ruledA 2) 13 0 ∷ gives (ruledA 3) (2 ∷ 5 ∷ 4 ∷ [])
-    ∷ gives (ruledA 4) (2 ∷ 5 ∷ 4 ∷ [])
+    gives words_a (2 ∷ 5 ∷ 4 ∷ []) ∷ gives fenced_a (2 ∷ 5 ∷ 4 ∷ []) ∷ refuses (ruled_a 2) 13 0 ∷ gives (ruled_a 3) (2 ∷ 5 ∷ 4 ∷ [])
+    ∷ gives (ruled_a 4) (2 ∷ 5 ∷ 4 ∷ [])
     -- B, B2, B3 and B4
-    ∷ gives (ruledB 1) (3 ∷ 4 ∷ 2 ∷ []) ∷ refuses (ruledB 2) 13 0 ∷ gives (ruledB 3) (3 ∷ 4 ∷ 2 ∷ [])
-    ∷ gives (ruledB 4) (3 ∷ 4 ∷ 2 ∷ [])
+    ∷ gives (ruled_b 1) (3 ∷ 4 ∷ 2 ∷ []) ∷ refuses (ruled_b 2) 13 0 ∷ gives (ruled_b 3) (3 ∷ 4 ∷ 2 ∷ [])
+    ∷ gives (ruled_b 4) (3 ∷ 4 ∷ 2 ∷ [])
     -- E, and F, which misses at tick 1
-    ∷ gives wordsE (1 ∷ 2 ∷ []) ∷ refuses wordsF 13 0
+    ∷ gives words_e (1 ∷ 2 ∷ []) ∷ refuses words_f 13 0
     -- the worst job comes before the last S; and one that ends after the horizon
     ∷ gives early (1 ∷ 2 ∷ 2 ∷ [])
     ∷ gives (header 1 1 2 ++ entry 2 1 1 2 3 3 ++ entry 0 0 1 2 6 6) (2 ∷ 4 ∷ [])
@@ -98,7 +98,6 @@ lines =
 
 -- every line is its value by the definitions
 pub examples : map worked lines ≡ lines
-unfolding responseTimesOf responseTimesIn worstResponseBy greatest responseTime verdictOf chained answer_of byWalk byTasks byHorizon firstOut endingOf lastStep
-    headerNumber
+unfolding response_times_of response_times_in worst_response_by greatest response_time verdict_of chained answer_of by_walk by_tasks by_horizon first_out ending_of last_step header_number
     table_of chain count visited computing
 examples = refl

@@ -19,7 +19,7 @@ use Rattle.model.specs.Lists.{NeverMissed, full}
 use Rattle.model.specs.Horizon.{S, horizon, hyperperiod}
 use Rattle.model.specs.Search.{least}
 use Rattle.model.specs.Task.{AllValid, ValidTask, Table, Task, due, idling, lending, release, task}
-use Rattle.response_time.specs.Response.{WorstResponse, endedAfter, greatest, worstResponse, worstResponseBy, responseTime}
+use Rattle.response_time.specs.Response.{WorstResponse, ended_after, greatest, worst_response, worst_response_by, response_time}
 use Rattle.response_time.proofs.Greatest.{greatest-at, greatest-is}
 
 -- what has ended stays ended
@@ -76,22 +76,22 @@ module _ (s : Table) (ok : AllValid s) (nm : NeverMissed s) (p : ℕ) (l : p < l
       (λ o. nm p (due (task s p) k) (missed-at s p (due (task s p) k) k l refl o))
 
   -- the time of a job is that of its end
-  pub time-ended : (k : ℕ) → endedAfter s p k (responseTime s p k) ≡ true
-  unfolding responseTime
+  pub time-ended : (k : ℕ) → ended_after s p k (response_time s p k) ≡ true
+  unfolding response_time
   time-ended k =
-      let f : ℕ → Bool = endedAfter s p k in
+      let f : ℕ → Bool = ended_after s p k in
       least-any (suc (task s p).deadline) f (any_of (suc (task s p).deadline) f (task s p).deadline (omega arith) (met k))
 
-  pub time-first : (k z : ℕ) → z < responseTime s p k → endedAfter s p k z ≡ false
-  unfolding responseTime
-  time-first k z h = least-lowest (suc (task s p).deadline) (endedAfter s p k) z h
+  pub time-first : (k z : ℕ) → z < response_time s p k → ended_after s p k z ≡ false
+  unfolding response_time
+  time-first k z h = least-lowest (suc (task s p).deadline) (ended_after s p k) z h
 
   -- the time of each job that has ended by the horizon, and 0 of the others
   abbrev counted : ℕ → ℕ
-  counted i = cond ((full s (horizon s)).job p i).ended (responseTime s p i) 0
+  counted i = cond ((full s (horizon s)).job p i).ended (response_time s p i) 0
 
   -- no job takes longer, by strong induction on the job
-  bounded : (n k : ℕ) → k < n → endedAfter s p k (worstResponse s p) ≡ true
+  bounded : (n k : ℕ) → k < n → ended_after s p k (worst_response s p) ≡ true
   bounded zero k h = absurd (not-suc-le-zero h)
   bounded (suc n) k h = go (leb (due (task s p) k) (horizon s)) refl (bounded n)
     where
@@ -99,47 +99,47 @@ module _ (s : Table) (ok : AllValid s) (nm : NeverMissed s) (p : ℕ) (l : p < l
       τ = task s p
 
       go :
-          (t : Bool) → leb (due τ k) (horizon s) ≡ t → ((i : ℕ) → i < n → endedAfter s p i (worstResponse s p) ≡ true)
-          → endedAfter s p k (worstResponse s p) ≡ true
+          (t : Bool) → leb (due τ k) (horizon s) ≡ t → ((i : ℕ) → i < n → ended_after s p i (worst_response s p) ≡ true)
+          → ended_after s p k (worst_response s p) ≡ true
       go true q ih =
           let in-time : due τ k ≤ horizon s = leb-true (due τ k) (horizon s) q in
-          let own : counted k ≡ responseTime s p k = rw (ended-later s p k (due τ k) (horizon s) in-time (met k)) in
-          let most : counted k ≤ worstResponse s p =
-          unfold worstResponseBy in greatest-at (suc (horizon s)) counted k (number-most τ k (horizon s) (ok p l) in-time) in
-          ended-later s p k (release τ k + responseTime s p k) (release τ k + worstResponse s p) (omega arith) (time-ended k)
+          let own : counted k ≡ response_time s p k = rw (ended-later s p k (due τ k) (horizon s) in-time (met k)) in
+          let most : counted k ≤ worst_response s p =
+          unfold worst_response_by in greatest-at (suc (horizon s)) counted k (number-most τ k (horizon s) (ok p l) in-time) in
+          ended-later s p k (release τ k + response_time s p k) (release τ k + worst_response s p) (omega arith) (time-ended k)
       go false q ih =
           let x : Earlier s p k = earlier s ok p k l (leb-false (due τ k) (horizon s) q) in
-          let e : ((full s (release τ x.before + worstResponse s p + hyperperiod s.tasks)).job p (x.before + x.periods)).ended ≡ true =
-          subst (λ (j : Job). j.ended ≡ true) (repeat-all s ok p l x.periods x.whole x.before x.from (worstResponse s p))
+          let e : ((full s (release τ x.before + worst_response s p + hyperperiod s.tasks)).job p (x.before + x.periods)).ended ≡ true =
+          subst (λ (j : Job). j.ended ≡ true) (repeat-all s ok p l x.periods x.whole x.before x.from (worst_response s p))
           (ih x.before (omega (arith, x.fewer))) in
-          let when : release τ x.before + worstResponse s p + hyperperiod s.tasks ≡ release τ k + worstResponse s p = omega (arith, x.apart) in
-          subst (λ (j : ℕ). ((full s (release τ k + worstResponse s p)).job p j).ended ≡ true) x.number
+          let when : release τ x.before + worst_response s p + hyperperiod s.tasks ≡ release τ k + worst_response s p = omega (arith, x.apart) in
+          subst (λ (j : ℕ). ((full s (release τ k + worst_response s p)).job p j).ended ≡ true) x.number
           (subst (λ (t : ℕ). ((full s t).job p (x.before + x.periods)).ended ≡ true) when e)
 
   -- some job takes just that long: if none did, none would take a tick
   abbrev Reached : Type 0
-  Reached = (k : ℕ) × (endedAfter s p k (worstResponse s p) ≡ true) × ((z : ℕ) → z < worstResponse s p → endedAfter s p k z ≡ false)
+  Reached = (k : ℕ) × (ended_after s p k (worst_response s p) ≡ true) × ((z : ℕ) → z < worst_response s p → ended_after s p k z ≡ false)
 
   reaches : Reached
-  reaches = go (unfold worstResponseBy in greatest-is (horizon s) counted)
+  reaches = go (unfold worst_response_by in greatest-is (horizon s) counted)
     where
-      at : (k : ℕ) (t : Bool) → worstResponse s p ≡ cond t (responseTime s p k) 0 → Reached
+      at : (k : ℕ) (t : Bool) → worst_response s p ≡ cond t (response_time s p k) 0 → Reached
       at k true e = (
         k,
-        subst (λ (z : ℕ). endedAfter s p k z ≡ true) (sym e) (time-ended k),
+        subst (λ (z : ℕ). ended_after s p k z ≡ true) (sym e) (time-ended k),
         λ z h. time-first k z (omega arith),
       )
       at k false e =
-          let now : endedAfter s p 0 0 ≡ true = subst (λ (z : ℕ). endedAfter s p 0 z ≡ true) e (bounded 1 0 (omega arith)) in
+          let now : ended_after s p 0 0 ≡ true = subst (λ (z : ℕ). ended_after s p 0 z ≡ true) e (bounded 1 0 (omega arith)) in
           absurd (false≢true (sym (ap (λ (j : Job). j.ended) (full-fresh s (release (task s p) 0 + 0) p 0 (omega arith))) ∙ now))
 
-      go : (i : ℕ) × (i < suc (horizon s)) × (worstResponse s p ≡ counted i) → Reached
+      go : (i : ℕ) × (i < suc (horizon s)) × (worst_response s p ≡ counted i) → Reached
       go x = at x.0 ((full s (horizon s)).job p x.0).ended x.2
 
   -- THE THEOREM: the response time that the horizon shows holds over all ticks
-  pub worst-response-exact : WorstResponse s p (worstResponse s p)
+  pub worst-response-exact : WorstResponse s p (worst_response s p)
   worst-response-exact = record {
-    bound = λ k n h. ended-later s p k (release (task s p) k + worstResponse s p) n h (bounded (suc k) k (omega arith));
+    bound = λ k n h. ended-later s p k (release (task s p) k + worst_response s p) n h (bounded (suc k) k (omega arith));
     reached = reaches;
   }
 
@@ -154,24 +154,24 @@ worst-response-only s p r r' x y = omega (arith, not-below s p r r' x y, not-bel
 
 -- it is from 1 to D
 pub worst-response-range :
-    (s : Table) → AllValid s → NeverMissed s → (p : ℕ) → p < length s.tasks → (1 ≤ worstResponse s p) × (worstResponse s p ≤ (task s p).deadline)
-worst-response-range s ok nm p l = (least-one (worstResponse s p) refl, omega (arith, over))
+    (s : Table) → AllValid s → NeverMissed s → (p : ℕ) → p < length s.tasks → (1 ≤ worst_response s p) × (worst_response s p ≤ (task s p).deadline)
+worst-response-range s ok nm p l = (least-one (worst_response s p) refl, omega (arith, over))
   where
-    x : WorstResponse s p (worstResponse s p)
+    x : WorstResponse s p (worst_response s p)
     x = worst-response-exact s ok nm p l
 
-    least-one : (r : ℕ) → worstResponse s p ≡ r → 1 ≤ r
+    least-one : (r : ℕ) → worst_response s p ≡ r → 1 ≤ r
     least-one zero e =
         absurd (false≢true (sym (ap (λ (j : Job). j.ended) (full-fresh s (release (task s p) 0) p 0 (omega arith)))
         ∙ x.bound 0 (release (task s p) 0) (omega arith)))
     least-one (suc r) e = omega arith
 
-    over : ¬ ((task s p).deadline < worstResponse s p)
+    over : ¬ ((task s p).deadline < worst_response s p)
     over h = true≢false (sym (met s ok nm p l x.reached.0) ∙ x.reached.2 (task s p).deadline h)
 
 -- THE THEOREM (lending-worst-response): under rule 4 each response time is that of rule 3, since the full-length runs are equal
-pub lending-worst-response : (τs : List Task) (m f p : ℕ) → worstResponse (under lending τs m f) p ≡ worstResponse (under idling τs m f) p
-unfolding worstResponseBy responseTime horizon
+pub lending-worst-response : (τs : List Task) (m f p : ℕ) → worst_response (under lending τs m f) p ≡ worst_response (under idling τs m f) p
+unfolding worst_response_by response_time horizon
 lending-worst-response τs m f p = ap by-run (fun_ext (λ n. (lending-idling τs m f n).0))
   where
     i : Table

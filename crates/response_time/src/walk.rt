@@ -1,18 +1,18 @@
 // The full-length run of a table that passed, from event to event, and the worst-case response time of each task in it.
 ghost use Rattle.std.specs.Prelude.{◌≡◌, suc};
-ghost use Rattle.judge.specs.FirstMiss.{missedBefore, byMiss};
-ghost use Rattle.table.specs.Fit.{loadedTable, Fit};
-ghost use Rattle.judge.specs.Judged.{acceptedOf};
-ghost use Rattle.response_time.specs.ResponseTimes.{responseTimesIn, responseTimesBy};
+ghost use Rattle.judge.specs.FirstMiss.{missed_before, by_miss};
+ghost use Rattle.table.specs.Fit.{loaded_table, Fit};
+ghost use Rattle.judge.specs.Judged.{accepted_of};
+ghost use Rattle.response_time.specs.ResponseTimes.{response_times_in, response_times_by};
 
+use crate::ResponseTimes;
 use model::MOST_TASKS;
-use table::{Answer, FigureAnswer, Loaded};
+use table::{Answer, Loaded};
 
 // Jumps up to the horizon and past it, and records the response time of each job that ends; a missed deadline is 13.
-pub(crate) fn times_of(table: Loaded) -> FigureAnswer
+pub(crate) fn times_of(table: Loaded) -> ResponseTimes
     requires { Fit table }
-    ensures { result ≡ responseTimesBy (byMiss (missedBefore (loadedTable table) (suc table.horizon)) (acceptedOf table))
-        (responseTimesIn (loadedTable table)) }
+    ensures { result ≡ response_times_by (by_miss (missed_before (loaded_table table) (suc table.horizon)) (accepted_of table)) (response_times_in (loaded_table table)) }
 {
     let columns = simulation::columns::columns_of(table);
     let setting = columns.setting;
@@ -24,7 +24,7 @@ pub(crate) fn times_of(table: Loaded) -> FigureAnswer
     let mut responses = [0u32; MOST_TASKS];
     while registers.tick <= table.horizon {
         if crate::recording::any_left(registers.claiming & registers.due, &places) {
-            return crate::refused(model::numbers::TABLE_MISSES, 0);
+            return crate::refused(13, 0);
         }
         let on = judge::by_events::run_on(
             setting,
@@ -38,8 +38,8 @@ pub(crate) fn times_of(table: Loaded) -> FigureAnswer
         let ended = registers.chosen & (registers.chosen ^ registers.claiming);
         crate::recording::record_ends(ended, registers.tick, &times, &places, &mut responses);
     }
-    FigureAnswer {
-        answer: Answer::Taken,
-        figures: responses,
+    ResponseTimes {
+        answer: Answer::Passed,
+        responses: responses,
     }
 }

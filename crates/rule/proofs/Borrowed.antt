@@ -9,7 +9,7 @@ use native.Mathlib.Omega.{arith}
 use lib.Dec.{eqb, ltb}
 use lib.ListN.{length, get_or, length-map}
 use Rattle.model.specs.Grants.{claimants, grants, some}
-use Rattle.model.specs.Lending.{among, merged, lent, shownCores, tries, unlent}
+use Rattle.model.specs.Lending.{among, merged, lent, shown_cores, tries, unlent}
 use Rattle.model.specs.Search.{filtered, member}
 use Rattle.model.specs.Task.{greedy}
 use Rattle.model.proofs.Bools.{and_left, and_right, not-true-false, or_cases, or_left, or_right}
@@ -150,18 +150,18 @@ map-place f e (g ∷ gs) zero = refl
 map-place f e (g ∷ gs) (suc q) = map-place f e gs q
 
 module _ (gs bs : List (List ℕ)) (same : length gs ≡ length bs) where
-  pub shown-length : length (shownCores gs bs) ≡ length gs
+  pub shown-length : length (shown_cores gs bs) ≡ length gs
   shown-length = beside-length bs (map (unlent bs) gs) ∙ sym same
 
   -- of each place: what it borrows, and what no place borrows of its own
-  pub shown-place : (q : ℕ) → get_or (shownCores gs bs) q [] ≡ get_or bs q [] ++ unlent bs (get_or gs q [])
+  pub shown-place : (q : ℕ) → get_or (shown_cores gs bs) q [] ≡ get_or bs q [] ++ unlent bs (get_or gs q [])
   unfolding filtered
   shown-place q =
       beside-place bs (map (unlent bs) gs) (omega (arith, length-map gs (unlent bs))) q
       ∙ ap (λ (l : List ℕ). get_or bs q [] ++ l) (map-place (unlent bs) refl gs q)
 
   module _ (c : ℕ) where
-    split : (q : ℕ) → In c (get_or (shownCores gs bs) q []) → (In c (get_or bs q [])) ⊎ (In c (unlent bs (get_or gs q [])))
+    split : (q : ℕ) → In c (get_or (shown_cores gs bs) q []) → (In c (get_or bs q [])) ⊎ (In c (unlent bs (get_or gs q [])))
     split q h = in-append c (get_or bs q []) (unlent bs (get_or gs q [])) (sym (ap (member c) (shown-place q)) ∙ h)
 
     -- what is kept is of its own, and of no other place
@@ -175,14 +175,14 @@ module _ (gs bs : List (List ℕ)) (same : length gs ≡ length bs) where
         not-not true e = sym e
 
     -- each core is one that the place borrows, or one of its own
-    pub shown-in : (q : ℕ) → In c (get_or (shownCores gs bs) q []) → (In c (get_or bs q [])) ⊎ (In c (get_or gs q []))
+    pub shown-in : (q : ℕ) → In c (get_or (shown_cores gs bs) q []) → (In c (get_or bs q [])) ⊎ (In c (get_or gs q []))
     shown-in q h = ⊎_elim inl (λ k. inr (kept-own q k).0) (split q h)
 
     borrowed-kept : (i j : ℕ) → In c (get_or bs i []) → In c (unlent bs (get_or gs j [])) → ⊥
     borrowed-kept i j h k = false≢true (sym (kept-own j k).1 ∙ among_of c bs i h)
 
   -- and none is there twice
-  pub shown-apart : Apart gs → Apart bs → Apart (shownCores gs bs)
+  pub shown-apart : Apart gs → Apart bs → Apart (shown_cores gs bs)
   shown-apart ag ab c i j l h k =
       ⊎_elim
       (λ x. ⊎_elim (λ y. ab c i j l x y) (λ y. borrowed-kept c i j x y) (split c j k))

@@ -2,15 +2,14 @@
 use mathlib.Core.Path.{◌≡◌, refl, sym, ap, ap₂, ◌∙◌}
 use mathlib.Core.Bool.{Bool, true, false, ◌&&◌, ◌||◌, cond, and-false, false-or, false≢true}
 use mathlib.Core.List.{List, [], ◌∷◌, ◌++◌, append-nil}
-use Prim.Native.Nat.{ℕ, zero, suc, ◌+◌, ◌-◌, ◌^◌, ◌≤◌, ◌<◌}
+use Prim.Native.Nat.{ℕ, zero, suc, ◌-◌, ◌^◌, ◌≤◌, ◌<◌}
 use native.Mathlib.Omega.{arith}
 use lib.ListN.{length, take, drop, get_or, length-drop}
 use lib.Dec.{leb, ltb, eqb, eqb-suc-suc, eqb-zero-suc, eqb-suc-zero}
 use borrow.Author.Tests.{le-leb, lt-leb}
 use Rattle.model.specs.Task.{Rule}
-use Rattle.model.specs.Grants.{Claimant, claimants, endsChoosing, given, left, grants, some}
-use Rattle.model.specs.Row.{owner}
-use Rattle.model.specs.Search.{bit, member, up_from}
+use Rattle.model.specs.Grants.{Claimant, claimants, ends_choosing, given, left, grants, some}
+use Rattle.model.specs.Search.{bit, up_from}
 use Rattle.model.proofs.Bools.{and_left}
 use Rattle.model.proofs.Grants.{claimant, claimants-same, grants-none, grants-empty}
 use Rattle.model.proofs.Lists.{up-length}
@@ -72,11 +71,9 @@ module _ (r : Rule) where
       ∙ ap (λ (l : List ℕ). given (claimant true w) free ++ l) (sym (idle-zero w ws d (left r (claimant true w) free) f.gone))
   first-given zero (w ∷ ws) c d free (suc p) f =
       ap (λ (t : Bool). share (claimants ws (lower c)) (left r (claimant t w) free) p) f.here
-      ∙ ap (λ (bs : List Claimant). share bs (left r (claimant true w) free) p)
-      (claimants-same ws (lower c) (lower d) (λ i k. sym (f.others (suc i) (λ e. omega arith))))
+      ∙ ap (λ (bs : List Claimant). share bs (left r (claimant true w) free) p) (claimants-same ws (lower c) (lower d) (λ i k. sym (f.others (suc i) (λ e. omega arith))))
       ∙ sym (idle-suc w ws d (left r (claimant true w) free) f.gone p)
-      ∙ ap (λ (t : Bool). cond t (given (claimant true w) free) [] ++ share (claimants (w ∷ ws) d) (left r (claimant true w) free) (suc p))
-      (sym (eqb-suc-zero p))
+      ∙ ap (λ (t : Bool). cond t (given (claimant true w) free) [] ++ share (claimants (w ∷ ws) d) (left r (claimant true w) free) (suc p)) (sym (eqb-suc-zero p))
   first-given (suc q) (w ∷ ws) c d free zero f =
       let o = f.below 0 (omega arith) in
       let b = claimant true (get_or ws q 0) in
@@ -91,36 +88,6 @@ module _ (r : Rule) where
       ∙ ap (λ (l : List ℕ). cond (eqb p q) (given b free) [] ++ l) (sym (idle-suc w ws d (left r b free) (f.others 0 (λ e. omega arith) ∙ o) p))
       ∙ ap (λ (t : Bool). cond t (given b free) [] ++ share (claimants (w ∷ ws) d) (left r b free) (suc p)) (sym (eqb-suc-suc p q))
 
-  -- the same of the owner of a core x: the first claimant, where it is given the core, or else the owner among the others; p is the position of place 0
-  module _ (x : ℕ) where
-    idle-owner : (p w : ℕ) (ws : List ℕ) (c : ℕ → Bool) (free : List ℕ) → c 0 ≡ false
-        → owner x p (grants r (claimants (w ∷ ws) c) free) ≡ owner x (suc p) (grants r (claimants ws (lower c)) free)
-    unfolding grants claimants owner member
-    idle-owner p w ws c free h =
-        let u = unclaimed r (claimant (c 0) w) free h in
-        ap₂ (λ (g l : List ℕ). cond (member x g) p (owner x (suc p) (grants r (claimants ws (lower c)) l))) u.0 u.1
-
-    pub first-owner : (p q : ℕ) (ws : List ℕ) (c d : ℕ → Bool) (free : List ℕ) → First c d q → q < length ws
-        → owner x p (grants r (claimants ws c) free)
-        ≡ cond (member x (given (claimant true (get_or ws q 0)) free)) (p + q) (owner x p (grants r (claimants ws d) (left r (claimant true (get_or ws q 0)) free)))
-    unfolding grants claimants owner
-    first-owner p q [] c d free f h = absurd (omega arith)
-    first-owner p zero (w ∷ ws) c d free f h =
-        let b = claimant true w in
-        let z : p ≡ p + 0 = omega arith in
-        ap (λ (t : Bool). cond (member x (given (claimant t w) free)) p (owner x (suc p) (grants r (claimants ws (lower c)) (left r (claimant t w) free))))
-        f.here
-        ∙ ap (λ (bs : List Claimant). cond (member x (given b free)) p (owner x (suc p) (grants r bs (left r b free))))
-        (claimants-same ws (lower c) (lower d) (λ i k. sym (f.others (suc i) (λ e. omega arith))))
-        ∙ ap₂ (λ (i o : ℕ). cond (member x (given b free)) i o) z (sym (idle-owner p w ws d (left r b free) f.gone))
-    first-owner p (suc q) (w ∷ ws) c d free f h =
-        let o = f.below 0 (omega arith) in
-        let b = claimant true (get_or ws q 0) in
-        let n : suc p + q ≡ p + suc q = omega arith in
-        idle-owner p w ws c free o
-        ∙ first-owner (suc p) q ws (lower c) (lower d) free (first-later f) (omega arith)
-        ∙ ap₂ (λ (i k : ℕ). cond (member x (given b free)) i k) n (sym (idle-owner p w ws d (left r b free) (f.others 0 (λ e. omega arith) ∙ o)))
-
   -- places that do not claim may be left out at the end
   pub only-first : (n : ℕ) (ws : List ℕ) (c : ℕ → Bool) (free : List ℕ) (p : ℕ) → ((i : ℕ) → n ≤ i → c i ≡ false)
       → get_or (grants r (claimants ws c) free) p [] ≡ get_or (grants r (claimants (take n ws) c) free) p []
@@ -134,8 +101,7 @@ module _ (r : Rule) where
   pub granted-claims : (ws : List ℕ) (c : ℕ → Bool) (free : List ℕ) (p : ℕ) → granted r (claimants ws c) free p ≡ true → (p < length ws) × (c p ≡ true)
   unfolding grants claimants
   granted-claims [] c free p h = absurd (false≢true h)
-  granted-claims (w ∷ ws) c free zero h =
-      (omega arith, and_left (c 0) (leb w (length free)) (and_left (c 0 && leb w (length free)) (ltb 0 w) (sym (some-given (claimant (c 0) w) free) ∙ h)))
+  granted-claims (w ∷ ws) c free zero h = (omega arith, and_left (c 0) (leb w (length free)) (and_left (c 0 && leb w (length free)) (ltb 0 w) (sym (some-given (claimant (c 0) w) free) ∙ h)))
   granted-claims (w ∷ ws) c free (suc p) h = let g = granted-claims ws (lower c) (left r (claimant (c 0) w) free) p h in (omega arith, g.1)
 
 -- ---- on a plain count of free cores, the claimants being the places of a set
@@ -190,12 +156,12 @@ module _ (r : Rule) (ws : List ℕ) (x q n p : ℕ) (l : Lowest x q) where
   misfits : n < get_or ws q 0 → leb (get_or ws q 0) (length (up_from 0 n)) ≡ false
   misfits k = lt-leb (get_or ws q 0) (length (up_from 0 n)) (omega (arith, up-length 0 n))
 
-  pub places-passed : n < get_or ws q 0 → endsChoosing r ≡ false → places r ws x n p ≡ places r ws (x - 2 ^ q) n p
+  pub places-passed : n < get_or ws q 0 → ends_choosing r ≡ false → places r ws x n p ≡ places r ws (x - 2 ^ q) n p
   places-passed k e =
       let f = passed r b (up_from 0 n) refl (misfits k) e in
       missed f.0 ∙ ap (λ (o : List ℕ). granted r (claimants ws (bit (x - 2 ^ q))) o p) f.1
 
-  pub places-ended : n < get_or ws q 0 → endsChoosing r ≡ true → places r ws x n p ≡ false
+  pub places-ended : n < get_or ws q 0 → ends_choosing r ≡ true → places r ws x n p ≡ false
   places-ended k e =
       let f = ended r b (up_from 0 n) refl (misfits k) e in
       missed f.0 ∙ ap (λ (o : List ℕ). granted r (claimants ws (bit (x - 2 ^ q))) o p) f.1 ∙ none-granted r (claimants ws (bit (x - 2 ^ q))) p

@@ -11,10 +11,10 @@ use lib.Seq.{length-take-le}
 use lib.Dec.{leb, ltb}
 use borrow.Author.Tests.{leb-true, leb-false, le-leb, lt-leb, lt-ltb}
 use Rattle.model.specs.Task.{Rule}
-use Rattle.model.specs.Grants.{Claimant, fits, endsChoosing, given, left, grants, some}
+use Rattle.model.specs.Grants.{Claimant, fits, ends_choosing, given, left, grants, some}
 use Rattle.model.proofs.Bools.{and_right}
 use Rattle.model.proofs.Grants.{given_nothing, left-nothing}
-use Rattle.rule.specs.Granted.{selection, givenBy, leftBy, granted}
+use Rattle.rule.specs.Granted.{selection, given_by, left_by, granted}
 use Rattle.rule.specs.declared.Selection.{Selection}
 use Rattle.rule.specs.declared.Selection.TheVariants.{Takes, Passed, Ends}
 use Rattle.cores.proofs.Ascending.{Range, range-drop, In, not-in-none, in_take, in-drop, split-apart}
@@ -34,11 +34,11 @@ module _ (r : Rule) (b : Claimant) (free : List ℕ) where
   unfolding given left
   fitting e f = rw (e, f) (refl, refl)
 
-  pub ended : b.claims ≡ true → leb b.width (length free) ≡ false → endsChoosing r ≡ true → Case r b free [] []
+  pub ended : b.claims ≡ true → leb b.width (length free) ≡ false → ends_choosing r ≡ true → Case r b free [] []
   unfolding given left
   ended e f g = rw (e, f, g) (refl, refl)
 
-  pub passed : b.claims ≡ true → leb b.width (length free) ≡ false → endsChoosing r ≡ false → Case r b free [] free
+  pub passed : b.claims ≡ true → leb b.width (length free) ≡ false → ends_choosing r ≡ false → Case r b free [] free
   unfolding given left
   passed e f g = rw (e, f, g) (refl, refl)
 
@@ -46,36 +46,32 @@ module _ (r : Rule) (b : Claimant) (free : List ℕ) where
 
 module _ (r : Rule) (free width : ℕ) where
   pub takes : selection r free width ≡ Takes → width ≤ free
-  takes = go (leb width free) refl (endsChoosing r)
+  takes = go (leb width free) refl (ends_choosing r)
     where
       go : (t : Bool) → leb width free ≡ t → (u : Bool) → cond t Takes (cond u Ends Passed) ≡ Takes → width ≤ free
       go true h u e = leb-true width free h
       go false h true e = let z : ◌≡◌ {A = ℕ} 0 1 = cc in absurd (omega arith)
       go false h false e = let z : ◌≡◌ {A = ℕ} 0 1 = cc in absurd (omega arith)
 
-  pub passes : selection r free width ≡ Passed → (free < width) × (endsChoosing r ≡ false)
-  passes = go (leb width free) refl (endsChoosing r) refl
+  pub passes : selection r free width ≡ Passed → (free < width) × (ends_choosing r ≡ false)
+  passes = go (leb width free) refl (ends_choosing r) refl
     where
-      go :
-          (t : Bool) → leb width free ≡ t → (u : Bool) → endsChoosing r ≡ u → cond t Takes (cond u Ends Passed) ≡ Passed
-          → (free < width) × (endsChoosing r ≡ false)
+      go : (t : Bool) → leb width free ≡ t → (u : Bool) → ends_choosing r ≡ u → cond t Takes (cond u Ends Passed) ≡ Passed → (free < width) × (ends_choosing r ≡ false)
       go true h u k e = let z : ◌≡◌ {A = ℕ} 0 1 = cc in absurd (omega arith)
       go false h true k e = let z : ◌≡◌ {A = ℕ} 0 1 = cc in absurd (omega arith)
       go false h false k e = (leb-false width free h, k)
 
-  pub ends : selection r free width ≡ Ends → (free < width) × (endsChoosing r ≡ true)
-  ends = go (leb width free) refl (endsChoosing r) refl
+  pub ends : selection r free width ≡ Ends → (free < width) × (ends_choosing r ≡ true)
+  ends = go (leb width free) refl (ends_choosing r) refl
     where
-      go :
-          (t : Bool) → leb width free ≡ t → (u : Bool) → endsChoosing r ≡ u → cond t Takes (cond u Ends Passed) ≡ Ends
-          → (free < width) × (endsChoosing r ≡ true)
+      go : (t : Bool) → leb width free ≡ t → (u : Bool) → ends_choosing r ≡ u → cond t Takes (cond u Ends Passed) ≡ Ends → (free < width) × (ends_choosing r ≡ true)
       go true h u k e = let z : ◌≡◌ {A = ℕ} 0 1 = cc in absurd (omega arith)
       go false h true k e = (leb-false width free h, k)
       go false h false k e = let z : ◌≡◌ {A = ℕ} 0 1 = cc in absurd (omega arith)
 
 -- each answer has the meaning of its definition: what the claimant is given of any list of free cores, and what it leaves
 pub answer-means : (r : Rule) (width : ℕ) (free : List ℕ) (s : Selection) → selection r (length free) width ≡ s
-    → Case r (record { claims = true; width = width }) free (givenBy s width free) (leftBy s width free)
+    → Case r (record { claims = true; width = width }) free (given_by s width free) (left_by s width free)
 answer-means r width free Takes e = fitting r (record { claims = true; width = width }) free refl (le-leb width (length free) (takes r (length free) width e))
 answer-means r width free Passed e =
     let p = passes r (length free) width e in
@@ -121,8 +117,8 @@ module _ (r : Rule) (b : Claimant) (free other : List ℕ) (e : length free ≡ 
   same_left : length (left r b free) ≡ length (left r b other)
   unfolding left
   same_left =
-      by (fits b free) (b.claims && endsChoosing r)
-      ∙ ap (λ (n : ℕ). length (cond (b.claims && leb b.width n) (drop b.width other) (cond (b.claims && endsChoosing r) [] other))) e
+      by (fits b free) (b.claims && ends_choosing r)
+      ∙ ap (λ (n : ℕ). length (cond (b.claims && leb b.width n) (drop b.width other) (cond (b.claims && ends_choosing r) [] other))) e
     where
       by : (t u : Bool) → length (cond t (drop b.width free) (cond u [] free)) ≡ length (cond t (drop b.width other) (cond u [] other))
       by true u = omega (arith, length-drop b.width free, length-drop b.width other)
@@ -170,8 +166,8 @@ module _ (r : Rule) (c : ℕ) where
   in_left : (b : Claimant) (free : List ℕ) → In c (left r b free) → In c free
   unfolding left
   in_left b free =
-      in_either (fits b free) (drop b.width free) (cond (b.claims && endsChoosing r) [] free) free (in-drop c b.width free)
-      (in_either (b.claims && endsChoosing r) [] free free (λ h. absurd (not-in-none c h)) (λ h. h))
+      in_either (fits b free) (drop b.width free) (cond (b.claims && ends_choosing r) [] free) free (in-drop c b.width free)
+      (in_either (b.claims && ends_choosing r) [] free free (λ h. absurd (not-in-none c h)) (λ h. h))
 
   pub in-grants : (bs : List Claimant) (free : List ℕ) (p : ℕ) → In c (get_or (grants r bs free) p []) → In c free
   unfolding grants
@@ -183,7 +179,7 @@ module _ (r : Rule) (c : ℕ) where
   unfolding given left
   given-left hi b free o = go (fits b free)
     where
-      go : (t : Bool) → In c (cond t (take b.width free) []) → In c (cond t (drop b.width free) (cond (b.claims && endsChoosing r) [] free)) → ⊥
+      go : (t : Bool) → In c (cond t (take b.width free) []) → In c (cond t (drop b.width free) (cond (b.claims && ends_choosing r) [] free)) → ⊥
       go true h k = split-apart c b.width 0 hi free o h k
       go false h k = not-in-none c h
 
@@ -194,8 +190,8 @@ range-either false hi a b h k = k
 pub range-left : (r : Rule) (b : Claimant) (hi : ℕ) (free : List ℕ) → Range 0 hi free → Range 0 hi (left r b free)
 unfolding left
 range-left r b hi free o =
-    range-either (fits b free) hi (drop b.width free) (cond (b.claims && endsChoosing r) [] free) (range-drop b.width 0 hi free o)
-    (range-either (b.claims && endsChoosing r) hi [] free tt o)
+    range-either (fits b free) hi (drop b.width free) (cond (b.claims && ends_choosing r) [] free) (range-drop b.width 0 hi free o)
+    (range-either (b.claims && ends_choosing r) hi [] free tt o)
 
 -- no number is in two of the lists
 abbrev pub Apart : List (List ℕ) → Type 0

@@ -18,7 +18,7 @@ use Rattle.model.specs.Task.{greedy}
 use Rattle.model.proofs.Digits.{bit_past, bit-power, shifted_one, without-bit}
 use Rattle.model.proofs.Grants.{claimants-same, grants-none}
 use Rattle.model.proofs.Lending.{lent_length}
-use Rattle.model.proofs.Lists.{getD-zeros}
+use Rattle.model.proofs.Lists.{get_d-zeros}
 use Rattle.cores.specs.Cores.{cores}
 use Rattle.cores.proofs.Cores.{cores-none}
 use Rattle.rule.specs.Lent.{LentAs, offered}
@@ -38,27 +38,27 @@ leb-suc i p = go (ltb i p) refl
 
 module _ (ws reserved : List ℕ) (holders seekers count : ℕ) where
   -- what place p has borrowed once the first n places have lent
-  abbrev pub borrowedBy : ℕ → ℕ → List ℕ
-  borrowedBy n p = had ws (bit seekers) (offered reserved holders) n p
+  abbrev pub borrowed_by : ℕ → ℕ → List ℕ
+  borrowed_by n p = had ws (bit seekers) (offered reserved holders) n p
 
   -- what holds before each iteration
   pub record Lending (sets : List ℕ) (seeking i : ℕ) : Type 0 where
     pub fit : seeking < 2 ^ 32
     pub size : length sets ≡ 32
     -- the sets, and none past the count
-    pub gives : (p : ℕ) → p < 32 → cores (get_or sets p 0) ≡ borrowedBy i p
+    pub gives : (p : ℕ) → p < 32 → cores (get_or sets p 0) ≡ borrowed_by i p
     pub past : (p : ℕ) → count ≤ p → p < 32 → get_or sets p 0 ≡ 0
     -- the seekers from here on that are not yet served
-    pub unserved : (p : ℕ) → bit seeking p ≡ (leb i p && bit seekers p) && not (some (borrowedBy i p))
+    pub unserved : (p : ℕ) → bit seeking p ≡ (leb i p && bit seekers p) && not (some (borrowed_by i p))
 
   pub lending-begun : seekers < 2 ^ 32 → Lending (replicate 32 0) seekers 0
   lending-begun h = record {
     fit = h;
     size = refl;
-    gives = λ p l. ap cores (getD-zeros 32 p) ∙ (cores-none ∙ sym (lent_none ws (bit seekers) (offered reserved holders) p));
-    past = λ p l k. getD-zeros 32 p;
+    gives = λ p l. ap cores (get_d-zeros 32 p) ∙ (cores-none ∙ sym (lent_none ws (bit seekers) (offered reserved holders) p));
+    past = λ p l k. get_d-zeros 32 p;
     unserved = λ p.
-        sym (first (leb 0 p) (le-leb 0 p (omega arith)) (bit seekers p) (some (borrowedBy 0 p))
+        sym (first (leb 0 p) (le-leb 0 p (omega arith)) (bit seekers p) (some (borrowed_by 0 p))
         (ap some (lent_none ws (bit seekers) (offered reserved holders) p)));
   }
     where
@@ -78,7 +78,7 @@ module _ (ws reserved : List ℕ) (holders seekers count : ℕ) where
         ap (λ (n : ℕ). bit n p) ye
         ∙ (without-bit seeking ((1 * 2 ^ i) % 2 ^ 32) p
         ∙ (ap₂ (λ (a b : Bool). a && not b) (h.unserved p) (ap (λ (n : ℕ). bit n p) (shifted_one 32 i inside) ∙ bit-power i p)
-        ∙ later (bit seekers p) (not (some (borrowedBy i p))) (eqb p i) refl (leb i p) refl))
+        ∙ later (bit seekers p) (not (some (borrowed_by i p))) (eqb p i) refl (leb i p) refl))
       where
         later : (b t e : Bool) → eqb p i ≡ e → (a : Bool) → leb i p ≡ a → ((a && b) && t) && not e ≡ (ltb i p && b) && t
         later b t true q a l = and-false ((a && b) && t) ∙ sym (ap (λ (x : Bool). (x && b) && t) (le-ltb i p (omega (arith, eqb-true p i q))))
@@ -91,11 +91,11 @@ module _ (ws reserved : List ℕ) (holders seekers count : ℕ) where
     abbrev o : ℕ → List ℕ
     o = offered reserved holders
 
-    next-left : (p : ℕ) (t : Bool) → some (borrowedBy (suc i) p) ≡ some (borrowedBy i p) || t
-        → bit y p && not t ≡ (leb (suc i) p && bit seekers p) && not (some (borrowedBy (suc i) p))
+    next-left : (p : ℕ) (t : Bool) → some (borrowed_by (suc i) p) ≡ some (borrowed_by i p) || t
+        → bit y p && not t ≡ (leb (suc i) p && bit seekers p) && not (some (borrowed_by (suc i) p))
     next-left p t e =
         ap (λ (x : Bool). x && not t) (left-tried p)
-        ∙ (apart-not (ltb i p && bit seekers p) (some (borrowedBy i p)) t
+        ∙ (apart-not (ltb i p && bit seekers p) (some (borrowed_by i p)) t
         ∙ ap₂ (λ (x z : Bool). (x && bit seekers p) && not z) (sym (leb-suc i p)) (sym e))
       where
         apart-not : (a b t : Bool) → (a && not b) && not t ≡ a && not (b || t)
@@ -110,15 +110,15 @@ module _ (ws reserved : List ℕ) (holders seekers count : ℕ) where
       size = h.size;
       gives = λ p l. h.gives p l ∙ sym (unchanged p);
       past = h.past;
-      unserved = λ p. sym (and-true (bit y p)) ∙ next-left p false (ap some (unchanged p) ∙ sym (or-false (some (borrowedBy i p))));
+      unserved = λ p. sym (and-true (bit y p)) ∙ next-left p false (ap some (unchanged p) ∙ sym (or-false (some (borrowed_by i p))));
     }
       where
-        unchanged : (p : ℕ) → borrowedBy (suc i) p ≡ borrowedBy i p
+        unchanged : (p : ℕ) → borrowed_by (suc i) p ≡ borrowed_by i p
         unchanged p =
             lent-more ws (bit seekers) o i p
-            ∙ (ap (λ (l : List ℕ). borrowedBy i p ++ get_or (grants greedy (claimants ws (tried ws (bit seekers) o i)) l) p [])
+            ∙ (ap (λ (l : List ℕ). borrowed_by i p ++ get_or (grants greedy (claimants ws (tried ws (bit seekers) o i)) l) p [])
             (ap (λ (t : Bool). cond t (cores (get_or reserved i 0)) []) e)
-            ∙ (ap (λ (l : List ℕ). borrowedBy i p ++ l) (none-given greedy (claimants ws (tried ws (bit seekers) o i)) p) ∙ append-nil (borrowedBy i p)))
+            ∙ (ap (λ (l : List ℕ). borrowed_by i p ++ l) (none-given greedy (claimants ws (tried ws (bit seekers) o i)) p) ∙ append-nil (borrowed_by i p)))
 
     -- a holder lends: `more` is what is borrowed of its set, `owned` the places that borrow it, and `next` all that is borrowed then
     module _ (e : bit holders i ≡ true) (more : List ℕ) (g : GrantedAs greedy (claimants ws (bit y)) count (get_or reserved i 0) more)
@@ -138,15 +138,15 @@ module _ (ws reserved : List ℕ) (holders seekers count : ℕ) where
           (sets-at greedy (claimants ws (bit y)) count (get_or reserved i 0) more g p
           ∙ grants-none greedy ws (bit y) (cores (get_or reserved i 0)) p (bit_past 32 y p left_lt l))
 
-      joined : (p : ℕ) → p < 32 → cores (get_or next p 0) ≡ borrowedBy (suc i) p
+      joined : (p : ℕ) → p < 32 → cores (get_or next p 0) ≡ borrowed_by (suc i) p
       joined p l =
           ap cores (n p l)
-          ∙ (cores-or (get_or sets p 0) (get_or more p 0) (once (some (borrowedBy i p)) refl)
+          ∙ (cores-or (get_or sets p 0) (get_or more p 0) (once (some (borrowed_by i p)) refl)
           ∙ (ap₂ (λ (a b : List ℕ). a ++ b) (h.gives p l) (more-at p) ∙ sym (lent-more ws (bit seekers) o i p)))
         where
-          once : (t : Bool) → some (borrowedBy i p) ≡ t → (cores (get_or sets p 0) ≡ []) ⊎ (cores (get_or more p 0) ≡ [])
+          once : (t : Bool) → some (borrowed_by i p) ≡ t → (cores (get_or sets p 0) ≡ []) ⊎ (cores (get_or more p 0) ≡ [])
           once true k = inr (more-at p ∙ lent-once ws (bit seekers) o i p k)
-          once false k = inl (h.gives p l ∙ none-some (borrowedBy i p) k)
+          once false k = inl (h.gives p l ∙ none-some (borrowed_by i p) k)
 
       pub lends : Lending next (bit_and y (bit_xor y owned)) (suc i)
       lends = record {
@@ -160,11 +160,11 @@ module _ (ws reserved : List ℕ) (holders seekers count : ℕ) where
       }
         where
           -- what each has then
-          told : (p : ℕ) → some (borrowedBy (suc i) p) ≡ some (borrowedBy i p) || some (cores (get_or more p 0))
+          told : (p : ℕ) → some (borrowed_by (suc i) p) ≡ some (borrowed_by i p) || some (cores (get_or more p 0))
           told p =
               ap some (lent-more ws (bit seekers) o i p)
-              ∙ (some-append (borrowedBy i p) (get_or (lent_by ws (bit seekers) o i) p [])
-              ∙ ap (λ (l : List ℕ). some (borrowedBy i p) || some l) (sym (more-at p)))
+              ∙ (some-append (borrowed_by i p) (get_or (lent_by ws (bit seekers) o i) p [])
+              ∙ ap (λ (l : List ℕ). some (borrowed_by i p) || some l) (sym (more-at p)))
 
           owners-all : (p : ℕ) (t : Bool) → ltb p 32 ≡ t → t && some (cores (get_or more p 0)) ≡ some (cores (get_or more p 0))
           owners-all p true k = refl
@@ -174,7 +174,7 @@ module _ (ws reserved : List ℕ) (holders seekers count : ℕ) where
           none-past p k l =
               let z : p ≡ count + (p - count) = omega arith in
               ap (λ (j : ℕ). get_or more j 0) z
-              ∙ (sym (get_or-drop count more (p - count) 0) ∙ (ap (λ (x : List ℕ). get_or x (p - count) 0) g.none ∙ getD-zeros (32 - count) (p - count)))
+              ∙ (sym (get_or-drop count more (p - count) 0) ∙ (ap (λ (x : List ℕ). get_or x (p - count) 0) g.none ∙ get_d-zeros (32 - count) (p - count)))
 
   -- ---- when all places have lent, the sets are what the model's places borrow
 

@@ -12,12 +12,12 @@ use lib.ListN.{length, get_or, take, length-map, length-take, get_or-map, get_or
 use lib.Seq.{ext_get_or, get_or-drop, get_or-take, take_all}
 use borrow.Author.Tests.{ltb-false, ltb-true}
 use Rattle.model.specs.Grants.{claimants, grants, some}
-use Rattle.model.specs.Lending.{lent, shownCores, unlent}
+use Rattle.model.specs.Lending.{lent, shown_cores, unlent}
 use Rattle.model.specs.Search.{bit}
 use Rattle.model.specs.Task.{Rule}
 use Rattle.model.proofs.Grants.{grants-length}
 use Rattle.model.proofs.Lending.{lent_length, lent-local}
-use Rattle.model.proofs.Lists.{getD-zeros}
+use Rattle.model.proofs.Lists.{get_d-zeros}
 use Rattle.cores.specs.Cores.{cores}
 use Rattle.cores.proofs.Cores.{cores-length, cores-none}
 use Rattle.rule.specs.Lent.{LentAs, NotBoth, ShownAs, offered}
@@ -60,7 +60,7 @@ module _ (ws reserved : List ℕ) (holders seekers count : ℕ) (size : length w
   borrowed-past p h =
       let z : p ≡ count + (p - count) = omega arith in
       ap (λ (i : ℕ). get_or borrowed i 0) z
-      ∙ (sym (get_or-drop count borrowed (p - count) 0) ∙ (ap (λ (l : List ℕ). get_or l (p - count) 0) b.none ∙ getD-zeros (32 - count) (p - count)))
+      ∙ (sym (get_or-drop count borrowed (p - count) 0) ∙ (ap (λ (l : List ℕ). get_or l (p - count) 0) b.none ∙ get_d-zeros (32 - count) (p - count)))
 
   -- what each place has borrowed once all have lent
   borrowed-in : (p : ℕ) → cores (get_or borrowed p 0) ≡ get_or (lent ws (bit seekers) (offered reserved holders) count) p []
@@ -151,9 +151,9 @@ module _ (r : Rule) (ws : List ℕ) (c : ℕ → Bool) (count free : ℕ) (size 
   same = gs-length ∙ sym bs-length
 
   -- it is the model's
-  pub shown-sets : map cores (take count sets) ≡ shownCores gs bs
+  pub shown-sets : map cores (take count sets) ≡ shown_cores gs bs
   shown-sets =
-      front-is count sets (shownCores gs bs) (omega (arith, length-take count sets, s.size)) (shown-length gs bs same ∙ gs-length)
+      front-is count sets (shown_cores gs bs) (omega (arith, length-take count sets, s.size)) (shown-length gs bs same ∙ gs-length)
       (λ p h. s.gives p h
       ∙ (ap₂ (λ (x y : List ℕ). x ++ unlent bs y) (sym (front_at count borrowed p h)) (sets-at r (claimants ws c) count free reserved g p)
       ∙ sym (shown-place gs bs same p)))

@@ -8,17 +8,16 @@ use mathlib.Core.List.{List, [], ◌++◌, map, append-nil, append_assoc}
 use Prim.Native.Nat.{ℕ, ◌+◌, ◌-◌, ◌^◌, ◌≤◌, ◌<◌}
 use lib.Count.{ones}
 use lib.Dec.{eqb}
-use lib.ListN.{length, get_or, take, drop, set as put, replicate, length-set, length-take, length-drop, length-map, length-replicate, get_or-replicate}
-use lib.ListN.{get_or-map}
+use lib.ListN.{length, get_or, take, drop, set as put, replicate, length-set, length-take, length-drop, length-map, length-replicate, get_or-replicate, get_or-map}
 use lib.Seq.{ext_get_or, get_or-take, get_or-drop, get_or-set_same, get_or-set_other}
 use Rattle.model.specs.Task.{Rule}
 use Rattle.model.specs.Search.{bit}
 use Rattle.model.specs.Grants.{Claimant, claimants, grants}
-use Rattle.model.proofs.Lists.{getD-zeros}
+use Rattle.model.proofs.Lists.{get_d-zeros}
 use Rattle.model.proofs.Digits.{Lowest, bit-none}
 use Rattle.model.proofs.Grants.{claimant, claimants-same, grants-none, grants-length}
 use Rattle.cores.specs.Cores.{cores}
-use Rattle.rule.specs.Granted.{selection, givenBy, leftBy, GrantedAs}
+use Rattle.rule.specs.Granted.{selection, given_by, left_by, GrantedAs}
 use Rattle.rule.specs.declared.Selection.{Selection}
 use Rattle.rule.specs.declared.Selection.TheVariants.{Takes, Passed, Ends}
 use Rattle.cores.proofs.Cores.{cores-none, cores-length, back-of}
@@ -45,15 +44,14 @@ begun r ws claims free count h k = record {
   fit = h;
   whole = k;
   size = refl;
-  due = λ p z. getD-zeros 32 p;
-  past = λ p z. getD-zeros 32 p;
-  gives = λ p. ap (λ (x : List ℕ). x ++ share r ws claims (cores free) p) (ap cores (getD-zeros 32 p) ∙ cores-none);
+  due = λ p z. get_d-zeros 32 p;
+  past = λ p z. get_d-zeros 32 p;
+  gives = λ p. ap (λ (x : List ℕ). x ++ share r ws claims (cores free) p) (ap cores (get_d-zeros 32 p) ∙ cores-none);
 }
 
 -- ---- one iteration, at the lowest digit q of the rest; y is the rest after it
 
-module _ (r : Rule) (ws : List ℕ) (claims free count : ℕ) (sets : List ℕ) (rest set q y : ℕ) (h : Held r ws claims free count sets rest set) (l : Lowest rest q)
-    (e : y ≡ rest - 2 ^ q) where
+module _ (r : Rule) (ws : List ℕ) (claims free count : ℕ) (sets : List ℕ) (rest set q y : ℕ) (h : Held r ws claims free count sets rest set) (l : Lowest rest q) (e : y ≡ rest - 2 ^ q) where
   abbrev pub width : ℕ
   width = get_or ws q 0
 
@@ -67,12 +65,11 @@ module _ (r : Rule) (ws : List ℕ) (claims free count : ℕ) (sets : List ℕ) 
   less = omega (arith, h.fit)
 
   -- the rule's answer to it, of the free cores
-  answer :
-      (s : Selection) → selection r (ones set) width ≡ s → Case r (claimant true width) (cores set) (givenBy s width (cores set)) (leftBy s width (cores set))
+  answer : (s : Selection) → selection r (ones set) width ≡ s → Case r (claimant true width) (cores set) (given_by s width (cores set)) (left_by s width (cores set))
   answer s a = answer-means r width (cores set) s (ap (λ (n : ℕ). selection r n width) (cores-length set h.whole) ∙ a)
 
   one-step : (s : Selection) → selection r (ones set) width ≡ s → (p : ℕ)
-      → share r ws rest (cores set) p ≡ cond (eqb p q) (givenBy s width (cores set)) [] ++ share r ws y (leftBy s width (cores set)) p
+      → share r ws rest (cores set) p ≡ cond (eqb p q) (given_by s width (cores set)) [] ++ share r ws y (left_by s width (cores set)) p
   one-step s a p = rw (e, ← (answer s a).0, ← (answer s a).1) (first-given r q ws (bit rest) (bit (rest - 2 ^ q)) (cores set) p (first_of l))
 
   -- it takes its cores
@@ -105,12 +102,10 @@ module _ (r : Rule) (ws : List ℕ) (claims free count : ℕ) (sets : List ℕ) 
     }
 
   -- it is given nothing: what the rest gives is what those below it are given
-  nothing :
-      (s : Selection) → selection r (ones set) width ≡ s → givenBy s width (cores set) ≡ [] → (p : ℕ)
-      → share r ws rest (cores set) p ≡ share r ws y (leftBy s width (cores set)) p
+  nothing : (s : Selection) → selection r (ones set) width ≡ s → given_by s width (cores set) ≡ [] → (p : ℕ) → share r ws rest (cores set) p ≡ share r ws y (left_by s width (cores set)) p
   nothing s a z p =
-      one-step s a p ∙ ap (λ (x : List ℕ). cond (eqb p q) x [] ++ share r ws y (leftBy s width (cores set)) p) z
-      ∙ ap (λ (x : List ℕ). x ++ share r ws y (leftBy s width (cores set)) p) (same-either (eqb p q) [])
+      one-step s a p ∙ ap (λ (x : List ℕ). cond (eqb p q) x [] ++ share r ws y (left_by s width (cores set)) p) z
+      ∙ ap (λ (x : List ℕ). x ++ share r ws y (left_by s width (cores set)) p) (same-either (eqb p q) [])
 
   -- it is skipped
   pub passed_over : selection r (ones set) width ≡ Passed → Held r ws claims free count sets y set
@@ -152,8 +147,7 @@ module _ (r : Rule) (ws : List ℕ) (claims free count : ℕ) (sets : List ℕ) 
 
 -- ---- when no one is left, the sets are the grants
 
-module _ (r : Rule) (widths : List ℕ) (claims free count : ℕ) (sets : List ℕ) (set : ℕ) (size : length widths ≡ 32)
-    (h : Held r (take count widths) claims free count sets 0 set) where
+module _ (r : Rule) (widths : List ℕ) (claims free count : ℕ) (sets : List ℕ) (set : ℕ) (size : length widths ≡ 32) (h : Held r (take count widths) claims free count sets 0 set) where
   abbrev pub ws : List ℕ
   ws = take count widths
 

@@ -15,9 +15,9 @@ use Rattle.model.specs.Task.{Rule}
 use Rattle.model.specs.Grants.{Claimant, grants}
 use Rattle.model.specs.Fence.{unfenced}
 use Rattle.model.specs.Search.{bit, up_from}
-use Rattle.model.specs.Sets.{setOf}
+use Rattle.model.specs.Sets.{set_of}
 use Rattle.model.proofs.Bools.{and_left, and_right, not-true-false}
-use Rattle.model.proofs.Lists.{getD-zeros}
+use Rattle.model.proofs.Lists.{get_d-zeros}
 use Rattle.model.proofs.Digits.{and-bit}
 use Rattle.cores.specs.Cores.{cores}
 use Rattle.rule.specs.Granted.{GrantedAs, granted}
@@ -35,8 +35,8 @@ granted-unfenced r bs free f n h e p = ap (λ (l : List ℕ). granted r bs l p) 
 
 -- a set with no cores is 0
 pub no-cores : (n : ℕ) → n < 2 ^ 64 → cores n ≡ [] → n ≡ 0
-unfolding setOf
-no-cores n h e = sym (set-cores n h) ∙ ap setOf e
+unfolding set_of
+no-cores n h e = sym (set-cores n h) ∙ ap set_of e
 
 -- sets that share no core have no digit in common
 pub no-common : (a b : ℕ) → a < 2 ^ 64 → b < 2 ^ 64 → ((c : ℕ) → In c (cores a) → In c (cores b) → ⊥) → bit_and a b ≡ 0
@@ -44,8 +44,7 @@ unfolding cores
 no-common a b h k f =
     no-cores (bit_and a b) (and_lt 64 a b h k)
     (kept_same (bit (bit_and a b)) (λ c. false) 0 64 (up_from 0 64) (range-up 0 64 64 (omega arith)) (λ c l.
-    and-bit a b c ∙ not-true-false (bit a c && bit b c)
-    (λ e. f c (cores-memb a c l ∙ and_left (bit a c) (bit b c) e) (cores-memb b c l ∙ and_right (bit a c) (bit b c) e)))
+    and-bit a b c ∙ not-true-false (bit a c && bit b c) (λ e. f c (cores-memb a c l ∙ and_left (bit a c) (bit b c) e) (cores-memb b c l ∙ and_right (bit a c) (bit b c) e)))
     ∙ kept-none (up_from 0 64))
 
 -- a row can show what is given of the unfenced cores
@@ -69,8 +68,7 @@ module _ (r : Rule) (bs : List Claimant) (count free : ℕ) (sets : List ℕ) (h
           let k : count ≤ p = ltb-false p count e in
           let z : p ≡ count + (p - count) = omega arith in
           let n : length (grants r bs (cores free)) ≤ p = omega (arith, ap length h.gives, length-map (take count sets) cores, length-take count sets) in
-          ap cores (ap (λ (i : ℕ). get_or sets i 0) z ∙ sym (get_or-drop count sets (p - count) 0) ∙ ap (λ (l : List ℕ). get_or l (p - count) 0) h.none
-          ∙ getD-zeros (32 - count) (p - count))
+          ap cores (ap (λ (i : ℕ). get_or sets i 0) z ∙ sym (get_or-drop count sets (p - count) 0) ∙ ap (λ (l : List ℕ). get_or l (p - count) 0) h.none ∙ get_d-zeros (32 - count) (p - count))
           ∙ cores-none ∙ sym (get_or-eq_default (grants r bs (cores free)) [] n)
 
   -- no core is in two of the sets

@@ -12,9 +12,9 @@ use lib.ListN.{length, get_or, take, get_or-map}
 use borrow.Author.Tests.{eq-eqb, eqb-false, eqb-true, ltb-false, ltb-true}
 use Rattle.model.specs.Fence.{unfenced}
 use Rattle.model.specs.Grants.{Claimant, claimants, fits, given, grants, left, some}
-use Rattle.model.specs.Lending.{among, lent, lentAway, shownCores, unlent}
-use Rattle.model.specs.Search.{bit, filtered, consIf, member, up_from}
-use Rattle.model.specs.Sets.{SetsApart, SetsCount, SetsUnfenced, setOf}
+use Rattle.model.specs.Lending.{among, lent, lent_away, shown_cores, unlent}
+use Rattle.model.specs.Search.{bit, filtered, cons_if, member, up_from}
+use Rattle.model.specs.Sets.{SetsApart, SetsCount, SetsUnfenced, set_of}
 use Rattle.model.specs.Task.{Rule, greedy}
 use Rattle.model.proofs.Bools.{not-false-true, not-true-false, or_cases, or_right}
 use Rattle.model.proofs.Grants.{grants-length}
@@ -73,7 +73,7 @@ kept-all : (f : ℕ → Bool) (l : List ℕ) → ((c : ℕ) → In c l → f c �
 unfolding filtered member
 kept-all f [] h = refl
 kept-all f (x ∷ l) h =
-    ap (λ (t : Bool). consIf t x (filtered f l)) (h x (rw (eq-eqb x x refl)))
+    ap (λ (t : Bool). cons_if t x (filtered f l)) (h x (rw (eq-eqb x x refl)))
     ∙ ap (λ (k : List ℕ). x ∷ k) (kept-all f l (λ c e. h c (or_right (eqb c x) (member c l) e)))
 
 -- ---- the cores of a tick: ws are the widths and c the claims, of which the rule gives the unfenced cores; a place that seeks has none of them, and what a
@@ -87,8 +87,8 @@ module _ (r : Rule) (ws : List ℕ) (c : ℕ → Bool) (f m : ℕ) (sk : ℕ →
   bs = lent ws sk o n
 
   -- what the row shows of place p
-  abbrev pub shownAt : ℕ → List ℕ
-  shownAt p = get_or (shownCores gs bs) p []
+  abbrev pub shown_at : ℕ → List ℕ
+  shown_at p = get_or (shown_cores gs bs) p []
 
   module _ (seekers : (p : ℕ) → sk p ≡ true → get_or gs p [] ≡ []) (offers : (p : ℕ) → (o p ≡ []) ⊎ (o p ≡ get_or gs p [])) where
     same : length gs ≡ length bs
@@ -115,10 +115,10 @@ module _ (r : Rule) (ws : List ℕ) (c : ℕ → Bool) (f m : ℕ) (sk : ℕ →
     twice = lent-apart ws sk o m offer-range (λ x i j l h k. given-show.apart x i j l (offer-in x i h) (offer-in x j k)) n
 
     -- a row can show it
-    pub tick-showable : Showable f m (shownCores gs bs)
+    pub tick-showable : Showable f m (shown_cores gs bs)
     tick-showable = record { apart = shown-apart gs bs same given-show.apart twice; unfenced-only = open-only }
       where
-        open-only : (x j : ℕ) → In x (shownAt j) → (x < m) × (bit f x ≡ false)
+        open-only : (x j : ℕ) → In x (shown_at j) → (x < m) × (bit f x ≡ false)
         open-only x j h =
             ⊎_elim
             (λ (k : In x (get_or bs j [])).
@@ -128,7 +128,7 @@ module _ (r : Rule) (ws : List ℕ) (c : ℕ → Bool) (f m : ℕ) (sk : ℕ →
             (shown-in gs bs same x j h)
 
     -- each place: what it borrows, and what no place borrows of its own
-    pub tick-place : (p : ℕ) → shownAt p ≡ get_or bs p [] ++ unlent bs (get_or gs p [])
+    pub tick-place : (p : ℕ) → shown_at p ≡ get_or bs p [] ++ unlent bs (get_or gs p [])
     tick-place = shown-place gs bs same
 
     -- no place has cores of its own and borrows some
@@ -164,23 +164,23 @@ module _ (r : Rule) (ws : List ℕ) (c : ℕ → Bool) (f m : ℕ) (sk : ℕ →
                 given-show.apart x p q (omega arith) h (offer-in x q k)
 
     -- so it shows what it borrows, or what it is given
-    pub tick-shows : (p : ℕ) → o p ≡ [] → shownAt p ≡ get_or bs p [] ++ get_or gs p []
+    pub tick-shows : (p : ℕ) → o p ≡ [] → shown_at p ≡ get_or bs p [] ++ get_or gs p []
     tick-shows p none = tick-place p ∙ ap (λ (l : List ℕ). get_or bs p [] ++ l) (tick-keeps p none)
 
     -- as many cores as its width, or none
-    pub tick-count : (p : ℕ) → o p ≡ [] → (length (shownAt p) ≡ get_or ws p 0) ⊎ (shownAt p ≡ [])
+    pub tick-count : (p : ℕ) → o p ≡ [] → (length (shown_at p) ≡ get_or ws p 0) ⊎ (shown_at p ≡ [])
     tick-count p none =
         ⊎_elim
         (λ (e : get_or gs p [] ≡ []).
-        let z : shownAt p ≡ get_or bs p [] = tick-shows p none ∙ (ap (λ (l : List ℕ). get_or bs p [] ++ l) e ∙ append-nil (get_or bs p [])) in
+        let z : shown_at p ≡ get_or bs p [] = tick-shows p none ∙ (ap (λ (l : List ℕ). get_or bs p [] ++ l) e ∙ append-nil (get_or bs p [])) in
         ⊎_elim (λ w. inl (ap length z ∙ w)) (λ w. inr (z ∙ w)) (lent-width ws sk o n p))
         (λ (e : get_or bs p [] ≡ []).
-        let z : shownAt p ≡ get_or gs p [] = tick-shows p none ∙ ap (λ (l : List ℕ). l ++ get_or gs p []) e in
+        let z : shown_at p ≡ get_or gs p [] = tick-shows p none ∙ ap (λ (l : List ℕ). l ++ get_or gs p []) e in
         ⊎_elim (λ w. inl (ap length z ∙ (w ∙ width_of ws c p))) (λ w. inr (z ∙ w)) (width-or-none r (claimants ws c) (unfenced f m) p))
         (tick-either p)
 
     -- a place that may lend keeps what no place borrows
-    pub tick-lender : (p : ℕ) → some (o p) ≡ true → shownAt p ≡ unlent bs (o p)
+    pub tick-lender : (p : ℕ) → some (o p) ≡ true → shown_at p ≡ unlent bs (o p)
     tick-lender p e =
         ⊎_elim
         (λ (z : o p ≡ []). absurd (false≢true (sym (ap some z) ∙ e)))
@@ -193,7 +193,7 @@ module _ (r : Rule) (ws : List ℕ) (c : ℕ → Bool) (f m : ℕ) (sk : ℕ →
         (offers p)
 
     -- .. and that and what is borrowed of it are together its width
-    pub tick-parts : (p : ℕ) → some (o p) ≡ true → length (shownAt p) + length (lentAway bs (o p)) ≡ get_or ws p 0
+    pub tick-parts : (p : ℕ) → some (o p) ≡ true → length (shown_at p) + length (lent_away bs (o p)) ≡ get_or ws p 0
     tick-parts p e =
         rw (tick-lender p e)
         (length-halves (λ x. among x bs) (o p)
@@ -207,7 +207,7 @@ module _ (r : Rule) (ws : List ℕ) (c : ℕ → Bool) (f m : ℕ) (sk : ℕ →
         (offers p))
 
     -- in ascending order
-    pub tick-range : (p : ℕ) → Range 0 m (shownAt p)
+    pub tick-range : (p : ℕ) → Range 0 m (shown_at p)
     unfolding filtered
     tick-range p =
         ⊎_elim
@@ -223,25 +223,25 @@ module _ (r : Rule) (ws : List ℕ) (c : ℕ → Bool) (f m : ℕ) (sk : ℕ →
     -- as sets, of at most 64 cores
     module _ (few : m ≤ 64) where
       abbrev pub sets : List ℕ
-      sets = map setOf (shownCores gs bs)
+      sets = map set_of (shown_cores gs bs)
 
-      ascending : (p : ℕ) → Range 0 64 (shownAt p)
-      ascending p = range-weaken (shownAt p) (omega arith) few (tick-range p)
+      ascending : (p : ℕ) → Range 0 64 (shown_at p)
+      ascending p = range-weaken (shown_at p) (omega arith) few (tick-range p)
 
-      at : (p : ℕ) → get_or sets p 0 ≡ setOf (shownAt p)
-      unfolding setOf
-      at p = get_or-map setOf (shownCores gs bs) p []
+      at : (p : ℕ) → get_or sets p 0 ≡ set_of (shown_at p)
+      unfolding set_of
+      at p = get_or-map set_of (shown_cores gs bs) p []
 
-      has : (p x : ℕ) → bit (get_or sets p 0) x ≡ member x (shownAt p)
-      has p x = ap (λ (n : ℕ). bit n x) (at p) ∙ set-bit (shownAt p) (ascending p) x
+      has : (p x : ℕ) → bit (get_or sets p 0) x ≡ member x (shown_at p)
+      has p x = ap (λ (n : ℕ). bit n x) (at p) ∙ set-bit (shown_at p) (ascending p) x
 
       pub tick-sets-apart : SetsApart sets
       tick-sets-apart p q x h k = go (eqb p q) refl
         where
-          i : In x (shownAt p)
+          i : In x (shown_at p)
           i = sym (has p x) ∙ h
 
-          j : In x (shownAt q)
+          j : In x (shown_at q)
           j = sym (has q x) ∙ k
 
           go : (t : Bool) → eqb p q ≡ t → p ≡ q
@@ -265,14 +265,14 @@ module _ (r : Rule) (ws : List ℕ) (c : ℕ → Bool) (f m : ℕ) (sk : ℕ →
       may p e = not-false-true (some (o p)) (λ z. e (none-some (o p) z))
 
       pub tick-sets-count : SetsCount ws o bs sets
-      unfolding setOf
+      unfolding set_of
       tick-sets-count = record {
         width = λ p e.
             ⊎_elim
-            (λ (w : length (shownAt p) ≡ get_or ws p 0). inl (ap ones (at p) ∙ (set-ones (shownAt p) (ascending p) ∙ w)))
-            (λ (w : shownAt p ≡ []). inr (at p ∙ ap setOf w))
+            (λ (w : length (shown_at p) ≡ get_or ws p 0). inl (ap ones (at p) ∙ (set-ones (shown_at p) (ascending p) ∙ w)))
+            (λ (w : shown_at p ≡ []). inr (at p ∙ ap set_of w))
             (tick-count p e);
-        lender = λ p e. at p ∙ ap setOf (tick-lender p (may p e));
+        lender = λ p e. at p ∙ ap set_of (tick-lender p (may p e));
         parts = λ p e.
-            ap (λ (n : ℕ). n + length (lentAway bs (o p))) (ap ones (at p) ∙ set-ones (shownAt p) (ascending p)) ∙ tick-parts p (may p e);
+            ap (λ (n : ℕ). n + length (lent_away bs (o p))) (ap ones (at p) ∙ set-ones (shown_at p) (ascending p)) ∙ tick-parts p (may p e);
       }

@@ -7,6 +7,6 @@ unfoldable pub marked : List ℕ → ℕ → List ℕ → List ℕ
 marked row mark l = map (λ c. cond (member c l) mark (get_or row c 0)) (up_from 0 (length row))
 
 -- the row with each position on its cores, one after the other; the first list is that of position p
-unfoldable pub shownBytes : List ℕ → ℕ → List (List ℕ) → List ℕ
-shownBytes row p [] = row
-shownBytes row p (g ∷ gs) = shownBytes (marked row p g) (suc p) gs
+unfoldable pub shown_bytes : List ℕ → ℕ → List (List ℕ) → List ℕ
+shown_bytes row p [] = row
+shown_bytes row p (g ∷ gs) = shown_bytes (marked row p g) (suc p) gs

@@ -2,23 +2,26 @@
 ghost use Rattle.std.specs.Prelude.{◌≡◌, ◌&&◌, map, ◌++◌, ℕ, ◌+◌, ◌-◌, ◌≤◌, ◌<◌, ltb, get_or, take, replicate};
 ghost use Rattle.std.specs.Int.Bits.{bit_or};
 ghost use Rattle.model.specs.Search.{bit};
-ghost use Rattle.model.specs.Task.{ruleOf};
+ghost use Rattle.model.specs.Task.{rule_of};
 ghost use Rattle.model.specs.Fence.{unfenced};
 ghost use Rattle.model.specs.Grants.{claimants, grants, some};
 ghost use Rattle.model.specs.Lending.{among};
 ghost use Rattle.model.specs.Row.{row};
-ghost use Rattle.model.specs.Sizes.{mostCores, mostTasks};
+ghost use Rattle.model.specs.Sizes.{most_cores, most_tasks};
 ghost use Rattle.cores.specs.Cores.{cores};
 ghost use Rattle.cores.specs.Cores as listed;
 ghost use Rattle.rule.specs.Granted.{selection, GrantedAs, granted};
 ghost use Rattle.rule.specs.Lent.{LentAs, NotBoth, ShownAs, Showable};
-ghost use Rattle.rule.specs.Marked.{marked, shownBytes};
-ghost use Rattle.rule.specs.Widths.{widthsIn};
+ghost use Rattle.rule.specs.Marked.{marked, shown_bytes};
+ghost use Rattle.rule.specs.Widths.{widths_in};
 
-use model::{FENCED, MOST_TASKS, ROW, rules};
+use model::{FENCED, MOST_TASKS, ROW};
 
 // The number of widths: each place has two, the first of every place before the second of any.
 pub const PAIR: usize = 2 * MOST_TASKS;
+
+// Rule 1: a claimant that doesn't fit is skipped.
+const GREEDY: u32 = 1;
 
 // The tick rule's answer to a claimant: it takes its cores, it is skipped, or it ends the tick's choosing.
 #[derive(Drop)]
@@ -30,7 +33,7 @@ pub enum Selection {
 
 // The tick rule, for one claimant on this number of free cores: a width that fits takes its cores.
 pub fn select(rule: u32, free: u32, width: u32) -> Selection
-    ensures { result ≡ selection (ruleOf rule) free width }
+    ensures { result ≡ selection (rule_of rule) free width }
 {
     if width <= free {
         return Selection::Takes;
@@ -43,8 +46,8 @@ pub fn select(rule: u32, free: u32, width: u32) -> Selection
 
 // The width of a place in a tick: its second where the place is in the set, else its first.
 pub fn width_at(even: u32, widths: &[u32; PAIR], place: u32) -> u32
-    requires { place < mostTasks }
-    ensures { result ≡ get_or (widthsIn even widths.now) place 0 }
+    requires { place < most_tasks }
+    ensures { result ≡ get_or (widths_in even widths.now) place 0 }
 {
     let shifted = (even >> place) % 2;
     widths[MOST_TASKS * shifted as usize + place as usize]
@@ -52,7 +55,7 @@ pub fn width_at(even: u32, widths: &[u32; PAIR], place: u32) -> u32
 
 // The set of positions that are given cores, of the set that claims; bit 0 is for position 1. The free cores are counted once.
 pub fn choose(rule: u32, free: u64, claims: u32, even: u32, widths: &[u32; PAIR]) -> u32
-    ensures { (p : ℕ) → bit result p ≡ granted (ruleOf rule) (claimants (widthsIn even widths.now) (bit claims)) (cores free) p }
+    ensures { (p : ℕ) → bit result p ≡ granted (rule_of rule) (claimants (widths_in even widths.now) (bit claims)) (cores free) p }
 {
     let mut chosen: u32 = 0;
     let mut left = u64::count_ones(free);
@@ -86,7 +89,7 @@ pub fn grants(
     widths: &[u32; PAIR],
     count: usize,
 ) -> [u64; MOST_TASKS]
-    ensures { GrantedAs (ruleOf rule) (claimants (take count (widthsIn even widths.now)) (bit claims)) count free result }
+    ensures { GrantedAs (rule_of rule) (claimants (take count (widths_in even widths.now)) (bit claims)) count free result }
 {
     let mut sets = [0u64; MOST_TASKS];
     let mut set = free;
@@ -114,7 +117,7 @@ pub fn grants(
 }
 
 // The row with a mark on each core of a set.
-fn mark(row: [u8; ROW], set: u64, mark: u8) -> [u8; ROW]
+pub fn mark(row: [u8; ROW], set: u64, mark: u8) -> [u8; ROW]
     ensures { result ≡ marked row mark (cores set) }
 {
     let mut out = row;
@@ -122,15 +125,15 @@ fn mark(row: [u8; ROW], set: u64, mark: u8) -> [u8; ROW]
     while 0 < rest {
         let c = u64::trailing_zeros(rest) as usize;
         out[c] = mark;
-        rest &= rest - 1;
+        rest -= 1u64 << c;
     }
     out
 }
 
 // The row with each position on its cores; the first set is that of position `first`.
-fn row_of(start: [u8; ROW], first: u8, sets: &[u64; MOST_TASKS], count: usize) -> [u8; ROW]
-    requires { (count ≤ mostTasks) × (first + count ≤ 256) }
-    ensures { result ≡ shownBytes start first (map cores (take count sets.now)) }
+pub fn row_of(start: [u8; ROW], first: u8, sets: &[u64; MOST_TASKS], count: usize) -> [u8; ROW]
+    requires { (count ≤ most_tasks) × (first + count ≤ 256) }
+    ensures { result ≡ shown_bytes start first (map cores (take count sets.now)) }
 {
     let mut out = start;
     let mut i: usize = 0;
@@ -145,9 +148,9 @@ fn row_of(start: [u8; ROW], first: u8, sets: &[u64; MOST_TASKS], count: usize) -
 // The row that shows these sets of cores of the first `count` positions: core 0 first, the position or 0, 255 on a fenced core; bytes past the core
 // count are 0.
 pub fn row_in(cores: u32, fence: u64, sets: &[u64; MOST_TASKS], count: usize) -> [u8; ROW]
-    requires fact_1 { (cores ≤ mostCores) × (count ≤ mostTasks) }
+    requires fact_1 { (cores ≤ most_cores) × (count ≤ most_tasks) }
     requires fact_2 { Showable fence cores (map listed.cores (take count sets.now)) }
-    ensures { result ≡ row fence cores (map listed.cores (take count sets.now)) ++ replicate (mostCores - cores) 0 }
+    ensures { result ≡ row fence cores (map listed.cores (take count sets.now)) ++ replicate (most_cores - cores) 0 }
 {
     let free = cores::unfenced_cores(cores, fence);
     let fenced = cores::difference(cores::first_cores(cores), free);
@@ -165,9 +168,8 @@ pub fn show(
     widths: &[u32; PAIR],
     count: usize,
 ) -> [u8; ROW]
-    requires { (cores ≤ mostCores) × (count ≤ mostTasks) }
-    ensures { result ≡ row fence cores (grants (ruleOf rule) (claimants (take count (widthsIn even widths.now)) (bit claiming))
-        (unfenced fence cores)) ++ replicate (mostCores - cores) 0 }
+    requires { (cores ≤ most_cores) × (count ≤ most_tasks) }
+    ensures { result ≡ row fence cores (grants (rule_of rule) (claimants (take count (widths_in even widths.now)) (bit claiming)) (unfenced fence cores)) ++ replicate (most_cores - cores) 0 }
 {
     let free = cores::unfenced_cores(cores, fence);
     let sets = grants(rule, free, claiming, even, widths, count);
@@ -183,7 +185,7 @@ fn any(set: u64) -> bool
 
 // The set of positions that have a core in their set, bit 0 for position 1.
 pub fn owners(sets: &[u64; MOST_TASKS]) -> u32
-    ensures { (p : ℕ) → bit result p ≡ ltb p mostTasks && some (cores (get_or sets.now p 0)) }
+    ensures { (p : ℕ) → bit result p ≡ ltb p most_tasks && some (cores (get_or sets.now p 0)) }
 {
     let mut owners: u32 = 0;
     let mut i: usize = 0;
@@ -198,7 +200,7 @@ pub fn owners(sets: &[u64; MOST_TASKS]) -> u32
 
 // The sets of each position in one list and in another.
 fn merged(sets: [u64; MOST_TASKS], more: &[u64; MOST_TASKS]) -> [u64; MOST_TASKS]
-    ensures { (p : ℕ) → p < mostTasks → get_or result p 0 ≡ bit_or (get_or sets p 0) (get_or more.now p 0) }
+    ensures { (p : ℕ) → p < most_tasks → get_or result p 0 ≡ bit_or (get_or sets p 0) (get_or more.now p 0) }
 {
     let mut out = sets;
     let mut i: usize = 0;
@@ -219,8 +221,8 @@ pub fn lend(
     widths: &[u32; PAIR],
     count: usize,
 ) -> [u64; MOST_TASKS]
-    requires { count ≤ mostTasks }
-    ensures { LentAs (take count (widthsIn even widths.now)) reserved.now holders seekers count result }
+    requires { count ≤ most_tasks }
+    ensures { LentAs (take count (widths_in even widths.now)) reserved.now holders seekers count result }
 {
     let mut sets = [0u64; MOST_TASKS];
     let mut seeking = seekers;
@@ -228,8 +230,8 @@ pub fn lend(
     while i < count {
         let place = i as u32;
         seeking &= seeking ^ (1u32 << place);
-        if model::sets::has(holders, place) {
-            let more = grants(rules::GREEDY, reserved[i], seeking, even, widths, count);
+        if (holders >> place) % 2 == 1 {
+            let more = grants(GREEDY, reserved[i], seeking, even, widths, count);
             seeking &= seeking ^ owners(&more);
             let next = merged(sets, &more);
             sets = next;
@@ -241,8 +243,8 @@ pub fn lend(
 
 // The cores that some of the first `count` sets have.
 fn union(sets: &[u64; MOST_TASKS], count: usize) -> u64
-    requires { count ≤ mostTasks }
-    ensures { (c : ℕ) → c < mostCores → bit result c ≡ among c (map cores (take count sets.now)) }
+    requires { count ≤ most_tasks }
+    ensures { (c : ℕ) → c < most_cores → bit result c ≡ among c (map cores (take count sets.now)) }
 {
     let mut all: u64 = 0;
     let mut i: usize = 0;
@@ -259,7 +261,7 @@ pub fn shown(
     borrowed: &[u64; MOST_TASKS],
     count: usize,
 ) -> [u64; MOST_TASKS]
-    requires fact_1 { count ≤ mostTasks }
+    requires fact_1 { count ≤ most_tasks }
     requires fact_2 { NotBoth reserved.now borrowed.now }
     ensures { ShownAs reserved.now borrowed.now count result }
 {

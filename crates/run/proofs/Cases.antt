@@ -1,4 +1,4 @@
--- The results of sets, a row, which positions work, an advance and a withdrawal, case by case, in the order in which code tests.
+-- The results of sets, a row, who works, an advance and a withdrawal, case by case, in the order in which code tests.
 use mathlib.Core.Path.{◌≡◌, refl, sym, ◌∙◌}
 use mathlib.Core.Bool.{Bool, true, false, cond}
 use Prim.Native.Nat.{ℕ, suc, ◌≤◌, ◌<◌}
@@ -7,90 +7,90 @@ use borrow.Author.Tests.{lt-ltb, le-ltb}
 use Rattle.model.specs.Search.{bit}
 use Rattle.model.specs.Advance.{singleton}
 use Rattle.run.specs.declared.Run.{Run}
-use Rattle.table.specs.declared.Answer.{Answer}
-use Rattle.table.specs.declared.Answer.TheVariants.{Taken, Refused}
-use Rattle.table.specs.AnswerMeaning.{byAnswer}
-use Rattle.run.specs.Run.{firmIn, moved, withdrawnIn}
-use Rattle.run.specs.Numbers.{runOut, pastCount, unknownIn, firstLateIn, wrongEmptiesIn, wrongReportsIn}
-use Rattle.run.specs.Row.{rowAnswer, bytesIn, noBytes, row_of}
-use Rattle.run.specs.Sets.{no_sets, setsIn, setsOf}
-use Rattle.run.specs.Advance.{advanceAnswer, advanceOf}
-use Rattle.run.specs.Withdraw.{withdrawAnswer, withdrawOf, withdrawAllOf}
-use Rattle.run.specs.Working.{workingIn, workingOf}
-use Rattle.table.proofs.AnswerMeaning.{not_taken}
+use Rattle.run.specs.declared.Answer.{Answer}
+use Rattle.run.specs.declared.Answer.TheVariants.{Taken, Refused}
+use Rattle.run.specs.Answer.{by_answer}
+use Rattle.run.specs.Run.{firm_in, moved, withdrawn_in}
+use Rattle.run.specs.Numbers.{run_out, past_count, unknown_in, first_late_in, wrong_empties_in, wrong_reports_in}
+use Rattle.run.specs.Row.{row_answer, bytes_in, no_bytes, row_of}
+use Rattle.run.specs.Sets.{no_sets, sets_in, sets_of}
+use Rattle.run.specs.Advance.{advance_answer, advance_of}
+use Rattle.run.specs.Withdraw.{withdraw_answer, withdraw_of, withdraw_all_of}
+use Rattle.run.specs.Working.{working_in, working_of}
+use Rattle.run.proofs.First.{not_taken}
 
 module _ (r : Run) (e : ℕ) where
   -- sets: 14, 15, 20, shown
-  pub sets-out : runOut r ≡ true → setsOf r e ≡ record { answer = Refused 14 0; sets = no_sets }
-  unfolding setsOf rowAnswer
+  pub sets-out : run_out r ≡ true → sets_of r e ≡ record { answer = Refused 14 0; sets = no_sets }
+  unfolding sets_of row_answer
   sets-out q = rw q refl
 
-  pub sets-late : runOut r ≡ false → firstLateIn r < r.count → setsOf r e ≡ record { answer = Refused 15 (suc (firstLateIn r)); sets = no_sets }
-  unfolding setsOf rowAnswer
-  sets-late q l = rw (q, lt-ltb (firstLateIn r) r.count l) refl
+  pub sets-late : run_out r ≡ false → first_late_in r < r.count → sets_of r e ≡ record { answer = Refused 15 (suc (first_late_in r)); sets = no_sets }
+  unfolding sets_of row_answer
+  sets-late q l = rw (q, lt-ltb (first_late_in r) r.count l) refl
 
-  pub sets-empty : runOut r ≡ false → r.count ≤ firstLateIn r → wrongEmptiesIn r e ≡ true → setsOf r e ≡ record { answer = Refused 20 0; sets = no_sets }
-  unfolding setsOf rowAnswer
-  sets-empty q l m = rw (q, le-ltb (firstLateIn r) r.count l, m) refl
+  pub sets-empty : run_out r ≡ false → r.count ≤ first_late_in r → wrong_empties_in r e ≡ true → sets_of r e ≡ record { answer = Refused 20 0; sets = no_sets }
+  unfolding sets_of row_answer
+  sets-empty q l m = rw (q, le-ltb (first_late_in r) r.count l, m) refl
 
-  pub sets-shown : runOut r ≡ false → r.count ≤ firstLateIn r → wrongEmptiesIn r e ≡ false → setsOf r e ≡ record { answer = Taken; sets = setsIn r e }
-  unfolding setsOf rowAnswer
-  sets-shown q l m = rw (q, le-ltb (firstLateIn r) r.count l, m) refl
+  pub sets-shown : run_out r ≡ false → r.count ≤ first_late_in r → wrong_empties_in r e ≡ false → sets_of r e ≡ record { answer = Taken; sets = sets_in r e }
+  unfolding sets_of row_answer
+  sets-shown q l m = rw (q, le-ltb (first_late_in r) r.count l, m) refl
 
   -- sets and a row, by row's answer
-  pub sets-answer : (setsOf r e).answer ≡ rowAnswer r e
-  unfolding setsOf
+  pub sets-answer : (sets_of r e).answer ≡ row_answer r e
+  unfolding sets_of
   sets-answer = refl
 
-  pub row-shown : rowAnswer r e ≡ Taken → row_of r e ≡ record { answer = Taken; bytes = bytesIn r e }
+  pub row-shown : row_answer r e ≡ Taken → row_of r e ≡ record { answer = Taken; bytes = bytes_in r e }
   unfolding row_of
   row-shown q = rw q refl
 
-  pub row-refused : (n p : ℕ) → rowAnswer r e ≡ Refused n p → row_of r e ≡ record { answer = Refused n p; bytes = noBytes }
+  pub row-refused : (n p : ℕ) → row_answer r e ≡ Refused n p → row_of r e ≡ record { answer = Refused n p; bytes = no_bytes }
   unfolding row_of
   row-refused n p q = rw q refl
 
-  pub sets-by : rowAnswer r e ≡ Taken → (setsOf r e).sets ≡ setsIn r e
-  unfolding setsOf
+  pub sets-by : row_answer r e ≡ Taken → (sets_of r e).sets ≡ sets_in r e
+  unfolding sets_of
   sets-by q = rw q refl
 
-  -- which positions work, by row's answer, which sets have too
-  pub working-answer : (setsOf r e).answer ≡ (workingOf r e).answer
-  unfolding setsOf workingOf
+  -- who works, by row's answer, which sets have too
+  pub working-answer : (sets_of r e).answer ≡ (working_of r e).answer
+  unfolding sets_of working_of
   working-answer = refl
 
-  pub working-by : rowAnswer r e ≡ Taken → (workingOf r e).set ≡ workingIn r e
-  unfolding workingOf
+  pub working-by : row_answer r e ≡ Taken → (working_of r e).set ≡ working_in r e
+  unfolding working_of
   working-by q = rw q refl
 
-  pub working-none : (n p : ℕ) → rowAnswer r e ≡ Refused n p → (workingOf r e).set ≡ 0
-  unfolding workingOf
+  pub working-none : (n p : ℕ) → row_answer r e ≡ Refused n p → (working_of r e).set ≡ 0
+  unfolding working_of
   working-none n p q = rw q refl
 
   -- a run whose row is shown passes 14
-  pub row-passes : rowAnswer r e ≡ Taken → runOut r ≡ false
-  unfolding rowAnswer
-  row-passes q = go (runOut r) refl
+  pub row-passes : row_answer r e ≡ Taken → run_out r ≡ false
+  unfolding row_answer
+  row-passes q = go (run_out r) refl
     where
-      go : (t : Bool) → runOut r ≡ t → t ≡ false
+      go : (t : Bool) → run_out r ≡ t → t ≡ false
       go false i = refl
       go true i = let z : Refused 14 0 ≡ Taken = sym (rw i) ∙ q in absurd (not_taken 14 0 z)
 
   -- an advance: as the row, then 16, taken ..
   module _ (x : ℕ) where
-    by_row : advanceAnswer r x e ≡ byAnswer (rowAnswer r e) (cond (wrongReportsIn r e x) (Refused 16 0) Taken) (rowAnswer r e)
-    unfolding advanceAnswer rowAnswer
-    by_row = go (runOut r) (ltb (firstLateIn r) r.count) (wrongEmptiesIn r e)
+    by_row : advance_answer r x e ≡ by_answer (row_answer r e) (cond (wrong_reports_in r e x) (Refused 16 0) Taken) (row_answer r e)
+    unfolding advance_answer row_answer
+    by_row = go (run_out r) (ltb (first_late_in r) r.count) (wrong_empties_in r e)
       where
         late : Answer
-        late = Refused 15 (suc (firstLateIn r))
+        late = Refused 15 (suc (first_late_in r))
 
         last : Answer
-        last = cond (wrongReportsIn r e x) (Refused 16 0) Taken
+        last = cond (wrong_reports_in r e x) (Refused 16 0) Taken
 
         go : (a b c : Bool)
             → cond a (Refused 14 0) (cond b late (cond c (Refused 20 0) last))
-            ≡ byAnswer (cond a (Refused 14 0) (cond b late (cond c (Refused 20 0) Taken))) last
+            ≡ by_answer (cond a (Refused 14 0) (cond b late (cond c (Refused 20 0) Taken))) last
             (cond a (Refused 14 0) (cond b late (cond c (Refused 20 0) Taken)))
         go true b c = refl
         go false true c = refl
@@ -98,52 +98,52 @@ module _ (r : Run) (e : ℕ) where
         go false false false = refl
 
     -- .. and the run that goes with the answer
-    pub advance-taken : rowAnswer r e ≡ Taken → wrongReportsIn r e x ≡ false → advanceOf r x e ≡ record { answer = Taken; run = moved (bit x) e r }
-    unfolding advanceOf
+    pub advance-taken : row_answer r e ≡ Taken → wrong_reports_in r e x ≡ false → advance_of r x e ≡ record { answer = Taken; run = moved (bit x) e r }
+    unfolding advance_of
     advance-taken q m = rw (by_row, q, m) refl
 
-    pub advance-misreported : rowAnswer r e ≡ Taken → wrongReportsIn r e x ≡ true → advanceOf r x e ≡ record { answer = Refused 16 0; run = r }
-    unfolding advanceOf
+    pub advance-misreported : row_answer r e ≡ Taken → wrong_reports_in r e x ≡ true → advance_of r x e ≡ record { answer = Refused 16 0; run = r }
+    unfolding advance_of
     advance-misreported q m = rw (by_row, q, m) refl
 
-    pub advance-refused : (n p : ℕ) → rowAnswer r e ≡ Refused n p → advanceOf r x e ≡ record { answer = Refused n p; run = r }
-    unfolding advanceOf
+    pub advance-refused : (n p : ℕ) → row_answer r e ≡ Refused n p → advance_of r x e ≡ record { answer = Refused n p; run = r }
+    unfolding advance_of
     advance-refused n p q = rw (by_row, q) refl
 
 -- a withdrawal: 14, 21, 22, taken
 module _ (r : Run) (p : ℕ) where
-  pub withdraw-out : runOut r ≡ true → withdrawOf r p ≡ record { answer = Refused 14 0; run = r }
-  unfolding withdrawOf withdrawAnswer
+  pub withdraw-out : run_out r ≡ true → withdraw_of r p ≡ record { answer = Refused 14 0; run = r }
+  unfolding withdraw_of withdraw_answer
   withdraw-out q = rw q refl
 
-  pub withdraw-not-firm : runOut r ≡ false → firmIn r ≡ false → withdrawOf r p ≡ record { answer = Refused 21 0; run = r }
-  unfolding withdrawOf withdrawAnswer
+  pub withdraw-not-firm : run_out r ≡ false → firm_in r ≡ false → withdraw_of r p ≡ record { answer = Refused 21 0; run = r }
+  unfolding withdraw_of withdraw_answer
   withdraw-not-firm q f = rw (q, f) refl
 
-  pub withdraw-unknown : runOut r ≡ false → firmIn r ≡ true → unknownIn r p ≡ true → withdrawOf r p ≡ record { answer = Refused 22 0; run = r }
-  unfolding withdrawOf withdrawAnswer
+  pub withdraw-unknown : run_out r ≡ false → firm_in r ≡ true → unknown_in r p ≡ true → withdraw_of r p ≡ record { answer = Refused 22 0; run = r }
+  unfolding withdraw_of withdraw_answer
   withdraw-unknown q f u = rw (q, f, u) refl
 
   pub withdraw-taken :
-      runOut r ≡ false → firmIn r ≡ true → unknownIn r p ≡ false → withdrawOf r p ≡ record { answer = Taken; run = withdrawnIn (singleton p) r }
-  unfolding withdrawOf withdrawAnswer
+      run_out r ≡ false → firm_in r ≡ true → unknown_in r p ≡ false → withdraw_of r p ≡ record { answer = Taken; run = withdrawn_in (singleton p) r }
+  unfolding withdraw_of withdraw_answer
   withdraw-taken q f u = rw (q, f, u) refl
 
 -- of several together: the same
 module _ (r : Run) (x : ℕ) where
-  pub withdraw-all-out : runOut r ≡ true → withdrawAllOf r x ≡ record { answer = Refused 14 0; run = r }
-  unfolding withdrawAllOf withdrawAnswer
+  pub withdraw-all-out : run_out r ≡ true → withdraw_all_of r x ≡ record { answer = Refused 14 0; run = r }
+  unfolding withdraw_all_of withdraw_answer
   withdraw-all-out q = rw q refl
 
-  pub withdraw-all-not-firm : runOut r ≡ false → firmIn r ≡ false → withdrawAllOf r x ≡ record { answer = Refused 21 0; run = r }
-  unfolding withdrawAllOf withdrawAnswer
+  pub withdraw-all-not-firm : run_out r ≡ false → firm_in r ≡ false → withdraw_all_of r x ≡ record { answer = Refused 21 0; run = r }
+  unfolding withdraw_all_of withdraw_answer
   withdraw-all-not-firm q f = rw (q, f) refl
 
-  pub withdraw-all-past : runOut r ≡ false → firmIn r ≡ true → pastCount r.count x ≡ true → withdrawAllOf r x ≡ record { answer = Refused 22 0; run = r }
-  unfolding withdrawAllOf withdrawAnswer
+  pub withdraw-all-past : run_out r ≡ false → firm_in r ≡ true → past_count r.count x ≡ true → withdraw_all_of r x ≡ record { answer = Refused 22 0; run = r }
+  unfolding withdraw_all_of withdraw_answer
   withdraw-all-past q f u = rw (q, f, u) refl
 
   pub withdraw-all-taken :
-      runOut r ≡ false → firmIn r ≡ true → pastCount r.count x ≡ false → withdrawAllOf r x ≡ record { answer = Taken; run = withdrawnIn x r }
-  unfolding withdrawAllOf withdrawAnswer
+      run_out r ≡ false → firm_in r ≡ true → past_count r.count x ≡ false → withdraw_all_of r x ≡ record { answer = Taken; run = withdrawn_in x r }
+  unfolding withdraw_all_of withdraw_answer
   withdraw-all-taken q f u = rw (q, f, u) refl

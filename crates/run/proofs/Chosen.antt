@@ -12,13 +12,13 @@ use borrow.Author.Tests.{lt-ltb, le-ltb, eqb-true, eqb-false, ltb-true, ltb-fals
 use Rattle.model.proofs.Digits.{bit_high, bit-zero, bit-suc, half, and-bit, or-bit}
 use Rattle.model.specs.Grants.{Claimant, claimants, grants, some}
 use Rattle.model.specs.Fence.{unfenced}
-use Rattle.model.specs.Lending.{lends, lent, shownCores}
+use Rattle.model.specs.Lending.{lends, lent, shown_cores}
 use Rattle.model.specs.Search.{any, bit}
-use Rattle.model.specs.Sets.{setOf}
+use Rattle.model.specs.Sets.{set_of}
 use Rattle.model.proofs.Bools.{not-false-true}
 use Rattle.model.proofs.Grants.{claimants-same}
 use Rattle.model.proofs.Search.{none_any, none-at}
-use Rattle.rule.specs.Widths.{widthsIn}
+use Rattle.rule.specs.Widths.{widths_in}
 use Rattle.rule.proofs.Granting.{same-either}
 use Rattle.run.specs.declared.Run.{Run}
 use Rattle.run.specs.declared.choosing.Claims.{Claims}
@@ -26,49 +26,49 @@ use Rattle.run.specs.declared.allocation.Allocation.{Allocation}
 use Rattle.phase.specs.declared.Phase.{Phase}
 use Rattle.phase.specs.declared.Phase.TheVariants.{Coming, Working, Holding, Resting}
 use Rattle.phase.specs.Phase.{claiming, holder, working}
-use Rattle.phase.specs.Task.{widthNow}
-use Rattle.run.specs.Run.{ruleIn, emptiedAt, widthsNow, grantsIn, hasCores, offerIn, seeksIn, lentIn, hasLent}
-use Rattle.run.specs.Numbers.{emptiableAt, wrongEmptiesIn, reportableAt, wrongReportsIn}
+use Rattle.phase.specs.Task.{width_now}
+use Rattle.run.specs.Run.{rule_in, emptied_at, widths_now, grants_in, has_cores, offer_in, seeks_in, lent_in, has_lent}
+use Rattle.run.specs.Numbers.{emptiable_at, wrong_empties_in, reportable_at, wrong_reports_in}
 use Rattle.run.specs.Claims.{ClaimsOf}
-use Rattle.run.specs.Sets.{in32, setsIn}
-use Rattle.run.specs.Allocation.{AllocationOf, givenTo, isGiven, lentTo}
+use Rattle.run.specs.Sets.{in32, sets_in}
+use Rattle.run.specs.Allocation.{AllocationOf, given_to, is_given, lent_to}
 use Rattle.run.proofs.Lent.{past-grants, past-offer}
 
 -- ---- the places that have cores, and those that borrow some
 
 module _ (r : Run) (e : ℕ) (c : Claims) (h : ClaimsOf r e c) where
-  below : (q : ℕ) → q < r.count → bit c.claiming q ≡ claiming (emptiedAt r e q)
-  below q l = h.claimed q ∙ ap (λ (t : Bool). t && claiming (emptiedAt r e q)) (lt-ltb q r.count l)
+  below : (q : ℕ) → q < r.count → bit c.claiming q ≡ claiming (emptied_at r e q)
+  below q l = h.claimed q ∙ ap (λ (t : Bool). t && claiming (emptied_at r e q)) (lt-ltb q r.count l)
 
   -- no place claims past the count
   pub claims-below : (q : ℕ) → r.count ≤ q → bit c.claiming q ≡ false
-  claims-below q l = h.claimed q ∙ ap (λ (t : Bool). t && claiming (emptiedAt r e q)) (le-ltb q r.count l)
+  claims-below q l = h.claimed q ∙ ap (λ (t : Bool). t && claiming (emptied_at r e q)) (le-ltb q r.count l)
 
   -- the widths of the places below the count, and the cores that the rule gives from
   abbrev pub ws : List ℕ
-  ws = take r.count (widthsIn c.even c.widths)
+  ws = take r.count (widths_in c.even c.widths)
 
   abbrev pub F : List ℕ
   F = unfenced r.fence r.cores
 
   -- the cores that are given
-  pub same-given : givenTo (ruleIn r) ws c.claiming F ≡ grantsIn r e
-  unfolding grantsIn
+  pub same-given : given_to (rule_in r) ws c.claiming F ≡ grants_in r e
+  unfolding grants_in
   same-given =
-      ap (λ (vs : List ℕ). grants (ruleIn r) (claimants vs (bit c.claiming)) F) h.width
-      ∙ ap (λ (bs : List Claimant). grants (ruleIn r) bs F)
-      (claimants-same (widthsNow r) (bit c.claiming) (λ q. claiming (emptiedAt r e q))
-      (λ q l. below q (omega (arith, length-map (take r.count r.tasks) widthNow, length-take r.count r.tasks))))
+      ap (λ (vs : List ℕ). grants (rule_in r) (claimants vs (bit c.claiming)) F) h.width
+      ∙ ap (λ (bs : List Claimant). grants (rule_in r) bs F)
+      (claimants-same (widths_now r) (bit c.claiming) (λ q. claiming (emptied_at r e q))
+      (λ q l. below q (omega (arith, length-map (take r.count r.tasks) width_now, length-take r.count r.tasks))))
 
-  same-seeks : (p : ℕ) → bit c.working p && not (isGiven (ruleIn r) ws c.claiming F p) ≡ seeksIn r e p
-  unfolding seeksIn
+  same-seeks : (p : ℕ) → bit c.working p && not (is_given (rule_in r) ws c.claiming F p) ≡ seeks_in r e p
+  unfolding seeks_in
   same-seeks p =
       ap₂ (λ (t : Bool) (gs : List (List ℕ)). t && not (some (get_or gs p []))) (h.worked p) same-given
-      ∙ and_assoc (ltb p r.count) (working (emptiedAt r e p)) (not (hasCores r e p))
+      ∙ and_assoc (ltb p r.count) (working (emptied_at r e p)) (not (has_cores r e p))
 
   same-offer : (p : ℕ)
-      → cond (lends (ruleIn r) && (bit c.claiming p && not (bit c.working p))) (get_or (givenTo (ruleIn r) ws c.claiming F) p []) [] ≡ offerIn r e p
-  unfolding offerIn
+      → cond (lends (rule_in r) && (bit c.claiming p && not (bit c.working p))) (get_or (given_to (rule_in r) ws c.claiming F) p []) [] ≡ offer_in r e p
+  unfolding offer_in
   same-offer p = go (ltb p r.count) refl
     where
       -- a place that claims and is not Working holds
@@ -79,35 +79,35 @@ module _ (r : Run) (e : ℕ) (c : Claims) (h : ClaimsOf r e c) where
       held (Resting z) = refl
 
       go : (t : Bool) → ltb p r.count ≡ t
-          → cond (lends (ruleIn r) && (bit c.claiming p && not (bit c.working p))) (get_or (givenTo (ruleIn r) ws c.claiming F) p []) []
-          ≡ offerIn r e p
+          → cond (lends (rule_in r) && (bit c.claiming p && not (bit c.working p))) (get_or (given_to (rule_in r) ws c.claiming F) p []) []
+          ≡ offer_in r e p
       go true q =
-          ap₂ (λ (t : Bool) (gs : List (List ℕ)). cond (lends (ruleIn r) && t) (get_or gs p []) [])
-          (ap₂ (λ (a b : Bool). a && not b) (h.claimed p ∙ ap (λ (t : Bool). t && claiming (emptiedAt r e p)) q)
-          (h.worked p ∙ ap (λ (t : Bool). t && working (emptiedAt r e p)) q)
-          ∙ held (emptiedAt r e p)) same-given
+          ap₂ (λ (t : Bool) (gs : List (List ℕ)). cond (lends (rule_in r) && t) (get_or gs p []) [])
+          (ap₂ (λ (a b : Bool). a && not b) (h.claimed p ∙ ap (λ (t : Bool). t && claiming (emptied_at r e p)) q)
+          (h.worked p ∙ ap (λ (t : Bool). t && working (emptied_at r e p)) q)
+          ∙ held (emptied_at r e p)) same-given
       go false q =
-          ap (λ (l : List ℕ). cond (lends (ruleIn r) && (bit c.claiming p && not (bit c.working p))) l [])
+          ap (λ (l : List ℕ). cond (lends (rule_in r) && (bit c.claiming p && not (bit c.working p))) l [])
           (ap (λ (gs : List (List ℕ)). get_or gs p []) same-given ∙ past-grants r e p (ltb-false p r.count q))
-          ∙ (same-either (lends (ruleIn r) && (bit c.claiming p && not (bit c.working p))) [] ∙ sym (past-offer r e p (ltb-false p r.count q)))
+          ∙ (same-either (lends (rule_in r) && (bit c.claiming p && not (bit c.working p))) [] ∙ sym (past-offer r e p (ltb-false p r.count q)))
 
   -- and those that are lent
-  pub same-lent : lentTo (ruleIn r) ws c.claiming c.working F r.count ≡ lentIn r e
-  unfolding lentIn
+  pub same-lent : lent_to (rule_in r) ws c.claiming c.working F r.count ≡ lent_in r e
+  unfolding lent_in
   same-lent = λ i. lent (h.width i) (λ p. same-seeks p i) (λ p. same-offer p i) r.count
 
   -- so the sets that the choosing gives are those of the places with cores
-  module _ (s : Allocation) (q : AllocationOf (ruleIn r) ws c.claiming c.working F r.count s) where
-    pub has-cores : (p : ℕ) → bit s.given p ≡ hasCores r e p
+  module _ (s : Allocation) (q : AllocationOf (rule_in r) ws c.claiming c.working F r.count s) where
+    pub has-cores : (p : ℕ) → bit s.given p ≡ has_cores r e p
     has-cores p = q.given p ∙ ap (λ (gs : List (List ℕ)). some (get_or gs p [])) same-given
 
-    pub has-lent : (p : ℕ) → bit s.lent p ≡ hasLent r e p
+    pub has-lent : (p : ℕ) → bit s.lent p ≡ has_lent r e p
     has-lent p = q.lent p ∙ ap (λ (gs : List (List ℕ)). some (get_or gs p [])) same-lent
 
     -- and the sets of cores are the run's
-    pub same-sets : s.sets ≡ setsIn r e
-    unfolding setsIn
-    same-sets = q.shows ∙ ap (λ (gs : List (List ℕ)). in32 (map setOf gs)) (ap₂ shownCores same-given same-lent)
+    pub same-sets : s.sets ≡ sets_in r e
+    unfolding sets_in
+    same-sets = q.shows ∙ ap (λ (gs : List (List ℕ)). in32 (map set_of gs)) (ap₂ shown_cores same-given same-lent)
 
 -- ---- sets with the same bits
 
@@ -166,20 +166,19 @@ module _ (x m : ℕ) (f : ℕ → Bool) (e : (p : ℕ) → bit m p ≡ f p) wher
 
 -- 20 by one test of sets: the empties are within the places whose job is released in this tick
 pub may-begin :
-    (r : Run) (e : ℕ) (c : Claims) → ClaimsOf r e c → (k : ℕ) → e < 2 ^ k → wrongEmptiesIn r e ≡ not (eqb (bit_and e c.released) e)
-unfolding wrongEmptiesIn
-may-begin r e c h k l = outside e c.released (emptiableAt r) h.begun k l
+    (r : Run) (e : ℕ) (c : Claims) → ClaimsOf r e c → (k : ℕ) → e < 2 ^ k → wrong_empties_in r e ≡ not (eqb (bit_and e c.released) e)
+unfolding wrong_empties_in
+may-begin r e c h k l = outside e c.released (emptiable_at r) h.begun k l
 
 -- the places that work are those that are given or borrow cores and are Working
 pub may-end :
-    (r : Run) (e : ℕ) (c : Claims) (h : ClaimsOf r e c) (s : Allocation)
-    → AllocationOf (ruleIn r) (ws r e c h) c.claiming c.working (F r e c h) r.count s
-    → (p : ℕ) → bit (bit_and (bit_or s.given s.lent) c.working) p ≡ reportableAt r e p
+    (r : Run) (e : ℕ) (c : Claims) (h : ClaimsOf r e c) (s : Allocation) → AllocationOf (rule_in r) (ws r e c h) c.claiming c.working (F r e c h) r.count s
+    → (p : ℕ) → bit (bit_and (bit_or s.given s.lent) c.working) p ≡ reportable_at r e p
 may-end r e c h s q p =
     and-bit (bit_or s.given s.lent) c.working p
     ∙ (ap₂ (λ (a b : Bool). a && b)
     (or-bit s.given s.lent p ∙ ap₂ (λ (a b : Bool). a || b) (has-cores r e c h s q p) (has-lent r e c h s q p)) (h.worked p)
-    ∙ turned (hasCores r e p || hasLent r e p) (ltb p r.count) (working (emptiedAt r e p)))
+    ∙ turned (has_cores r e p || has_lent r e p) (ltb p r.count) (working (emptied_at r e p)))
   where
     turned : (a b d : Bool) → a && (b && d) ≡ b && (d && a)
     turned true true true = refl
@@ -191,6 +190,6 @@ may-end r e c h s q p =
 
 -- and 16: the reports are within the places that work
 pub may-report :
-    (r : Run) (e m : ℕ) → ((p : ℕ) → bit m p ≡ reportableAt r e p) → (x k : ℕ) → x < 2 ^ k → wrongReportsIn r e x ≡ not (eqb (bit_and x m) x)
-unfolding wrongReportsIn
-may-report r e m h x k l = outside x m (reportableAt r e) h k l
+    (r : Run) (e m : ℕ) → ((p : ℕ) → bit m p ≡ reportable_at r e p) → (x k : ℕ) → x < 2 ^ k → wrong_reports_in r e x ≡ not (eqb (bit_and x m) x)
+unfolding wrong_reports_in
+may-report r e m h x k l = outside x m (reportable_at r e) h k l

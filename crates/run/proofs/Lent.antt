@@ -11,32 +11,32 @@ use Rattle.model.specs.Lending.{lends}
 use Rattle.model.specs.Task.{lending}
 use Rattle.model.proofs.Grants.{grants-length}
 use Rattle.phase.specs.Phase.{claiming, holder}
-use Rattle.phase.specs.Task.{widthNow}
+use Rattle.phase.specs.Task.{width_now}
 use Rattle.phase.proofs.Phases.{lends-decides}
 use Rattle.rule.proofs.Granting.{same-either}
 use Rattle.run.specs.declared.Run.{Run}
-use Rattle.run.specs.Run.{ruleIn, emptiedAt, widthsNow, grantsIn, offerIn, seeksIn, lentIn, hasLent}
+use Rattle.run.specs.Run.{rule_in, emptied_at, widths_now, grants_in, offer_in, seeks_in, lent_in, has_lent}
 use Rattle.run.proofs.Loans.{lent_nothing}
 
-pub past-grants : (r : Run) (e p : ℕ) → r.count ≤ p → get_or (grantsIn r e) p [] ≡ []
-unfolding grantsIn
+pub past-grants : (r : Run) (e p : ℕ) → r.count ≤ p → get_or (grants_in r e) p [] ≡ []
+unfolding grants_in
 past-grants r e p l =
-    get_or-eq_default (grantsIn r e) []
+    get_or-eq_default (grants_in r e) []
     (omega (
       arith,
-      grants-length (ruleIn r) (widthsNow r) (λ q. claiming (emptiedAt r e q)) (unfenced r.fence r.cores),
-      length-map (take r.count r.tasks) widthNow,
+      grants-length (rule_in r) (widths_now r) (λ q. claiming (emptied_at r e q)) (unfenced r.fence r.cores),
+      length-map (take r.count r.tasks) width_now,
       length-take r.count r.tasks,
     ))
 
-pub past-offer : (r : Run) (e p : ℕ) → r.count ≤ p → offerIn r e p ≡ []
-unfolding offerIn
-past-offer r e p l = rw (past-grants r e p l) (same-either (lends (ruleIn r) && holder (emptiedAt r e p)) [])
+pub past-offer : (r : Run) (e p : ℕ) → r.count ≤ p → offer_in r e p ≡ []
+unfolding offer_in
+past-offer r e p l = rw (past-grants r e p l) (same-either (lends (rule_in r) && holder (emptied_at r e p)) [])
 
-pub lent-lends : (r : Run) (e p : ℕ) → hasLent r e p ≡ true → ruleIn r ≡ lending
-unfolding lentIn offerIn
-lent-lends r e p q = go (lends (ruleIn r)) refl
+pub lent-lends : (r : Run) (e p : ℕ) → has_lent r e p ≡ true → rule_in r ≡ lending
+unfolding lent_in offer_in
+lent-lends r e p q = go (lends (rule_in r)) refl
   where
-    go : (x : Bool) → lends (ruleIn r) ≡ x → ruleIn r ≡ lending
-    go true i = (lends-decides (ruleIn r)).0 i
-    go false i = absurd (true≢false (sym q ∙ ap some (lent_nothing (widthsNow r) (seeksIn r e) (offerIn r e) (λ o. rw i) r.count p)))
+    go : (x : Bool) → lends (rule_in r) ≡ x → rule_in r ≡ lending
+    go true i = (lends-decides (rule_in r)).0 i
+    go false i = absurd (true≢false (sym q ∙ ap some (lent_nothing (widths_now r) (seeks_in r e) (offer_in r e) (λ o. rw i) r.count p)))

@@ -13,14 +13,14 @@ use lib.Seq.{ext_get_or, get_or-drop, get_or-take}
 use borrow.Author.Tests.{eq-eqb, ltb-false, ltb-true, not-true}
 use Rattle.model.specs.Task.{Rule}
 use Rattle.model.specs.Grants.{claimants, some}
-use Rattle.model.specs.Lending.{lends, lent, shownCores}
+use Rattle.model.specs.Lending.{lends, lent, shown_cores}
 use Rattle.model.specs.Search.{bit, member}
-use Rattle.model.specs.Sets.{setOf}
+use Rattle.model.specs.Sets.{set_of}
 use Rattle.model.proofs.Bools.{and_right}
 use Rattle.model.proofs.Digits.{bit-none, without-bit}
 use Rattle.model.proofs.Grants.{grants-length}
 use Rattle.model.proofs.Lending.{lent_length, shown-own}
-use Rattle.model.proofs.Lists.{getD-zeros}
+use Rattle.model.proofs.Lists.{get_d-zeros}
 use Rattle.cores.specs.Cores.{cores}
 use Rattle.cores.proofs.Ascending.{In, not-in-none}
 use Rattle.cores.proofs.Cores.{set-cores}
@@ -31,7 +31,7 @@ use Rattle.rule.proofs.LentSets.{borrowers, not-both, reserved-owners, shown-set
 use Rattle.rule.proofs.Sets.{sets-at}
 use Rattle.run.specs.declared.allocation.Allocation.{Allocation}
 use Rattle.run.specs.Sets.{in32}
-use Rattle.run.specs.Allocation.{AllocationOf, givenTo, isGiven, lentTo}
+use Rattle.run.specs.Allocation.{AllocationOf, given_to, is_given, lent_to}
 
 -- ---- where nothing is offered nothing is borrowed
 
@@ -50,17 +50,17 @@ lent_nothing ws sk o e n q = go (get_or (lent ws sk o n) q []) refl
 
 -- so it is under rules 1 to 3
 module _ (r : Rule) (none : lends r ≡ false) (ws : List ℕ) (claiming working : ℕ) (F : List ℕ) (count : ℕ) where
-  pub nothing_lent : (p : ℕ) → get_or (lentTo r ws claiming working F count) p [] ≡ []
+  pub nothing_lent : (p : ℕ) → get_or (lent_to r ws claiming working F count) p [] ≡ []
   nothing_lent p =
-      lent_nothing ws (λ q. bit working q && not (isGiven r ws claiming F q))
-      (λ q. cond (lends r && (bit claiming q && not (bit working q))) (get_or (givenTo r ws claiming F) q []) [])
+      lent_nothing ws (λ q. bit working q && not (is_given r ws claiming F q))
+      (λ q. cond (lends r && (bit claiming q && not (bit working q))) (get_or (given_to r ws claiming F) q []) [])
       (λ q. rw none) count p
 
-  pub own-shown : shownCores (givenTo r ws claiming F) (lentTo r ws claiming working F count) ≡ givenTo r ws claiming F
+  pub own-shown : shown_cores (given_to r ws claiming F) (lent_to r ws claiming working F count) ≡ given_to r ws claiming F
   own-shown =
-      shown-own (givenTo r ws claiming F) (lentTo r ws claiming working F count)
-      (lent_length ws (λ q. bit working q && not (isGiven r ws claiming F q))
-      (λ q. cond (lends r && (bit claiming q && not (bit working q))) (get_or (givenTo r ws claiming F) q []) []) count
+      shown-own (given_to r ws claiming F) (lent_to r ws claiming working F count)
+      (lent_length ws (λ q. bit working q && not (is_given r ws claiming F q))
+      (λ q. cond (lends r && (bit claiming q && not (bit working q))) (get_or (given_to r ws claiming F) q []) []) count
       ∙ sym (grants-length r ws (bit claiming) F))
       nothing_lent
 
@@ -70,18 +70,18 @@ module _ (r : Rule) (none : lends r ≡ false) (ws : List ℕ) (claiming working
 abbrev pub Machine : List ℕ → Type 0
 Machine sets = (length sets ≡ 32) × ((p : ℕ) → get_or sets p 0 < 2 ^ 64)
 
-sets-again : (sets : List ℕ) → ((p : ℕ) → get_or sets p 0 < 2 ^ 64) → map setOf (map cores sets) ≡ sets
+sets-again : (sets : List ℕ) → ((p : ℕ) → get_or sets p 0 < 2 ^ 64) → map set_of (map cores sets) ≡ sets
 sets-again [] h = refl
 sets-again (x ∷ sets) h = ap₂ (λ (y : ℕ) (ys : List ℕ). y ∷ ys) (set-cores x (h 0)) (sets-again sets (λ p. h (suc p)))
 
 sets-are :
     (count : ℕ) (sets : List ℕ) (gs : List (List ℕ)) → Machine sets → count ≤ 32 → map cores (take count sets) ≡ gs
-    → drop count sets ≡ replicate (32 - count) 0 → sets ≡ in32 (map setOf gs)
+    → drop count sets ≡ replicate (32 - count) 0 → sets ≡ in32 (map set_of gs)
 sets-are count sets gs h few e none =
-    let front : take count sets ≡ map setOf gs = sym (sets-again (take count sets) small) ∙ ap (map setOf) e in
-    let long : length (map setOf gs) ≡ count = sym (ap length front) ∙ (length-take count sets ∙ omega (arith, h.0)) in
+    let front : take count sets ≡ map set_of gs = sym (sets-again (take count sets) small) ∙ ap (map set_of) e in
+    let long : length (map set_of gs) ≡ count = sym (ap length front) ∙ (length-take count sets ∙ omega (arith, h.0)) in
     sym (take-append-drop count sets)
-    ∙ (ap₂ (λ (a b : List ℕ). a ++ b) front none ∙ ap (λ (n : ℕ). map setOf gs ++ replicate (32 - n) 0) (sym long))
+    ∙ (ap₂ (λ (a b : List ℕ). a ++ b) front none ∙ ap (λ (n : ℕ). map set_of gs ++ replicate (32 - n) 0) (sym long))
   where
     small : (p : ℕ) → get_or (take count sets) p 0 < 2 ^ 64
     small p = go (ltb p count) refl
@@ -98,7 +98,7 @@ sets-are count sets gs h few e none =
 module _ (r : Rule) (ws : List ℕ) (claiming working free count : ℕ) (size : length ws ≡ count) (few : count ≤ 32)
     (reserved : List ℕ) (g : GrantedAs r (claimants ws (bit claiming)) count free reserved)
     (given : ℕ) (owns : (p : ℕ) → bit given p ≡ ltb p 32 && some (cores (get_or reserved p 0))) where
-  owners : (p : ℕ) → bit given p ≡ isGiven r ws claiming (cores free) p
+  owners : (p : ℕ) → bit given p ≡ is_given r ws claiming (cores free) p
   owners = reserved-owners r ws (bit claiming) count free reserved g (omega (arith, size, few)) given owns
 
   -- under rules 1 to 3
@@ -108,7 +108,7 @@ module _ (r : Rule) (ws : List ℕ) (claiming working free count : ℕ) (size : 
     given = owners;
     lent = λ p. bit-none p ∙ sym (ap some (nothing_lent r none ws claiming working (cores free) count p));
     shows =
-        sets-are count reserved (shownCores (givenTo r ws claiming (cores free)) (lentTo r ws claiming working (cores free) count)) machine few
+        sets-are count reserved (shown_cores (given_to r ws claiming (cores free)) (lent_to r ws claiming working (cores free) count)) machine few
         (g.gives ∙ sym (own-shown r none ws claiming working (cores free) count)) g.none;
   }
 
@@ -120,17 +120,17 @@ module _ (r : Rule) (ws : List ℕ) (claiming working free count : ℕ) (size : 
     abbrev pub seekers : ℕ
     seekers = bit_and working (bit_xor working given)
 
-    seeking : (p : ℕ) → bit seekers p ≡ bit working p && not (isGiven r ws claiming (cores free) p)
+    seeking : (p : ℕ) → bit seekers p ≡ bit working p && not (is_given r ws claiming (cores free) p)
     seeking p = without-bit working given p ∙ ap (λ (t : Bool). bit working p && not t) (owners p)
 
     -- the cores that a place lends are those reserved for it
     offering :
         (q : ℕ) → offered reserved holders q
-        ≡ cond (lends r && (bit claiming q && not (bit working q))) (get_or (givenTo r ws claiming (cores free)) q []) []
+        ≡ cond (lends r && (bit claiming q && not (bit working q))) (get_or (given_to r ws claiming (cores free)) q []) []
     offering q =
         ap (λ (t : Bool). cond t (cores (get_or reserved q 0)) []) (without-bit claiming working q)
         ∙ (ap (λ (l : List ℕ). cond (bit claiming q && not (bit working q)) l []) (sets-at r (claimants ws (bit claiming)) count free reserved g q)
-        ∙ ap (λ (t : Bool). cond (t && (bit claiming q && not (bit working q))) (get_or (givenTo r ws claiming (cores free)) q []) []) (sym lending))
+        ∙ ap (λ (t : Bool). cond (t && (bit claiming q && not (bit working q))) (get_or (given_to r ws claiming (cores free)) q []) []) (sym lending))
 
     module _ (borrowed : List ℕ) (b : LentAs ws reserved holders seekers count borrowed) where
       -- no place has cores of its own and borrows some
@@ -138,12 +138,12 @@ module _ (r : Rule) (ws : List ℕ) (claiming working free count : ℕ) (size : 
       one-or-other =
           not-both ws reserved holders seekers count size borrowed b (λ p e.
           sets-at r (claimants ws (bit claiming)) count free reserved g p
-          ∙ none-some (get_or (givenTo r ws claiming (cores free)) p [])
-          (not-true (isGiven r ws claiming (cores free) p)
-          (and_right (bit working p) (not (isGiven r ws claiming (cores free) p)) (sym (seeking p) ∙ e))))
+          ∙ none-some (get_or (given_to r ws claiming (cores free)) p [])
+          (not-true (is_given r ws claiming (cores free) p)
+          (and_right (bit working p) (not (is_given r ws claiming (cores free) p)) (sym (seeking p) ∙ e))))
 
       -- what each place borrows
-      borrowed-is : map cores (take count borrowed) ≡ lentTo r ws claiming working (cores free) count
+      borrowed-is : map cores (take count borrowed) ≡ lent_to r ws claiming working (cores free) count
       borrowed-is = b.gives ∙ (λ i. lent ws (λ q. seeking q i) (λ q. offering q i) count)
 
       pub shared-lent :
@@ -154,17 +154,17 @@ module _ (r : Rule) (ws : List ℕ) (claiming working free count : ℕ) (size : 
         given = owners;
         lent =
             borrowers ws reserved holders seekers count size borrowed b
-            (λ q. bit working q && not (isGiven r ws claiming (cores free) q))
-            (λ q. cond (lends r && (bit claiming q && not (bit working q))) (get_or (givenTo r ws claiming (cores free)) q []) [])
+            (λ q. bit working q && not (is_given r ws claiming (cores free) q))
+            (λ q. cond (lends r && (bit claiming q && not (bit working q))) (get_or (given_to r ws claiming (cores free)) q []) [])
             (λ q k. seeking q) (λ q k. offering q) few lent w;
         shows =
-            sets-are count sets (shownCores (givenTo r ws claiming (cores free)) (lentTo r ws claiming working (cores free) count)) machine few
+            sets-are count sets (shown_cores (given_to r ws claiming (cores free)) (lent_to r ws claiming working (cores free) count)) machine few
             (shown-sets r ws (bit claiming) count free size few reserved g holders seekers borrowed b sets s
-            ∙ ap (shownCores (givenTo r ws claiming (cores free))) borrowed-is) none;
+            ∙ ap (shown_cores (given_to r ws claiming (cores free))) borrowed-is) none;
       }
         where
           none : drop count sets ≡ replicate (32 - count) 0
           none =
               let n : length (drop count sets) ≡ 32 - count = length-drop count sets ∙ ap (λ (k : ℕ). k - count) s.size in
               ext_get_or 0 (drop count sets) (replicate (32 - count) 0) (n ∙ sym (length-replicate {A = ℕ} (32 - count) 0))
-              (λ p l. get_or-drop count sets p 0 ∙ (s.none (count + p) (omega arith) ∙ sym (getD-zeros (32 - count) p)))
+              (λ p l. get_or-drop count sets p 0 ∙ (s.none (count + p) (omega arith) ∙ sym (get_d-zeros (32 - count) p)))

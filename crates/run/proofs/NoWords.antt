@@ -2,11 +2,11 @@
 -- too long is this one.
 use mathlib.Core.List.{[]}
 use mathlib.Core.Path.{◌≡◌, refl}
-use Rattle.table.specs.Answer.{answer_of, headerNumber}
-use Rattle.judge.specs.Judged.{verdictOf}
-use Rattle.table.specs.declared.Answer.TheVariants.{Refused}
-use Rattle.run.specs.Start.{startAnswer, start_of}
+use Rattle.table.specs.Answer.{answer_of, header_number}
+use Rattle.judge.specs.Judged.{verdict_of}
+use Rattle.run.specs.declared.Answer.TheVariants.{Refused}
+use Rattle.run.specs.Start.{start_answer, start_of}
 
 pub no_words : (start_of []).answer ≡ Refused 1 0
-unfolding start_of startAnswer verdictOf answer_of headerNumber
+unfolding start_of start_answer verdict_of answer_of header_number
 no_words = refl

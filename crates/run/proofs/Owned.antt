@@ -13,13 +13,13 @@ use borrow.Author.Tests.{eq-eqb, eqb-true, lt-ltb, ltb-false, ltb-true, ne_eqb}
 use Rattle.model.specs.Grants.{some}
 use Rattle.model.specs.Row.{byte_of, owner, row}
 use Rattle.model.specs.Search.{bit, member, up_from}
-use Rattle.model.specs.Sets.{setOf}
-use Rattle.model.specs.Sizes.{fencedByte, mostCores, mostTasks}
+use Rattle.model.specs.Sets.{set_of}
+use Rattle.model.specs.Sizes.{fenced_byte, most_cores, most_tasks}
 use Rattle.model.proofs.Bools.{not-true-false, same_test}
-use Rattle.model.proofs.Lists.{getD-zeros}
+use Rattle.model.proofs.Lists.{get_d-zeros}
 use Rattle.model.proofs.Rows.{row-length}
 use Rattle.cores.specs.Cores.{cores}
-use Rattle.cores.proofs.Ascending.{In, getD-up, not-in-none}
+use Rattle.cores.proofs.Ascending.{In, get_d-up, not-in-none}
 use Rattle.cores.proofs.Cores.{cores-none}
 use Rattle.rule.specs.Lent.{Showable}
 use Rattle.run.specs.Answer.{in64}
@@ -27,7 +27,7 @@ use Rattle.run.specs.Answer.{in64}
 -- ---- what is past the last is nothing
 
 pub padded : (xs : List ℕ) (k p : ℕ) → get_or (xs ++ replicate k 0) p 0 ≡ get_or xs p 0
-padded [] k p = getD-zeros k p
+padded [] k p = get_d-zeros k p
 padded (x ∷ xs) k zero = refl
 padded (x ∷ xs) k (suc p) = padded xs k p
 
@@ -44,14 +44,14 @@ same-owner c p (x ∷ sets) k = ap (cond (member c (cores x)) p) (same-owner c (
 
 pub same_row : (f m : ℕ) (sets : List ℕ) (k : ℕ) → row f m (map cores (sets ++ replicate k 0)) ≡ row f m (map cores sets)
 unfolding row
-same_row f m sets k = λ i. map (λ c. cond (bit f c) fencedByte (same-owner c 1 sets k i)) (up_from 0 m)
+same_row f m sets k = λ i. map (λ c. cond (bit f c) fenced_byte (same-owner c 1 sets k i)) (up_from 0 m)
 
 -- ---- the set of a list
 
-pub set-some : (l : List ℕ) → ltb 0 (setOf l) ≡ some l
-unfolding setOf
+pub set-some : (l : List ℕ) → ltb 0 (set_of l) ≡ some l
+unfolding set_of
 set-some [] = refl
-set-some (c ∷ l) = lt-ltb 0 (2 ^ c + setOf l) (omega (arith, pow_pos c))
+set-some (c ∷ l) = lt-ltb 0 (2 ^ c + set_of l) (omega (arith, pow_pos c))
 
 pub some-append : (a b : List ℕ) → some (a ++ b) ≡ some a || some b
 some-append [] b = refl
@@ -87,21 +87,21 @@ owner_of c p (g ∷ gs) a (suc q) h =
 module _ (f m : ℕ) (gs : List (List ℕ)) where
   byte_at : (c : ℕ) → get_or (in64 (row f m gs)) c 0 ≡ cond (ltb c m) (byte_of f gs c) 0
   unfolding row
-  byte_at c = padded (row f m gs) (mostCores - length (row f m gs)) c ∙ go (ltb c m) refl
+  byte_at c = padded (row f m gs) (most_cores - length (row f m gs)) c ∙ go (ltb c m) refl
     where
       go : (t : Bool) → ltb c m ≡ t → get_or (row f m gs) c 0 ≡ cond t (byte_of f gs c) 0
-      go true e = getD-up (byte_of f gs) 0 0 m c (ltb-true c m e) ∙ ap (byte_of f gs) (zero-add c)
+      go true e = get_d-up (byte_of f gs) 0 0 m c (ltb-true c m e) ∙ ap (byte_of f gs) (zero-add c)
       go false e = get_or-eq_default (row f m gs) 0 (omega (arith, row-length f m gs, ltb-false c m e))
 
   -- a byte is a position exactly if its list has the core
-  pub shown-owned : Showable f m gs → (p c : ℕ) → p < mostTasks → member c (get_or gs p []) ≡ eqb (get_or (in64 (row f m gs)) c 0) (suc p)
+  pub shown-owned : Showable f m gs → (p c : ℕ) → p < most_tasks → member c (get_or gs p []) ≡ eqb (get_or (in64 (row f m gs)) c 0) (suc p)
   shown-owned s p c l = go (ltb c m) refl (bit f c) refl ∙ ap (λ (x : ℕ). eqb x (suc p)) (sym (byte_at c))
     where
       closed : ((c < m) × (bit f c ≡ false) → ⊥) → member c (get_or gs p []) ≡ false
       closed n = not-true-false (member c (get_or gs p [])) (λ h. n (s.unfenced-only c p h))
 
-      go : (t : Bool) → ltb c m ≡ t → (u : Bool) → bit f c ≡ u → member c (get_or gs p []) ≡ eqb (cond t (cond u fencedByte (owner c 1 gs)) 0) (suc p)
-      go true e true o = closed (λ x. false≢true (sym x.1 ∙ o)) ∙ sym (ne_eqb fencedByte (suc p) (λ z. omega arith))
+      go : (t : Bool) → ltb c m ≡ t → (u : Bool) → bit f c ≡ u → member c (get_or gs p []) ≡ eqb (cond t (cond u fenced_byte (owner c 1 gs)) 0) (suc p)
+      go true e true o = closed (λ x. false≢true (sym x.1 ∙ o)) ∙ sym (ne_eqb fenced_byte (suc p) (λ z. omega arith))
       go true e false o =
           same_test (member c (get_or gs p [])) (eqb (owner c 1 gs) (suc p))
           (λ h. eq-eqb (owner c 1 gs) (suc p) (owner_of c 1 gs (s.apart c) p h ∙ omega arith))

@@ -14,7 +14,7 @@ use Rattle.model.proofs.Bools.{and_left, and_right, and_both, not-false-true, no
 use Rattle.model.proofs.Digits.{bit_high, bit-none, bit_past, bit-power, or-bit, same_set}
 use Rattle.model.proofs.Search.{any_some, any_of}
 use Rattle.table.proofs.Decide.{Decides, fails}
-use Rattle.run.specs.Numbers.{PastCount, pastCount}
+use Rattle.run.specs.Numbers.{PastCount, past_count}
 
 -- A BIT THAT IS SET WHERE IT MAY NOT BE
 
@@ -62,8 +62,8 @@ none_below n x h l =
 search-decides : (n x : ℕ) → Decides (any x (λ p. bit x p && not (ltb p n))) (PastCount n x)
 search-decides n x = set-decides x (λ p. ltb p n) (λ p. n ≤ p) (λ p. beyond-decides p n)
 
-pub past-decides : (n x : ℕ) → Decides (pastCount n x) (PastCount n x)
-unfolding pastCount
+pub past-decides : (n x : ℕ) → Decides (past_count n x) (PastCount n x)
+unfolding past_count
 past-decides n x = (there, back)
   where
     there : leb (2 ^ n) x ≡ true → PastCount n x
@@ -75,31 +75,31 @@ past-decides n x = (there, back)
     back y = not-false-true (leb (2 ^ n) x) (λ f. true≢false (sym y.1.0 ∙ below_none n x (leb-false (2 ^ n) x f) y.0 y.1.1))
 
 -- so a search finds the same
-pub past-search : (n x : ℕ) → pastCount n x ≡ any x (λ p. bit x p && not (ltb p n))
+pub past-search : (n x : ℕ) → past_count n x ≡ any x (λ p. bit x p && not (ltb p n))
 past-search n x =
-    same_test (pastCount n x) (any x (λ p. bit x p && not (ltb p n)))
+    same_test (past_count n x) (any x (λ p. bit x p && not (ltb p n)))
     (λ e. (search-decides n x).1 ((past-decides n x).0 e)) (λ e. (past-decides n x).1 ((search-decides n x).0 e))
 
 -- no bit is set at the count or past it
-pub within-if : (n x : ℕ) → pastCount n x ≡ false → (p : ℕ) → n ≤ p → bit x p ≡ false
-within-if n x e p l = not-true-false (bit x p) (λ b. fails (pastCount n x) (PastCount n x) (past-decides n x) e (p, (b, l)))
+pub within-if : (n x : ℕ) → past_count n x ≡ false → (p : ℕ) → n ≤ p → bit x p ≡ false
+within-if n x e p l = not-true-false (bit x p) (λ b. fails (past_count n x) (PastCount n x) (past-decides n x) e (p, (b, l)))
 
-pub within-is : (n x : ℕ) → ((p : ℕ) → n ≤ p → bit x p ≡ false) → pastCount n x ≡ false
-within-is n x h = not-true-false (pastCount n x) (λ e. let y = (past-decides n x).0 e in true≢false (sym y.1.0 ∙ h y.0 y.1.1))
+pub within-is : (n x : ℕ) → ((p : ℕ) → n ≤ p → bit x p ≡ false) → past_count n x ≡ false
+within-is n x h = not-true-false (past_count n x) (λ e. let y = (past-decides n x).0 e in true≢false (sym y.1.0 ∙ h y.0 y.1.1))
 
 -- of no place, of one position of the run, of two sets together
-pub within_none : (n : ℕ) → pastCount n 0 ≡ false
+pub within_none : (n : ℕ) → past_count n 0 ≡ false
 within_none n = within-is n 0 (λ p l. bit-none p)
 
-pub within-or : (n x y : ℕ) → pastCount n x ≡ false → pastCount n y ≡ false → pastCount n (bit_or x y) ≡ false
+pub within-or : (n x y : ℕ) → past_count n x ≡ false → past_count n y ≡ false → past_count n (bit_or x y) ≡ false
 within-or n x y a b = within-is n (bit_or x y) (λ p l. or-bit x y p ∙ rw (within-if n x a p l, within-if n y b p l))
 
-pub within-only : (n p : ℕ) → 1 ≤ p → p ≤ n → pastCount n (singleton p) ≡ false
+pub within-only : (n p : ℕ) → 1 ≤ p → p ≤ n → past_count n (singleton p) ≡ false
 within-only n p a b = within-is n (singleton p) (λ q l. bit-power (p - 1) q ∙ ne_eqb q (p - 1) (λ e. omega arith))
 
 -- BY ONE SHIFT: what is left of a set are its places from the count on
-pub past_shift : (n x : ℕ) → pastCount n x ≡ ltb 0 (x / 2 ^ n)
-unfolding pastCount
+pub past_shift : (n x : ℕ) → past_count n x ≡ ltb 0 (x / 2 ^ n)
+unfolding past_count
 past_shift n x = go (leb (2 ^ n) x) refl
   where
     go : (t : Bool) → leb (2 ^ n) x ≡ t → t ≡ ltb 0 (x / 2 ^ n)
@@ -107,5 +107,5 @@ past_shift n x = go (leb (2 ^ n) x) refl
     go true e = sym (lt-ltb 0 (x / 2 ^ n) (some_left n x (leb-true (2 ^ n) x e)))
 
 -- a set of k digits has none from k on
-pub past_all : (n k x : ℕ) → x < 2 ^ k → k ≤ n → pastCount n x ≡ false
+pub past_all : (n k x : ℕ) → x < 2 ^ k → k ≤ n → past_count n x ≡ false
 past_all n k x h l = within-is n x (λ p m. bit_past k x p h (omega arith))

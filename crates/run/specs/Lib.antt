@@ -1,5 +1,4 @@
--- The run in the cab: its places, its answers and their numbers, advance, row, sets, which positions work and start, and what its tasks claim in a tick, are
--- given and borrow.
+-- The run in the cab: its places, its answers and their numbers, advance, row, sets, who works and start, and what its tasks claim in a tick, are given and borrow.
 pub mod Run
 pub mod Answer
 pub mod Numbers

@@ -3,44 +3,43 @@
 use Rattle.std.specs.Prelude.{◌≡◌, ◌↔◌, cond, List, ℕ, suc, replicate, ltb}
 use Rattle.model.specs.Row.{row}
 use Rattle.model.specs.Refusals as model
-use Rattle.model.specs.Sizes.{mostCores}
+use Rattle.model.specs.Sizes.{most_cores}
 use Rattle.table.specs.Numbers.{FirstOf, NoneOf}
 use Rattle.run.specs.declared.Run.{Run}
-use Rattle.table.specs.declared.Answer.{Answer}
-use Rattle.table.specs.declared.Answer.TheVariants.{Taken, Refused}
+use Rattle.run.specs.declared.Answer.{Answer}
+use Rattle.run.specs.declared.Answer.TheVariants.{Taken, Refused}
 use Rattle.run.specs.declared.Row.{Row}
-use Rattle.run.specs.Run.{shownIn}
-use Rattle.table.specs.AnswerMeaning.{answerMeaning, byAnswer}
-use Rattle.run.specs.Answer.{in64}
-use Rattle.run.specs.Numbers.{RowApplies, runOut, firstLateIn, wrongEmptiesIn}
+use Rattle.run.specs.Run.{shown_in}
+use Rattle.run.specs.Answer.{answer_meaning, by_answer, in64}
+use Rattle.run.specs.Numbers.{RowApplies, run_out, first_late_in, wrong_empties_in}
 
 -- 14, then 15 with the lowest late position, then 20; else taken
-unfoldable pub rowAnswer : Run → ℕ → Answer
-rowAnswer r e =
-    cond (runOut r) (Refused 14 0)
-    (cond (ltb (firstLateIn r) r.count) (Refused 15 (suc (firstLateIn r)))
-    (cond (wrongEmptiesIn r e) (Refused 20 0) Taken))
+unfoldable pub row_answer : Run → ℕ → Answer
+row_answer r e =
+    cond (run_out r) (Refused 14 0)
+    (cond (ltb (first_late_in r) r.count) (Refused 15 (suc (first_late_in r)))
+    (cond (wrong_empties_in r e) (Refused 20 0) Taken))
 
 -- the row of the present tick in 64 bytes
-unfoldable pub bytesIn : Run → ℕ → List ℕ
-bytesIn r e = in64 (row r.fence r.cores (shownIn r e))
+unfoldable pub bytes_in : Run → ℕ → List ℕ
+bytes_in r e = in64 (row r.fence r.cores (shown_in r e))
 
 -- 64 zeros
-abbrev pub noBytes : List ℕ
-noBytes = replicate mostCores 0
+abbrev pub no_bytes : List ℕ
+no_bytes = replicate most_cores 0
 
 -- the row; where refused, all zeros
 unfoldable pub row_of : Run → ℕ → Row
-row_of r e = record { answer = rowAnswer r e; bytes = byAnswer (rowAnswer r e) (bytesIn r e) noBytes }
+row_of r e = record { answer = row_answer r e; bytes = by_answer (row_answer r e) (bytes_in r e) no_bytes }
 
 -- what a row asked of run r with empties e guarantees
 pub record RowOf (r : Run) (e : ℕ) (w : Row) : Type 0 where
   -- its value
   pub value : w ≡ row_of r e
   -- refused with n and p exactly if number n applies with position p and no earlier one does; taken exactly if none applies
-  pub refused : (n p : ℕ) → (answerMeaning w.answer ≡ model.refused n p) ↔ FirstOf (RowApplies r e) n p
-  pub taken : (answerMeaning w.answer ≡ model.taken) ↔ NoneOf (RowApplies r e)
+  pub refused : (n p : ℕ) → (answer_meaning w.answer ≡ model.refused n p) ↔ FirstOf (RowApplies r e) n p
+  pub taken : (answer_meaning w.answer ≡ model.taken) ↔ NoneOf (RowApplies r e)
   -- taken: the row
-  pub bytes : answerMeaning w.answer ≡ model.taken → w.bytes ≡ bytesIn r e
+  pub bytes : answer_meaning w.answer ≡ model.taken → w.bytes ≡ bytes_in r e
   -- refused: all zeros
-  pub zeros : (n p : ℕ) → answerMeaning w.answer ≡ model.refused n p → w.bytes ≡ noBytes
+  pub zeros : (n p : ℕ) → answer_meaning w.answer ≡ model.refused n p → w.bytes ≡ no_bytes

@@ -3,69 +3,69 @@ use Rattle.std.specs.Prelude.{◌≡◌, ◌↔◌, List, map, ◌++◌, ℕ, �
 use Rattle.model.specs.Task as model
 use Rattle.model.specs.Refusals as book
 use Rattle.model.specs.Verdict as verdict
-use Rattle.model.specs.Sizes.{mostTasks}
+use Rattle.model.specs.Sizes.{most_tasks}
 use Rattle.table.specs.Words.{rule, table_of}
 use Rattle.table.specs.Numbers.{Applies, FirstOf, NoneOf}
 use Rattle.judge.specs.declared.Verdict.{Verdict}
 use Rattle.judge.specs.declared.Verdict.TheVariants as judge
-use Rattle.judge.specs.JudgeAnswer.{judged, verdictMeaning}
-use Rattle.judge.specs.Judged.{verdictOf}
+use Rattle.judge.specs.JudgeAnswer.{judged, verdict_meaning}
+use Rattle.judge.specs.Judged.{verdict_of}
 use Rattle.run.specs.declared.Run.{Run}
-use Rattle.table.specs.declared.Answer.{Answer}
-use Rattle.table.specs.declared.Answer.TheVariants.{Taken, Refused}
-use Rattle.run.specs.declared.RunAnswer.{RunAnswer}
-use Rattle.phase.specs.Task.{startTask, unused}
-use Rattle.table.specs.AnswerMeaning.{answerMeaning, byAnswer}
+use Rattle.run.specs.declared.Answer.{Answer}
+use Rattle.run.specs.declared.Answer.TheVariants.{Taken, Refused}
+use Rattle.run.specs.declared.Started.{Started}
+use Rattle.phase.specs.Task.{start_task, unused}
+use Rattle.run.specs.Answer.{answer_meaning, by_answer}
 use Rattle.run.specs.Numbers.{RunOut}
 
 -- the run of a table, whose rule has number n, as it starts, with no position withdrawn; places past the count hold zeros and Resting(0)
-unfoldable pub startedRun : ℕ → model.Table → Run
-startedRun n s = record {
+unfoldable pub started_run : ℕ → model.Table → Run
+started_run n s = record {
   rule = n;
   cores = s.cores;
   fence = s.fence;
   withdrawn = 0;
   count = length s.tasks;
-  tasks = map startTask s.tasks ++ replicate (mostTasks - length s.tasks) unused;
+  tasks = map start_task s.tasks ++ replicate (most_tasks - length s.tasks) unused;
 }
 
 -- a run of all zeros with every phase Resting(0), which 14 turns down (`empty-run-out`)
-abbrev pub emptyRun : Run
-emptyRun = record { rule = 0; cores = 0; fence = 0; withdrawn = 0; count = 0; tasks = replicate mostTasks unused }
+abbrev pub empty_run : Run
+empty_run = record { rule = 0; cores = 0; fence = 0; withdrawn = 0; count = 0; tasks = replicate most_tasks unused }
 
 -- number n applies to a start from the words, with position p
 pub data StartApplies (ws : List ℕ) : ℕ → ℕ → Type 0 where
   -- 1 to 9 and 19
   as-table : (n p : ℕ) → Applies ws n p → StartApplies ws n p
   -- 13. Start: the verdict is Miss.
-  thirteen : (t p : ℕ) → verdictMeaning (verdictOf ws) ≡ judged (verdict.Miss t p) → StartApplies ws 13 0
+  thirteen : (t p : ℕ) → verdict_meaning (verdict_of ws) ≡ judged (verdict.Miss t p) → StartApplies ws 13 0
 
 -- by the judge's verdict: Firm and Full are taken, Miss is 13, and the refusals 1 to 9 and 19 are the same
-abbrev pub byVerdict : Verdict → Answer
-byVerdict (judge.Firm a b) = Taken
-byVerdict (judge.Full a b) = Taken
-byVerdict (judge.Miss t p) = Refused 13 0
-byVerdict (judge.Refused n p) = Refused n p
+abbrev pub by_verdict : Verdict → Answer
+by_verdict (judge.Firm a b) = Taken
+by_verdict (judge.Full a b) = Taken
+by_verdict (judge.Miss t p) = Refused 13 0
+by_verdict (judge.Refused n p) = Refused n p
 
 -- 1 to 9 and 19, then 13; else taken
-unfoldable pub startAnswer : List ℕ → Answer
-startAnswer ws = byVerdict (verdictOf ws)
+unfoldable pub start_answer : List ℕ → Answer
+start_answer ws = by_verdict (verdict_of ws)
 
 -- the run as it starts; where refused, the run of all zeros
-unfoldable pub start_of : List ℕ → RunAnswer
-start_of ws = record { answer = startAnswer ws; run = byAnswer (startAnswer ws) (startedRun (rule ws) (table_of ws)) emptyRun }
+unfoldable pub start_of : List ℕ → Started
+start_of ws = record { answer = start_answer ws; run = by_answer (start_answer ws) (started_run (rule ws) (table_of ws)) empty_run }
 
 -- what a start from the words guarantees
-pub record StartOf (ws : List ℕ) (s : RunAnswer) : Type 0 where
+pub record StartOf (ws : List ℕ) (s : Started) : Type 0 where
   -- its value
   pub value : s ≡ start_of ws
   -- refused with n and p exactly if number n applies with position p and no earlier one does; taken exactly if none applies
-  pub refused : (n p : ℕ) → (answerMeaning s.answer ≡ book.refused n p) ↔ FirstOf (StartApplies ws) n p
-  pub taken : (answerMeaning s.answer ≡ book.taken) ↔ NoneOf (StartApplies ws)
+  pub refused : (n p : ℕ) → (answer_meaning s.answer ≡ book.refused n p) ↔ FirstOf (StartApplies ws) n p
+  pub taken : (answer_meaning s.answer ≡ book.taken) ↔ NoneOf (StartApplies ws)
   -- taken: the table as it starts
-  pub started : answerMeaning s.answer ≡ book.taken → s.run ≡ startedRun (rule ws) (table_of ws)
+  pub started : answer_meaning s.answer ≡ book.taken → s.run ≡ started_run (rule ws) (table_of ws)
   -- refused: all zeros
-  pub zeros : (n p : ℕ) → answerMeaning s.answer ≡ book.refused n p → s.run ≡ emptyRun
+  pub zeros : (n p : ℕ) → answer_meaning s.answer ≡ book.refused n p → s.run ≡ empty_run
   -- a run that starts passes 14; the run of all zeros does not
-  pub passes : answerMeaning s.answer ≡ book.taken → ¬ RunOut s.run
-  pub out : (n p : ℕ) → answerMeaning s.answer ≡ book.refused n p → RunOut s.run
+  pub passes : answer_meaning s.answer ≡ book.taken → ¬ RunOut s.run
+  pub out : (n p : ℕ) → answer_meaning s.answer ≡ book.refused n p → RunOut s.run

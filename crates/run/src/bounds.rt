@@ -1,15 +1,15 @@
 // Number 14: whether a run is outside its limits.
 ghost use Rattle.std.specs.Prelude.{◌≡◌, ◌||◌, not};
-ghost use Rattle.table.specs.Limits.{in_range, coresOut, ruleOut, fenceOut};
-ghost use Rattle.run.specs.Numbers.{runOut, pastCount};
-ghost use Rattle.model.specs.Sizes.{mostTasks};
+ghost use Rattle.table.specs.Limits.{in_range, cores_out, rule_out, fence_out};
+ghost use Rattle.run.specs.Numbers.{run_out, past_count};
+ghost use Rattle.model.specs.Sizes.{most_tasks};
 
 use crate::{Run, bits};
 use model::MOST_TASKS;
 
 // Whether a run's count, core count, rule, fence or withdrawn set is out of range.
 pub(crate) fn head_out(count: usize, cores: u32, rule: u32, fence: u64, withdrawn: u32) -> bool
-    ensures { result ≡ not (in_range 1 mostTasks count) || (coresOut cores || (ruleOut rule || (fenceOut cores fence || pastCount count withdrawn))) }
+    ensures { result ≡ not (in_range 1 most_tasks count) || (cores_out cores || (rule_out rule || (fence_out cores fence || past_count count withdrawn))) }
 {
     !((1 <= count) & (count <= MOST_TASKS))
         | (table::limits::cores_out(cores)
@@ -20,7 +20,7 @@ pub(crate) fn head_out(count: usize, cores: u32, rule: u32, fence: u64, withdraw
 impl Run {
     // Whether the run is outside its limits (number 14).
     pub fn out(self) -> bool
-        ensures { result ≡ runOut self }
+        ensures { result ≡ run_out self }
     {
         let rule = self.rule;
         let cores = self.cores;

@@ -1,10 +1,10 @@
 // One pass over the tasks of a run in the present tick: those outside their limits, late, claiming (with which width), and those whose job is released.
 ghost use Rattle.std.specs.Prelude.{◌≡◌, ◌≤◌};
 ghost use Rattle.run.specs.Claims.{ClaimsOf};
-ghost use Rattle.model.specs.Sizes.{mostCores, mostTasks};
+ghost use Rattle.model.specs.Sizes.{most_cores, most_tasks};
 
 use crate::{Run, bits};
-use model::{MOST_TASKS, sets};
+use model::MOST_TASKS;
 
 // What the rule reads of the tasks in a tick: the set of those that are outside their limits, the set of those that are Working at their deadline, the set of
 // those that claim, the set of those that are Working, the set of those whose job is released in this tick, the set of those whose job is an even one,
@@ -25,7 +25,7 @@ impl Run {
     // What the tasks below the count claim in the present tick. Bit p of `empties` is set if the job of position p + 1 is empty; that of a withdrawn position
     // is too.
     pub(crate) fn claims(self, empties: u32) -> Claims
-        requires { (self.count ≤ mostTasks) × (self.cores ≤ mostCores) }
+        requires { (self.count ≤ most_tasks) × (self.cores ≤ most_cores) }
         ensures { ClaimsOf self empties result }
     {
         let rule = self.rule;
@@ -46,7 +46,7 @@ impl Run {
             let place = i as u32;
             broken = bits::with(broken, place, task.out(rule, wide));
             late = bits::with(late, place, task.late());
-            let seen = phase.emptied(rule, sets::has(emptied, place));
+            let seen = phase.emptied(rule, bits::has(emptied, place));
             claiming = bits::with(claiming, place, seen.claims());
             working = bits::with(working, place, seen.works());
             released = bits::with(released, place, phase.released());

@@ -1,8 +1,8 @@
 // The run in the cab: rule, core count, fence, the withdrawn set and the tasks with their phases; start, row, sets, working, advance, and withdrawals
 // of one position or of several together.
 ghost use Rattle.std.specs.Prelude.{◌≡◌};
-ghost use Rattle.table.specs.declared.Answer.TheVariants.{Refused};
-ghost use Rattle.run.specs.Row.{RowOf, noBytes};
+ghost use Rattle.run.specs.declared.Answer.TheVariants.{Refused};
+ghost use Rattle.run.specs.Row.{RowOf, no_bytes};
 ghost use Rattle.run.specs.Sets.{SetsOf};
 ghost use Rattle.run.specs.Advance.{AdvanceOf};
 ghost use Rattle.run.specs.Start.{StartOf};
@@ -20,9 +20,8 @@ mod tick; // tick.rt: the present tick, which row, sets, working and advance use
 mod withdrawals; // withdrawals.rt: whether a run is firm, and positions withdrawn
 
 use judge::Verdict;
-use model::{MOST_TASKS, ROW, numbers};
+use model::{MOST_TASKS, ROW};
 use phase::Task;
-use table::Answer;
 
 // A run: the rule's number, the core count, the set of fenced cores, the set of withdrawn positions (bit 0 for position 1), and the tasks in
 // priority order, of which the first count are used.
@@ -36,9 +35,23 @@ pub struct Run {
     pub tasks: [Task; MOST_TASKS],
 }
 
-// The result of a start, an advance or a withdrawal: the answer, and the run as it starts, or the next run.
+// The answer to a call: taken, or refused with number and position.
 #[derive(Drop)]
-pub struct RunAnswer {
+pub enum Answer {
+    Taken,
+    Refused(u32, u32),
+}
+
+// The result of start: the answer, and the run as it starts.
+#[derive(Drop)]
+pub struct Started {
+    pub answer: Answer,
+    pub run: Run,
+}
+
+// The result of an advance or a withdrawal: the answer, and the next run.
+#[derive(Drop)]
+pub struct Advanced {
     pub answer: Answer,
     pub run: Run,
 }
@@ -50,7 +63,7 @@ pub struct Sets {
     pub sets: [u64; MOST_TASKS],
 }
 
-// The result of asking which positions work: the answer, and the set of the positions that do, bit 0 for position 1.
+// The result of asking who works: the answer, and the set of the positions that do, bit 0 for position 1.
 #[derive(Drop)]
 pub struct WorkingPositions {
     pub answer: Answer,
@@ -65,21 +78,21 @@ pub struct Row {
 }
 
 // The run of a table's words as it starts; or the first of 1 to 9 and 19 that applies, or 13 where the verdict is Miss, and the run of all zeros.
-pub fn start(words: &[u32]) -> RunAnswer
+pub fn start(words: &[u32]) -> Started
     ensures { StartOf words.now result }
 {
     let verdict = judge::judge(words);
     match verdict {
         Verdict::Firm(_, _) => starts::begun(words),
         Verdict::Full(_, _) => starts::begun(words),
-        Verdict::Miss(_, _) => starts::refused(numbers::TABLE_MISSES, 0),
+        Verdict::Miss(_, _) => starts::refused(13, 0),
         Verdict::Refused(number, position) => starts::refused(number, position),
     }
 }
 
 // A row that is turned down: all zeros.
 fn row_refused(number: u32, position: u32) -> Row
-    ensures { result ≡ record { answer = Refused number position; bytes = noBytes } }
+    ensures { result ≡ record { answer = Refused number position; bytes = no_bytes } }
 {
     let bytes = [0u8; ROW];
     Row {
@@ -136,10 +149,10 @@ impl Run {
     }
 
     // An advance or a withdrawal that is turned down: the run as given.
-    fn refused(self, number: u32, position: u32) -> RunAnswer
+    fn refused(self, number: u32, position: u32) -> Advanced
         ensures { result ≡ record { answer = Refused number position; run = self } }
     {
-        RunAnswer {
+        Advanced {
             answer: Answer::Refused(number, position),
             run: self,
         }
@@ -147,7 +160,7 @@ impl Run {
 
     // The run one tick on. Bit p of `reports` is set if the job of position p + 1 ends after this tick, and bit p of `empties` if it is
     // released in this tick and empty. Refused: 14, 15, 20 or 16, and the run as given.
-    pub fn advance(self, reports: u32, empties: u32) -> RunAnswer
+    pub fn advance(self, reports: u32, empties: u32) -> Advanced
         ensures { AdvanceOf self reports empties result }
     {
         let tick = self.tick(empties);
@@ -159,48 +172,48 @@ impl Run {
         if ending == reports {
             return self.moved(tick.given, tick.lent, reports, empties);
         }
-        self.refused(numbers::BAD_REPORT, 0)
+        self.refused(16, 0)
     }
 
     // The run with a position withdrawn: a job of it released before the present tick goes on, one released in this tick and all later ones
     // are empty. Refused: 14, 21 or 22, and the run as given. 15 is not tested.
-    pub fn withdraw(self, position: u32) -> RunAnswer
+    pub fn withdraw(self, position: u32) -> Advanced
         ensures { WithdrawOf self position result }
     {
         if self.out() {
-            return self.refused(numbers::NOT_A_RUN, 0);
+            return self.refused(14, 0);
         }
         if self.is_firm() {
             if (position == 0) | ((self.count as u32) < position) {
-                return self.refused(numbers::NO_POSITION, 0);
+                return self.refused(22, 0);
             }
             let next = self.with_withdrawn(1u32 << (position - 1));
-            return RunAnswer {
+            return Advanced {
                 answer: Answer::Taken,
                 run: next,
             };
         }
-        self.refused(numbers::NOT_FIRM, 0)
+        self.refused(21, 0)
     }
 
     // The run with all positions of a set withdrawn together, bit 0 for position 1. Refused: 14, 21, for the empty set too, or 22 where a position is past
     // the count, and the run as given. 15 is not tested.
-    pub fn withdraw_all(self, set: u32) -> RunAnswer
+    pub fn withdraw_all(self, set: u32) -> Advanced
         ensures { WithdrawAllOf self set result }
     {
         if self.out() {
-            return self.refused(numbers::NOT_A_RUN, 0);
+            return self.refused(14, 0);
         }
         if self.is_firm() {
             if bits::past(set, self.count) {
-                return self.refused(numbers::NO_POSITION, 0);
+                return self.refused(22, 0);
             }
             let next = self.with_withdrawn(set);
-            return RunAnswer {
+            return Advanced {
                 answer: Answer::Taken,
                 run: next,
             };
         }
-        self.refused(numbers::NOT_FIRM, 0)
+        self.refused(21, 0)
     }
 }

@@ -1,20 +1,18 @@
 // One tick of a run: each task goes to its next phase.
 ghost use Rattle.std.specs.Prelude.{◌≡◌, false, ℕ};
 ghost use Rattle.model.specs.Search.{bit};
-ghost use Rattle.table.specs.declared.Answer.TheVariants.{Taken};
-ghost use Rattle.run.specs.Run.{hasCores, hasLent, moved};
-ghost use Rattle.run.specs.Numbers.{runOut};
+ghost use Rattle.run.specs.declared.Answer.TheVariants.{Taken};
+ghost use Rattle.run.specs.Run.{has_cores, has_lent, moved};
+ghost use Rattle.run.specs.Numbers.{run_out};
 
-use crate::{Run, RunAnswer};
-use model::sets;
-use table::Answer;
+use crate::{Advanced, Answer, Run, bits};
 
 impl Run {
     // An advance that is taken: the run one tick on; `given` is the set of places that are given cores in this tick, `lent` that of those that borrow some.
-    pub(crate) fn moved(self, given: u32, lent: u32, reports: u32, empties: u32) -> RunAnswer
-        requires fact_1 { runOut self ≡ false }
-        requires fact_2 { ((p : ℕ) → bit given p ≡ hasCores self empties p) }
-        requires fact_3 { ((p : ℕ) → bit lent p ≡ hasLent self empties p) }
+    pub(crate) fn moved(self, given: u32, lent: u32, reports: u32, empties: u32) -> Advanced
+        requires fact_1 { run_out self ≡ false }
+        requires fact_2 { ((p : ℕ) → bit given p ≡ has_cores self empties p) }
+        requires fact_3 { ((p : ℕ) → bit lent p ≡ has_lent self empties p) }
         ensures { result ≡ record { answer = Taken; run = moved (bit reports) empties self } }
     {
         let mut run = self;
@@ -25,18 +23,18 @@ impl Run {
         while i < count {
             let task = run.tasks[i];
             let place = i as u32;
-            let empty = sets::has(emptied, place);
+            let empty = bits::has(emptied, place);
             let next = task.next(
                 rule,
                 empty,
-                sets::has(given, place),
-                sets::has(lent, place),
-                sets::has(reports, place),
+                bits::has(given, place),
+                bits::has(lent, place),
+                bits::has(reports, place),
             );
             run.tasks[i] = next;
             i += 1;
         }
-        RunAnswer {
+        Advanced {
             answer: Answer::Taken,
             run: run,
         }

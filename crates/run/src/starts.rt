@@ -1,20 +1,19 @@
 // The run of a table as it starts.
 ghost use Rattle.std.specs.Prelude.{◌≡◌, ◌≤◌};
-ghost use Rattle.table.specs.Load.{tableWith};
+ghost use Rattle.table.specs.Load.{table_with};
 ghost use Rattle.table.specs.Words.{rule, table_of};
 ghost use Rattle.table.specs.Numbers.{NoneApplies};
-ghost use Rattle.table.specs.declared.Answer.TheVariants.{Taken, Refused};
+ghost use Rattle.run.specs.declared.Answer.TheVariants.{Taken, Refused};
 ghost use Rattle.table.specs.Task as table;
-ghost use Rattle.run.specs.Start.{startedRun, emptyRun};
-ghost use Rattle.model.specs.Sizes.{mostTasks};
+ghost use Rattle.run.specs.Start.{started_run, empty_run};
+ghost use Rattle.model.specs.Sizes.{most_tasks};
 
-use crate::{Run, RunAnswer};
+use crate::{Answer, Run, Started};
 use model::MOST_TASKS;
-use table::Answer;
 
 // The run of all zeros with every phase Resting(0).
 fn empty() -> Run
-    ensures { result ≡ emptyRun }
+    ensures { result ≡ empty_run }
 {
     let place = phase::starts::unused();
     let tasks = [place; MOST_TASKS];
@@ -30,8 +29,8 @@ fn empty() -> Run
 
 // The run of a table's first `count` tasks as it starts.
 fn started(rule: u32, cores: u32, fence: u64, tasks: [table::Task; MOST_TASKS], count: usize) -> Run
-    requires { count ≤ mostTasks }
-    ensures { result ≡ startedRun rule (tableWith cores fence rule (table.tasksOf tasks count)) }
+    requires { count ≤ most_tasks }
+    ensures { result ≡ started_run rule (table_with cores fence rule (table.tasks_of tasks count)) }
 {
     let place = phase::starts::unused();
     let mut places = [place; MOST_TASKS];
@@ -53,25 +52,25 @@ fn started(rule: u32, cores: u32, fence: u64, tasks: [table::Task; MOST_TASKS], 
 }
 
 // A start that is turned down: the run of all zeros.
-pub fn refused(number: u32, position: u32) -> RunAnswer
-    ensures { result ≡ record { answer = Refused number position; run = emptyRun } }
+pub fn refused(number: u32, position: u32) -> Started
+    ensures { result ≡ record { answer = Refused number position; run = empty_run } }
 {
     let run = empty();
-    RunAnswer {
+    Started {
         answer: Answer::Refused(number, position),
         run: run,
     }
 }
 
 // The run of the words of a table that passes 1 to 9 and 19, as it starts.
-pub fn begun(words: &[u32]) -> RunAnswer
+pub fn begun(words: &[u32]) -> Started
     requires { NoneApplies words.now }
-    ensures { result ≡ record { answer = Taken; run = startedRun (rule words.now) (table_of words.now) } }
+    ensures { result ≡ record { answer = Taken; run = started_run (rule words.now) (table_of words.now) } }
 {
     let loaded = table::load(words);
     let tasks = loaded.tasks;
     let run = started(loaded.rule, loaded.cores, loaded.fence, tasks, loaded.count);
-    RunAnswer {
+    Started {
         answer: Answer::Taken,
         run: run,
     }

@@ -1,12 +1,11 @@
 // The present tick of a run: the numbers of a row, and the cores of each position. Row, sets, working and advance all use it.
 ghost use Rattle.std.specs.Prelude.{◌≡◌};
-ghost use Rattle.table.specs.declared.Answer.TheVariants.{Refused};
+ghost use Rattle.run.specs.declared.Answer.TheVariants.{Refused};
 ghost use Rattle.run.specs.Sets.{no_sets};
 ghost use Rattle.run.specs.Tick.{TickOf};
 
-use crate::{Run, allocation, bounds};
-use model::{MOST_TASKS, numbers};
-use table::Answer;
+use crate::{Answer, Run, allocation, bounds};
+use model::MOST_TASKS;
 
 // The answer to a row asked; where it is taken, the sets of the positions that are given cores, that borrow some, and whose job has either and is
 // Working, bit 0 for position 1; and of each position the set of cores that the row shows.
@@ -41,19 +40,28 @@ impl Run {
     {
         let count = self.count;
         if bounds::head_out(count, self.cores, self.rule, self.fence, self.withdrawn) {
-            return tick_refused(numbers::NOT_A_RUN, 0);
+            return tick_refused(14, 0);
         }
         let claims = self.claims(empties);
         if 0 < claims.broken {
-            return tick_refused(numbers::NOT_A_RUN, 0);
+            return tick_refused(14, 0);
         }
         if 0 < claims.late {
-            return tick_refused(numbers::LATE, u32::trailing_zeros(claims.late) + 1);
+            return tick_refused(15, u32::trailing_zeros(claims.late) + 1);
         }
         let begun = empties & claims.released;
         if begun == empties {
+            let widths = claims.widths;
             let free = cores::unfenced_cores(self.cores, self.fence);
-            let shares = allocation::allocate(self.rule, free, claims, count);
+            let shares = allocation::allocate(
+                self.rule,
+                free,
+                claims.claiming,
+                claims.working,
+                claims.even,
+                &widths,
+                count,
+            );
             let sets = shares.sets;
             return Tick {
                 answer: Answer::Taken,
@@ -63,6 +71,6 @@ impl Run {
                 sets: sets,
             };
         }
-        tick_refused(numbers::BAD_EMPTY, 0)
+        tick_refused(20, 0)
     }
 }

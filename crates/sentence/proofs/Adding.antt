@@ -1,56 +1,57 @@
--- The counts of 32 places, a number of ticks more for each place of a set: place after place as the set is walked, and the value at a place.
+-- The counts of 32 places, one more for each place of a set: place after place as the set is walked, and the value at a place.
 use mathlib.Core.Path.{◌≡◌, refl, sym, ap, ◌∙◌}
-use mathlib.Core.Bool.{Bool, cond}
+use mathlib.Core.Bool.{Bool, true, false, not, ◌&&◌, cond, and-true}
 use mathlib.Core.List.{List, ◌++◌}
 use Prim.Native.Nat.{ℕ, suc, ◌+◌, ◌-◌, ◌≤◌, ◌<◌}
 use native.Mathlib.Omega.{arith}
 use lib.ListN.{length, get_or, set, take, replicate, length-append, length-replicate}
 use lib.Seq.{set_at, take-suc, append_snoc, length-take-le}
 use Rattle.model.specs.Search.{bit}
-use Rattle.simulation.specs.Places.{mapPlaces}
+use Rattle.model.proofs.Digits.{bit-none}
+use Rattle.simulation.specs.Places.{map_places}
 use Rattle.simulation.proofs.Places.{each_none, each-still, each_more, each_same, each-length, each_at}
-use Rattle.model.proofs.SetWalk.{taken, lowest, others, Off, none-taken, all-taken}
+use Rattle.simulation.proofs.GrantStep.{taken, first, digit, Off}
 use Rattle.sentence.specs.Counting.{added, above}
 
--- a number of ticks more for each place that passes the test
-abbrev pub counted : (ℕ → Bool) → ℕ → List ℕ → List ℕ
-counted f ticks ran = mapPlaces (λ q n. cond (f q) (n + ticks) n) ran
+-- one more for each place that passes the test
+abbrev pub counted : (ℕ → Bool) → List ℕ → List ℕ
+counted f ran = map_places (λ q n. cond (f q) (n + 1) n) ran
 
 -- nothing is taken off the set yet
-pub counted_none : (granted ticks : ℕ) (ran : List ℕ) → counted (taken granted granted) ticks ran ≡ ran
-counted_none granted ticks ran =
-    each_none (λ q n. cond (taken granted granted q) (n + ticks) n) ran (λ q x. ap (λ (b : Bool). cond b (x + ticks) x) (none-taken granted q))
+pub counted_none : (granted : ℕ) (ran : List ℕ) → counted (taken granted granted) ran ≡ ran
+counted_none granted ran = each_none (λ q n. cond (taken granted granted q) (n + 1) n) ran (λ q x. ap (λ (b : Bool). cond b (x + 1) x) (none (bit granted q)))
+  where
+    none : (b : Bool) → b && not b ≡ false
+    none true = refl
+    none false = refl
 
-module _ (granted rest ticks : ℕ) (ran now : List ℕ) (w : Off granted rest) (e : now ≡ counted (taken granted rest) ticks ran) where
+module _ (granted rest : ℕ) (ran now : List ℕ) (w : Off granted rest) (e : now ≡ counted (taken granted rest) ran) where
   -- the lowest place still has its count
-  pub count-still : get_or now (lowest rest) 0 ≡ get_or ran (lowest rest) 0
+  pub count-still : get_or now (first rest) 0 ≡ get_or ran (first rest) 0
   count-still =
-      ap (λ (l : List ℕ). get_or l (lowest rest) 0) e
-      ∙ each-still (λ q n. cond (taken granted rest q) (n + ticks) n) ran (lowest rest) (λ x. ap (λ (b : Bool). cond b (x + ticks) x) w.off)
+      ap (λ (l : List ℕ). get_or l (first rest) 0) e
+      ∙ each-still (λ q n. cond (taken granted rest q) (n + 1) n) ran (first rest) (λ x. ap (λ (b : Bool). cond b (x + 1) x) w.off)
 
-  -- .. and then these ticks more
-  pub counted-more : set now (lowest rest) (get_or now (lowest rest) 0 + ticks) ≡ counted (taken granted (others rest)) ticks ran
+  -- .. and then one more
+  pub counted-more : set now (first rest) (get_or now (first rest) 0 + 1) ≡ counted (taken granted (rest - digit rest)) ran
   counted-more =
-      ap (λ (l : List ℕ). set l (lowest rest) (get_or now (lowest rest) 0 + ticks)) e
-      ∙ each_more (λ q n. cond (taken granted rest q) (n + ticks) n) (λ q n. cond (taken granted (others rest) q) (n + ticks) n) ran (lowest rest)
-      (get_or now (lowest rest) 0 + ticks)
-      (ap (λ (b : Bool). cond b (get_or ran (lowest rest) 0 + ticks) (get_or ran (lowest rest) 0)) w.on ∙ ap (λ (x : ℕ). x + ticks) (sym count-still))
-      (λ q x ne. ap (λ (b : Bool). cond b (x + ticks) x) (w.same q ne))
+      ap (λ (l : List ℕ). set l (first rest) (get_or now (first rest) 0 + 1)) e
+      ∙ each_more (λ q n. cond (taken granted rest q) (n + 1) n) (λ q n. cond (taken granted (rest - digit rest) q) (n + 1) n) ran (first rest) (get_or now (first rest) 0 + 1)
+      (ap (λ (b : Bool). cond b (get_or ran (first rest) 0 + 1) (get_or ran (first rest) 0)) w.on ∙ ap (λ (x : ℕ). x + 1) (sym count-still))
+      (λ q x ne. ap (λ (b : Bool). cond b (x + 1) x) (w.same q ne))
 
 -- nothing is left of the set
-pub counted-all : (granted rest ticks : ℕ) (ran : List ℕ) → rest ≡ 0 → counted (taken granted rest) ticks ran ≡ added granted ticks ran
-counted-all granted rest ticks ran z =
-    each_same (λ q n. cond (taken granted rest q) (n + ticks) n) (λ q n. cond (bit granted q) (n + ticks) n) ran
-    (λ q. ap (λ (b : Bool). cond b (get_or ran q 0 + ticks) (get_or ran q 0)) (all-taken granted rest z q))
+pub counted-all : (granted rest : ℕ) (ran : List ℕ) → rest ≡ 0 → counted (taken granted rest) ran ≡ added granted ran
+counted-all granted rest ran z =
+    each_same (λ q n. cond (taken granted rest q) (n + 1) n) (λ q n. cond (bit granted q) (n + 1) n) ran
+    (λ q. ap (λ (b : Bool). cond b (get_or ran q 0 + 1) (get_or ran q 0)) (ap (λ (b : Bool). bit granted q && not b) (ap (λ (x : ℕ). bit x q) z ∙ bit-none q) ∙ and-true (bit granted q)))
 
 -- the value at a place
-pub added-at :
-    (granted ticks : ℕ) (ran : List ℕ) (q : ℕ) → q < length ran
-    → get_or (added granted ticks ran) q 0 ≡ cond (bit granted q) (get_or ran q 0 + ticks) (get_or ran q 0)
-added-at granted ticks ran q l = each_at (λ q n. cond (bit granted q) (n + ticks) n) ran q l
+pub added-at : (granted : ℕ) (ran : List ℕ) (q : ℕ) → q < length ran → get_or (added granted ran) q 0 ≡ cond (bit granted q) (get_or ran q 0 + 1) (get_or ran q 0)
+added-at granted ran q l = each_at (λ q n. cond (bit granted q) (n + 1) n) ran q l
 
-pub added-length : (granted ticks : ℕ) (ran : List ℕ) → length (added granted ticks ran) ≡ length ran
-added-length granted ticks ran = each-length (λ q n. cond (bit granted q) (n + ticks) n) ran
+pub added-length : (granted : ℕ) (ran : List ℕ) → length (added granted ran) ≡ length ran
+added-length granted ran = each-length (λ q n. cond (bit granted q) (n + 1) n) ran
 
 -- THE COUNTS OF THE PLACES ABOVE
 

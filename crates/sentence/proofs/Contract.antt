@@ -9,31 +9,29 @@ use lib.Seq.{take_at, get_or-append-add, get_or-drop}
 use Rattle.model.specs.Search.{any}
 use Rattle.model.specs.Task.{Table, AllValid, task}
 use Rattle.model.specs.Horizon.{horizon}
-use Rattle.model.specs.Verdict.{Miss, missedIn, firstMiss, FirstMiss}
+use Rattle.model.specs.Verdict.{Miss, missed_in, first_miss, FirstMiss}
 use Rattle.model.proofs.Bools.{not-false-true}
 use Rattle.table.specs.declared.Answer.{Answer}
 use Rattle.table.specs.declared.Answer.TheVariants as answer
 use Rattle.table.specs.declared.Loaded.{Loaded}
-use Rattle.table.specs.Limits.{mostTime}
+use Rattle.table.specs.Limits.{most_time}
 use Rattle.table.specs.Words.{table_of}
 use Rattle.table.specs.Numbers as table
-use Rattle.table.specs.AnswerMeaning.{answerMeaning}
-use Rattle.table.specs.Load.{LoadOf}
+use Rattle.table.specs.Load.{LoadOf, load_meaning}
 use Rattle.table.proofs.Exact.{refusal-exact, passed-exact}
 use Rattle.table.proofs.Passed.{passed-count, passed-inside, passed-valid, passed-horizon}
-use Rattle.table.specs.Fit.{loadedTable}
+use Rattle.table.specs.Fit.{loaded_table}
 use Rattle.table.proofs.Fit.{same-table}
-use Rattle.judge.specs.JudgeAnswer.{judged, verdictMeaning}
-use Rattle.judge.specs.Judged.{verdictOf}
+use Rattle.judge.specs.JudgeAnswer.{judged, verdict_meaning}
+use Rattle.judge.specs.Judged.{verdict_of}
 use Rattle.judge.proofs.Contract.{judged-exact}
 use Rattle.sentence.specs.Counting.{LengthsWithin}
 use Rattle.sentence.specs.Facts.{Facts, limit, Expressible}
-use Rattle.sentence.specs.Sentence.{sentenceText}
+use Rattle.sentence.specs.Sentence.{sentence_text}
 use Rattle.sentence.specs.Parsed.{facts, parsed}
-use Rattle.sentence.specs.Waiting.{missPlace, factsIn, facts_of}
+use Rattle.sentence.specs.Waiting.{miss_place, facts_in, facts_of}
 use Rattle.sentence.specs.Numbers.{NoneApplies, words, seventeen, eighteen}
-use Rattle.sentence.specs.SentenceAnswer.{byTable, sentenceAnswerBy, sentenceAnswerOf, SentenceOutcome, ofLength, refusedBy, sentenceMeaning, front}
-use Rattle.sentence.specs.SentenceAnswer.{leftIn, SentenceOf}
+use Rattle.sentence.specs.SentenceAnswer.{by_table, sentence_answer_by, sentence_answer_of, SentenceOutcome, of_length, refused_by, sentence_meaning, front, left_in, SentenceOf}
 use Rattle.sentence.specs.declared.SentenceAnswer.{SentenceAnswer}
 use Rattle.sentence.specs.declared.SentenceAnswer.TheVariants.{Length, Refused}
 use Rattle.sentence.proofs.Exact.{sentence-back}
@@ -43,11 +41,11 @@ use Rattle.sentence.proofs.LengthsWithin.{sentence-longest}
 use Rattle.sentence.proofs.Answers.{never, first_found, first-within, refused-exact, length-exact}
 
 -- the meaning of an answer determines it
-meaning-length : (v : SentenceAnswer) (n : ℕ) → sentenceMeaning v ≡ ofLength n → v ≡ Length n
+meaning-length : (v : SentenceAnswer) (n : ℕ) → sentence_meaning v ≡ of_length n → v ≡ Length n
 meaning-length (Length m) n e = cc
 meaning-length (Refused m q) n e = absurd (let z : ◌≡◌ {A = ℕ} 0 1 = cc in omega arith)
 
-meaning-refused : (v : SentenceAnswer) (n p : ℕ) → sentenceMeaning v ≡ refusedBy n p → v ≡ Refused n p
+meaning-refused : (v : SentenceAnswer) (n p : ℕ) → sentence_meaning v ≡ refused_by n p → v ≡ Refused n p
 meaning-refused (Length m) n p e = absurd (let z : ◌≡◌ {A = ℕ} 0 1 = cc in omega arith)
 meaning-refused (Refused m q) n p e = cc
 
@@ -64,34 +62,34 @@ front-size w old l = omega (arith, length-append w (drop (length w) old), length
 module _ (ws : List ℕ) where
   -- a table that misses has the verdict Miss, with the tick and the position of the facts
   facts-verdict :
-      table.NoneApplies ws → any (suc (horizon (table_of ws))) (missedIn (table_of ws)) ≡ true
-      → verdictMeaning (verdictOf ws) ≡ judged (Miss (facts_of ws).tick (facts_of ws).position)
-  unfolding factsIn
+      table.NoneApplies ws → any (suc (horizon (table_of ws))) (missed_in (table_of ws)) ≡ true
+      → verdict_meaning (verdict_of ws) ≡ judged (Miss (facts_of ws).tick (facts_of ws).position)
+  unfolding facts_in
   facts-verdict none e =
-      ((judged-exact ws).miss (firstMiss (table_of ws)) (suc (missPlace (table_of ws)))).1 (none, first_found (table_of ws) (passed-valid ws none) e)
+      ((judged-exact ws).miss (first_miss (table_of ws)) (suc (miss_place (table_of ws)))).1 (none, first_found (table_of ws) (passed-valid ws none) e)
 
   -- and its facts are expressible
-  facts-expressible : table.NoneApplies ws → any (suc (horizon (table_of ws))) (missedIn (table_of ws)) ≡ true → Expressible (facts_of ws)
-  unfolding factsIn
+  facts-expressible : table.NoneApplies ws → any (suc (horizon (table_of ws))) (missed_in (table_of ws)) ≡ true → Expressible (facts_of ws)
+  unfolding facts_in
   facts-expressible none e =
       let s = table_of ws in
       let ok = passed-valid ws none in
       let f = first_found s ok e in
-      let l = (missed_here s ok (firstMiss s) (missPlace s) f).0 in
-      miss-expressible s ok (firstMiss s) (missPlace s) f (passed-count ws none).1
-      (omega (arith, first-within s ok e, passed-horizon ws none)) (omega (arith, (passed-inside ws none (missPlace s) l).length_from.1))
+      let l = (missed_here s ok (first_miss s) (miss_place s) f).0 in
+      miss-expressible s ok (first_miss s) (miss_place s) f (passed-count ws none).1
+      (omega (arith, first-within s ok e, passed-horizon ws none)) (omega (arith, (passed-inside ws none (miss_place s) l).length_from.1))
 
 module _ (ws old new : List ℕ) where
   abbrev text : List ℕ
-  text = sentenceText (facts_of ws)
+  text = sentence_text (facts_of ws)
 
   -- where no number applies the table passes and misses, and the sentence has space
   passed : NoneApplies ws (length old) → table.NoneApplies ws
   passed none n p x = none n p (words n p x)
 
-  misses : NoneApplies ws (length old) → any (suc (horizon (table_of ws))) (missedIn (table_of ws)) ≡ true
+  misses : NoneApplies ws (length old) → any (suc (horizon (table_of ws))) (missed_in (table_of ws)) ≡ true
   misses none =
-      not-false-true (any (suc (horizon (table_of ws))) (missedIn (table_of ws)))
+      not-false-true (any (suc (horizon (table_of ws))) (missed_in (table_of ws)))
       (λ e. none 17 0 (seventeen (never (table_of ws) (passed-valid ws (passed none)) e)))
 
   room : NoneApplies ws (length old) → length text ≤ length old
@@ -100,15 +98,11 @@ module _ (ws old new : List ℕ) where
       not-less : {m n : ℕ} → ¬ (m < n) → n ≤ m
       not-less h = omega arith
 
-  by_value : (v : SentenceAnswer) → v ≡ sentenceAnswerOf ws (length old) → new ≡ leftIn (sentenceMeaning v) (facts_of ws) old → SentenceOf ws old new v
+  by_value : (v : SentenceAnswer) → v ≡ sentence_answer_of ws (length old) → new ≡ left_in (sentence_meaning v) (facts_of ws) old → SentenceOf ws old new v
   by_value v e f = record {
     value = e;
-    refused =
-        λ n p. (
-          λ x. (refused-exact ws (length old) n p).0 (sym e ∙ meaning-refused v n p x),
-          λ x. ap sentenceMeaning (e ∙ (refused-exact ws (length old) n p).1 x),
-        );
-    written = λ n. (none n, λ x. ap sentenceMeaning (e ∙ (length-exact ws (length old) n).1 x));
+    refused = λ n p. (λ x. (refused-exact ws (length old) n p).0 (sym e ∙ meaning-refused v n p x), λ x. ap sentence_meaning (e ∙ (refused-exact ws (length old) n p).1 x));
+    written = λ n. (none n, λ x. ap sentence_meaning (e ∙ (length-exact ws (length old) n).1 x));
     buffer = f;
     sentence = sentence;
     back = λ n x. ap parsed (sentence n x) ∙ sentence-back (facts_of ws) (facts-expressible ws (passed (none n x).0) (misses (none n x).0));
@@ -119,52 +113,48 @@ module _ (ws old new : List ℕ) where
     found = found;
   }
     where
-      none : (n : ℕ) → sentenceMeaning v ≡ ofLength n → NoneApplies ws (length old) × (n ≡ length text)
+      none : (n : ℕ) → sentence_meaning v ≡ of_length n → NoneApplies ws (length old) × (n ≡ length text)
       none n x = (length-exact ws (length old) n).0 (sym e ∙ meaning-length v n x)
 
-      text-there : (n : ℕ) → sentenceMeaning v ≡ ofLength n → new ≡ front text old
-      text-there n x = f ∙ ap (λ (z : SentenceOutcome). leftIn z (facts_of ws) old) x
+      text-there : (n : ℕ) → sentence_meaning v ≡ of_length n → new ≡ front text old
+      text-there n x = f ∙ ap (λ (z : SentenceOutcome). left_in z (facts_of ws) old) x
 
-      sentence : (n : ℕ) → sentenceMeaning v ≡ ofLength n → take n new ≡ text
+      sentence : (n : ℕ) → sentence_meaning v ≡ of_length n → take n new ≡ text
       sentence n x = ap (take n) (text-there n x) ∙ take_at text (drop (length text) old) n (sym (none n x).1)
 
-      found : (n p : ℕ) → sentenceMeaning v ≡ refusedBy n p → new ≡ old
-      found n p x = f ∙ ap (λ (z : SentenceOutcome). leftIn z (facts_of ws) old) x
+      found : (n p : ℕ) → sentence_meaning v ≡ refused_by n p → new ≡ old
+      found n p x = f ∙ ap (λ (z : SentenceOutcome). left_in z (facts_of ws) old) x
 
       go : (w : SentenceAnswer) → v ≡ w → length new ≡ length old
-      go (Length n) x = ap length (text-there n (ap sentenceMeaning x)) ∙ front-size text old (room (none n (ap sentenceMeaning x)).0)
-      go (Refused n p) x = ap length (found n p (ap sentenceMeaning x))
+      go (Length n) x = ap length (text-there n (ap sentence_meaning x)) ∙ front-size text old (room (none n (ap sentence_meaning x)).0)
+      go (Refused n p) x = ap length (found n p (ap sentence_meaning x))
 
 module _ (ws : List ℕ) (r : Loaded) (l : LoadOf ws r) where
   -- the lengths of a table that passed are within their limit
-  pub short-table : r.answer ≡ answer.Taken → LengthsWithin r
+  pub short-table : r.answer ≡ answer.Passed → LengthsWithin r
   short-table e p b =
-      subst (λ (s : Table). p < length s.tasks → (task s p).length ≤ mostTime) (sym (same-table ws r l e))
-      (λ i. (passed-inside ws (l.passed.0 (ap answerMeaning e)) p i).length_from.1)
-      (omega (arith, (l.holds (ap answerMeaning e)).count, ap (λ (s : Table). length s.tasks) (same-table ws r l e)))
+      subst (λ (s : Table). p < length s.tasks → (task s p).length ≤ most_time) (sym (same-table ws r l e))
+      (λ i. (passed-inside ws (l.passed.0 (ap load_meaning e)) p i).length_from.1)
+      (omega (arith, (l.holds (ap load_meaning e)).count, ap (λ (s : Table). length s.tasks) (same-table ws r l e)))
 
   module _ (old new : List ℕ) where
     -- what is answered of it is answered of the words
     pub passed-sentence :
-        (v : SentenceAnswer) → r.answer ≡ answer.Taken
-        → (v ≡ byTable (loadedTable r) (length old)) × (new ≡ leftIn (sentenceMeaning v) (factsIn (loadedTable r)) old) → SentenceOf ws old new v
+        (v : SentenceAnswer) → r.answer ≡ answer.Passed
+        → (v ≡ by_table (loaded_table r) (length old)) × (new ≡ left_in (sentence_meaning v) (facts_in (loaded_table r)) old) → SentenceOf ws old new v
     passed-sentence v e x =
-        by_value ws old new v (x.0 ∙ (ap (λ (s : Table). byTable s (length old)) same ∙ sym is))
-        (x.1 ∙ ap (λ (s : Table). leftIn (sentenceMeaning v) (factsIn s) old) same)
+        by_value ws old new v (x.0 ∙ (ap (λ (s : Table). by_table s (length old)) same ∙ sym is))
+        (x.1 ∙ ap (λ (s : Table). left_in (sentence_meaning v) (facts_in s) old) same)
       where
-        same : loadedTable r ≡ table_of ws
+        same : loaded_table r ≡ table_of ws
         same = same-table ws r l e
 
-        is : sentenceAnswerOf ws (length old) ≡ byTable (table_of ws) (length old)
-        is =
-            unfold sentenceAnswerOf in ap (λ (y : Answer). sentenceAnswerBy y (byTable (table_of ws) (length old)))
-            ((passed-exact ws).1 (l.passed.0 (ap answerMeaning e)))
+        is : sentence_answer_of ws (length old) ≡ by_table (table_of ws) (length old)
+        is = unfold sentence_answer_of in ap (λ (y : Answer). sentence_answer_by y (by_table (table_of ws) (length old))) ((passed-exact ws).1 (l.passed.0 (ap load_meaning e)))
 
     -- a refusal of the table is that of the sentence, and the buffer is as found
     pub refused-sentence : (n p : ℕ) → r.answer ≡ answer.Refused n p → new ≡ old → SentenceOf ws old new (Refused n p)
     refused-sentence n p e same = by_value ws old new (Refused n p) (sym is) same
       where
-        is : sentenceAnswerOf ws (length old) ≡ Refused n p
-        is =
-            unfold sentenceAnswerOf in ap (λ (y : Answer). sentenceAnswerBy y (byTable (table_of ws) (length old)))
-            ((refusal-exact ws n p).1 ((l.refused n p).0 (ap answerMeaning e)))
+        is : sentence_answer_of ws (length old) ≡ Refused n p
+        is = unfold sentence_answer_of in ap (λ (y : Answer). sentence_answer_by y (by_table (table_of ws) (length old))) ((refusal-exact ws n p).1 ((l.refused n p).0 (ap load_meaning e)))

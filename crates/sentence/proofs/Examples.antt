@@ -3,11 +3,11 @@ use mathlib.Core.List.{List, [], ◌∷◌, map}
 use mathlib.Core.Path.{◌≡◌, refl}
 use Prim.Native.Nat.{ℕ}
 use Prim.Native.String.{String}
-use Rattle.text.specs.Decimal.{value, decimal, lastDigits, digitCount, digitsWithin}
+use Rattle.text.specs.Decimal.{value, decimal, last_digits, digit_count, digits_within}
 use Rattle.text.specs.Output.{letters}
 use Rattle.sentence.specs.Facts.{Facts, Part, expressible, ascending}
-use Rattle.sentence.specs.Sentence.{parts, sentenceHead, sentenceText}
-use Rattle.sentence.specs.Parsed.{ParsedSentence, facts, none, parsed, candidate, numbersFrom, paired, same}
+use Rattle.sentence.specs.Sentence.{parts, sentence_head, sentence_text}
+use Rattle.sentence.specs.Parsed.{ParsedSentence, facts, none, parsed, candidate, numbers_from, paired, same}
 
 abbrev miss : ℕ → ℕ → ℕ → ℕ → List Part → Facts
 miss position tick had length others = record { position = position; tick = tick; had = had; length = length; others = others }
@@ -64,7 +64,7 @@ cases =
 
 -- the value by the definitions of a text; a case is named by its text
 pub read-cases : map (λ c. case c.text (parsed (letters c.text))) cases ≡ cases
-unfolding parsed candidate numbersFrom paired same sentenceText sentenceHead parts expressible ascending value decimal lastDigits digitCount digitsWithin
+unfolding parsed candidate numbers_from paired same sentence_text sentence_head parts expressible ascending value decimal last_digits digit_count digits_within
 read-cases = refl
 
 -- the sentence of facts, also of some that are not parsed back
@@ -72,14 +72,14 @@ pub record SentenceExample : Type 0 where
   pub of : Facts
   pub text : String
 
-abbrev pub sentenceExamples : List SentenceExample
-sentenceExamples =
+abbrev pub sentence_examples : List SentenceExample
+sentence_examples =
     record { of = miss 3 5 3 4 (ran 1 2 ∷ []); text = "task 3 misses at tick 5 with 3 of 4 ticks; task 1 ran 2." }
     ∷ record { of = miss 1 1 1 2 []; text = "task 1 misses at tick 1 with 1 of 2 ticks." }
     ∷ record { of = miss 0 0 0 0 (ran 9 0 ∷ ran 9 0 ∷ []); text = "task 0 misses at tick 0 with 0 of 0 ticks; task 9 ran 0; task 9 ran 0." }
     ∷ []
 
 -- the sentence, and the expected one
-pub examples-exact : map (λ s. sentenceText s.of) sentenceExamples ≡ map (λ s. letters s.text) sentenceExamples
-unfolding sentenceText sentenceHead parts decimal lastDigits digitCount digitsWithin
+pub examples-exact : map (λ s. sentence_text s.of) sentence_examples ≡ map (λ s. letters s.text) sentence_examples
+unfolding sentence_text sentence_head parts decimal last_digits digit_count digits_within
 examples-exact = refl

@@ -9,7 +9,7 @@ use lib.Seq.{drop-drop, drop-append_seam}
 use Rattle.model.proofs.Bools.{not-false-true}
 use Rattle.text.specs.Decimal.{decimal}
 use Rattle.sentence.specs.Facts.{limit}
-use Rattle.sentence.specs.Sentence.{wordField}
+use Rattle.sentence.specs.Sentence.{word_field}
 use Rattle.sentence.specs.Reading.{starts_with, Stops, NumberOf, FieldOf}
 use Rattle.sentence.specs.declared.reader.Field.{Field}
 use Rattle.sentence.proofs.Numbers.{number-only}
@@ -17,9 +17,7 @@ use Rattle.sentence.proofs.Reading.{begins-there, begins-append}
 use Rattle.sentence.proofs.Scanning.{missing}
 
 module _ (bs word : List ℕ) (before r : Field) where
-  no_field :
-      r ≡ missing → (before.found ≡ true → (n : ℕ) (rest : List ℕ) → n < limit → Stops rest → ¬ (drop before.next bs ≡ wordField word n rest))
-      → FieldOf bs word before r
+  no_field : r ≡ missing → (before.found ≡ true → (n : ℕ) (rest : List ℕ) → n < limit → Stops rest → ¬ (drop before.next bs ≡ word_field word n rest)) → FieldOf bs word before r
   no_field e h =
       subst (FieldOf bs word before) (sym e) (record { within = omega arith; there = λ q. absurd (false≢true q); none = λ q. h })
 
@@ -32,8 +30,7 @@ module _ (bs word : List ℕ) (before r : Field) where
   field-other e h = no_field e (λ f n rest l q d. false≢true (sym h ∙ ap (starts_with word) d ∙ begins-append word (decimal n ++ rest)))
 
   -- the word is there
-  pub field-word :
-      before.found ≡ true → starts_with word (drop before.next bs) ≡ true → NumberOf bs (before.next + length word) r → FieldOf bs word before r
+  pub field-word : before.found ≡ true → starts_with word (drop before.next bs) ≡ true → NumberOf bs (before.next + length word) r → FieldOf bs word before r
   field-word f h m =
       let d : drop (length word) (drop before.next bs) ≡ drop (before.next + length word) bs = drop-drop (length word) before.next bs in
       record {
@@ -46,14 +43,12 @@ module _ (bs word : List ℕ) (before r : Field) where
       }
 
   -- what is there is found
-  pub field_found :
-      FieldOf bs word before r → before.found ≡ true → (n : ℕ) (rest : List ℕ) → n < limit → Stops rest → drop before.next bs ≡ wordField word n rest →
+  pub field_found : FieldOf bs word before r → before.found ≡ true → (n : ℕ) (rest : List ℕ) → n < limit → Stops rest → drop before.next bs ≡ word_field word n rest →
       (r.found ≡ true) × (r.value ≡ n) × (drop r.next bs ≡ rest)
   field_found o f n rest l s e =
       let yes : r.found ≡ true = not-false-true r.found (λ q. o.none q f n rest l s e) in
       let t = o.there yes in
       let same : decimal r.value ++ drop r.next bs ≡ decimal n ++ rest =
-      sym (drop-append_seam word (decimal r.value ++ drop r.next bs)) ∙ ap (drop (length word)) (sym t.1 ∙ e)
-      ∙ drop-append_seam word (decimal n ++ rest) in
+      sym (drop-append_seam word (decimal r.value ++ drop r.next bs)) ∙ ap (drop (length word)) (sym t.1 ∙ e) ∙ drop-append_seam word (decimal n ++ rest) in
       let u = number-only r.value n (drop r.next bs) rest t.2 s same in
       (yes, u.0, u.1)

@@ -12,7 +12,7 @@ use borrow.Author.Tests.{leb-true, leb-false, not-true}
 use Rattle.model.specs.Search.{up_from}
 use Rattle.model.specs.Task.{Table, AllValid, task, release}
 use Rattle.model.specs.Jobs.{Book, Job}
-use Rattle.model.specs.Claims.{served, jobClaims, in_row}
+use Rattle.model.specs.Claims.{served, job_claims, in_row}
 use Rattle.model.specs.Advance.{work}
 use Rattle.model.specs.Lists.{full}
 use Rattle.model.specs.Verdict.{FirstMiss}
@@ -20,17 +20,17 @@ use Rattle.model.proofs.Bools.{and_left, and_right, not-true-false}
 use Rattle.model.proofs.Jobs.{after-release}
 use Rattle.model.proofs.Lists.{up-length, up_at, map_at}
 use Rattle.model.proofs.Runs.{full-next, full-tick, bounds-full}
-use Rattle.table.specs.Limits.{mostHorizon}
-use Rattle.text.specs.Decimal.{digitCount, digitsWithin}
+use Rattle.table.specs.Limits.{most_horizon}
+use Rattle.text.specs.Decimal.{digit_count, digits_within}
 use Rattle.text.proofs.Decimals.{count_most}
 use Rattle.sentence.specs.Facts.{limit, Expressible}
-use Rattle.sentence.specs.Limits.{FactsWithinLimits, longestSentence}
-use Rattle.sentence.specs.Sentence.{sentenceText}
-use Rattle.sentence.specs.Waiting.{tally, bookAt, releaseOf, hadBy, waits, ranWhileWaiting, factsAt}
+use Rattle.sentence.specs.Limits.{FactsWithinLimits, longest_sentence}
+use Rattle.sentence.specs.Sentence.{sentence_text}
+use Rattle.sentence.specs.Waiting.{tally, book_at, release_of, had_by, waits, ran_while_waiting, facts_at}
 use Rattle.sentence.proofs.Longest.{sentence-short, longest-now}
 use Rattle.sentence.proofs.Naming.{named-ascending, named-together}
 use Rattle.sentence.proofs.Tallies.{tally-most, tally-apart}
-use Rattle.sentence.proofs.Waiting.{missed_here, due-here, released-here, deadline-within, same-book, had-full, ranIn}
+use Rattle.sentence.proofs.Waiting.{missed_here, due-here, released-here, deadline-within, same-book, had-full, ran_in}
 
 -- a job has had at most as many ticks as it was served in
 had-served : (s : Table) (p k n : ℕ) → ((full s n).job p k).had ≤ tally n (λ u. served s (full s u) p k)
@@ -54,8 +54,8 @@ had-served s p k (suc n) =
     go true false l = omega arith
     go false e l = l
 
-horizon-digits : digitCount mostHorizon ≡ 10
-unfolding digitCount digitsWithin
+horizon-digits : digit_count most_horizon ≡ 10
+unfolding digit_count digits_within
 horizon-digits = refl
 
 module _ (s : Table) (ok : AllValid s) (t p : ℕ) (f : FirstMiss s t (suc p)) where
@@ -66,64 +66,62 @@ module _ (s : Table) (ok : AllValid s) (t p : ℕ) (f : FirstMiss s t (suc p)) w
   below = (missed_here s ok t p f).0
 
   -- fewer ticks than C
-  pub had-short : hadBy s t p < (task s p).length
+  pub had-short : had_by s t p < (task s p).length
   had-short = omega (arith, had-full s ok t p f, (bounds-full s ok t p job below).short (missed_here s ok t p f).1.2)
 
   -- its ticks and its waiting ticks are at most D
-  pub had-waiting : (q : ℕ) → hadBy s t p + ranWhileWaiting s t p q ≤ (task s p).deadline
-  unfolding ranWhileWaiting served
+  pub had-waiting : (q : ℕ) → had_by s t p + ran_while_waiting s t p q ≤ (task s p).deadline
+  unfolding ran_while_waiting served
   had-waiting q =
       omega (
         arith,
         had-full s ok t p f,
         had-served s p job t,
-        tally-apart (releaseOf s t p) t (λ u. served s (full s u) p job) (ranIn s t p q) runs waiting,
+        tally-apart (release_of s t p) t (λ u. served s (full s u) p job) (ran_in s t p q) runs waiting,
         due-here s ok t p f,
         released-here s ok t p f,
       )
     where
-      runs : (u : ℕ) → served s (full s u) p job ≡ true → releaseOf s t p ≤ u
+      runs : (u : ℕ) → served s (full s u) p job ≡ true → release_of s t p ≤ u
       runs u e =
-          let r = after-release s.rule (task s p) job (full s u).tick ((full s u).job p job)
-          (and_left (jobClaims s (full s u) p job) (in_row s (full s u) p) e) in
+          let r = after-release s.rule (task s p) job (full s u).tick ((full s u).job p job) (and_left (job_claims s (full s u) p job) (in_row s (full s u) p) e) in
           omega (arith, released-here s ok t p f, full-tick s u)
 
-      waiting : (u : ℕ) → u < t → ranIn s t p q u ≡ true → (releaseOf s t p ≤ u) × (served s (full s u) p job ≡ false)
+      waiting : (u : ℕ) → u < t → ran_in s t p q u ≡ true → (release_of s t p ≤ u) × (served s (full s u) p job ≡ false)
       waiting u l e =
-          let w = and_left (waits s t p u) (in_row s (bookAt s u) q) e in
+          let w = and_left (waits s t p u) (in_row s (book_at s u) q) e in
           let out : in_row s (full s u) p ≡ false =
-          ap (λ (b : Book). in_row s b p) (sym (same-book s ok t p f u (omega arith)))
-          ∙ not-true (in_row s (bookAt s u) p) (and_right (leb (releaseOf s t p) u) (not (in_row s (bookAt s u) p)) w) in (
-            leb-true (releaseOf s t p) u (and_left (leb (releaseOf s t p) u) (not (in_row s (bookAt s u) p)) w),
-            ap (λ (b : Bool). jobClaims s (full s u) p job && b) out ∙ and-false (jobClaims s (full s u) p job),
+          ap (λ (b : Book). in_row s b p) (sym (same-book s ok t p f u (omega arith))) ∙ not-true (in_row s (book_at s u) p) (and_right (leb (release_of s t p) u) (not (in_row s (book_at s u) p)) w) in (
+            leb-true (release_of s t p) u (and_left (leb (release_of s t p) u) (not (in_row s (book_at s u) p)) w),
+            ap (λ (b : Bool). job_claims s (full s u) p job && b) out ∙ and-false (job_claims s (full s u) p job),
           )
 
   -- the counts of the tasks above
   abbrev counts : List ℕ
-  counts = map (ranWhileWaiting s t p) (up_from 0 p)
+  counts = map (ran_while_waiting s t p) (up_from 0 p)
 
   size : length counts ≡ p
-  size = length-map (up_from 0 p) (ranWhileWaiting s t p) ∙ up-length 0 p
+  size = length-map (up_from 0 p) (ran_while_waiting s t p) ∙ up-length 0 p
 
   past : (k : ℕ) → p ≤ k → get_or counts k 0 ≡ 0
   past k l = get_or-eq_default counts 0 (omega (arith, size))
 
-  each-count : (P : ℕ → Type 0) → P 0 → ((q : ℕ) → P (ranWhileWaiting s t p q)) → (k : ℕ) → P (get_or counts k 0)
+  each-count : (P : ℕ → Type 0) → P 0 → ((q : ℕ) → P (ran_while_waiting s t p q)) → (k : ℕ) → P (get_or counts k 0)
   each-count P z h k = go (leb p k) refl
     where
       go : (b : Bool) → leb p k ≡ b → P (get_or counts k 0)
       go true e = subst P (sym (past k (leb-true p k e))) z
       go false e =
           let l = leb-false p k e in
-          subst P (sym (map_at (ranWhileWaiting s t p) (up_from 0 p) k 0 0 (omega (arith, up-length 0 p)))) (h (get_or (up_from 0 p) k 0))
+          subst P (sym (map_at (ran_while_waiting s t p) (up_from 0 p) k 0 0 (omega (arith, up-length 0 p)))) (h (get_or (up_from 0 p) k 0))
 
-  few-ticks : (q : ℕ) → ranWhileWaiting s t p q ≤ t
-  unfolding ranWhileWaiting
-  few-ticks q = tally-most t (ranIn s t p q)
+  few-ticks : (q : ℕ) → ran_while_waiting s t p q ≤ t
+  unfolding ran_while_waiting
+  few-ticks q = tally-most t (ran_in s t p q)
 
   module _ (few : length s.tasks ≤ 32) where
     -- THE LAW: the facts of the first miss are expressible
-    pub miss-expressible : t < limit → (task s p).length < limit → Expressible (factsAt s t p)
+    pub miss-expressible : t < limit → (task s p).length < limit → Expressible (facts_at s t p)
     miss-expressible lt lc = record {
       first = omega arith;
       last = omega (arith, below);
@@ -137,26 +135,23 @@ module _ (s : Table) (ok : AllValid s) (t p : ℕ) (f : FirstMiss s t (suc p)) w
 
     module _ (lc : (task s p).length ≤ 1000000) (ld : (task s p).deadline ≤ 1000000) where
       -- and their sentence is short: as long as the limit of the ticks lets it be
-      pub miss-within : (last : ℕ) → digitCount t ≤ digitCount last → t < limit → length (sentenceText (factsAt s t p)) ≤ longestSentence last
-      miss-within last d lt = sentence-short last (factsAt s t p) limited
+      pub miss-within : (last : ℕ) → digit_count t ≤ digit_count last → t < limit → length (sentence_text (facts_at s t p)) ≤ longest_sentence last
+      miss-within last d lt = sentence-short last (facts_at s t p) limited
         where
-          limited : FactsWithinLimits last (factsAt s t p)
+          limited : FactsWithinLimits last (facts_at s t p)
           limited = record {
             position = omega (arith, below);
             tick = d;
             short = had-short;
             length = lc;
             others = (miss-expressible lt (omega arith)).others;
-            together =
-                named-together 0 (hadBy s t p) 1000000 counts
-                (each-count (λ n. hadBy s t p + n ≤ 1000000) (omega (arith, had-waiting 0)) (λ q. omega (arith, had-waiting q)));
+            together = named-together 0 (had_by s t p) 1000000 counts (each-count (λ n. had_by s t p + n ≤ 1000000) (omega (arith, had-waiting 0)) (λ q. omega (arith, had-waiting q)));
           }
 
     -- for ticks up to the limit of a horizon
-    pub miss-at-most :
-        t ≤ mostHorizon → (task s p).length ≤ 1000000 → (task s p).deadline ≤ 1000000 → length (sentenceText (factsAt s t p)) ≤ longestSentence mostHorizon
-    miss-at-most lt lc ld = miss-within lc ld mostHorizon (omega (arith, count_most 9 t (omega arith), horizon-digits)) (omega arith)
+    pub miss-at-most : t ≤ most_horizon → (task s p).length ≤ 1000000 → (task s p).deadline ≤ 1000000 → length (sentence_text (facts_at s t p)) ≤ longest_sentence most_horizon
+    miss-at-most lt lc ld = miss-within lc ld most_horizon (omega (arith, count_most 9 t (omega arith), horizon-digits)) (omega arith)
 
     -- .. in bytes
-    pub miss-short : t ≤ mostHorizon → (task s p).length ≤ 1000000 → (task s p).deadline ≤ 1000000 → length (sentenceText (factsAt s t p)) ≤ 700
+    pub miss-short : t ≤ most_horizon → (task s p).length ≤ 1000000 → (task s p).deadline ≤ 1000000 → length (sentence_text (facts_at s t p)) ≤ 700
     miss-short lt lc ld = omega (arith, miss-at-most lt lc ld, longest-now)

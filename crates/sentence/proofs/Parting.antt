@@ -12,7 +12,7 @@ use borrow.Author.Tests.{ltb-true, lt-ltb, eqb-true, eqb-false}
 use Rattle.model.proofs.Bools.{and_left, and_right, and_both}
 use Rattle.text.specs.Output.{letters}
 use Rattle.sentence.specs.Facts.{Part, limit, MayFollow, Ascending, named}
-use Rattle.sentence.specs.Sentence.{wordField, parts}
+use Rattle.sentence.specs.Sentence.{word_field, parts}
 use Rattle.sentence.specs.Parsed.{same}
 use Rattle.sentence.specs.Reading.{FieldOf, PartsOf}
 use Rattle.sentence.specs.declared.reader.Field.{Field}
@@ -74,14 +74,13 @@ module _ (bs : List ℕ) (from position : ℕ) (ran : List ℕ) (last at : ℕ) 
       (count.found ≡ true) × (task.value ≡ p.position) × (count.value ≡ p.count) × (drop count.next bs ≡ parts qs (letters "."))
   unfolding parts
   part-found p qs f e =
-      let x = field_found bs (letters "; task ") (place at) task first refl p.position (wordField (letters " ran ") p.count (parts qs (letters ".")))
-      (omega (arith, f.above)) refl e in
+      let x = field_found bs (letters "; task ") (place at) task first refl p.position (word_field (letters " ran ") p.count (parts qs (letters "."))) (omega (arith, f.above)) refl e in
       let y = field_found bs (letters " ran ") task count second x.0 p.count (parts qs (letters ".")) f.fits (parts-stop qs) x.2 in
       (y.0, x.1, y.1, y.2)
 
   -- the part that was found is here
   pub here : count.found ≡ true → (at < count.next) × (count.next ≤ length bs) × (count.value < limit) × (task.value < limit)
-      × (drop at bs ≡ wordField (letters "; task ") task.value (wordField (letters " ran ") count.value (drop count.next bs)))
+      × (drop at bs ≡ word_field (letters "; task ") task.value (word_field (letters " ran ") count.value (drop count.next bs)))
   here f =
       let y = second.there f in
       let x = first.there y.0 in
@@ -114,9 +113,7 @@ module _ (bs : List ℕ) (from position : ℕ) (ran : List ℕ) (last at : ℕ) 
           )
 
   -- it is read
-  pub read_more :
-      count.found ≡ true → tests last position task.value count.value ≡ true
-      → Read bs from position (set ran (task.value - 1) count.value) task.value count.next
+  pub read_more : count.found ≡ true → tests last position task.value count.value ≡ true → Read bs from position (set ran (task.value - 1) count.value) task.value count.next
   unfolding parts
   read_more f t =
       let g = passed last position task.value count.value t in
@@ -137,24 +134,21 @@ module _ (bs : List ℕ) (from position : ℕ) (ran : List ℕ) (last at : ℕ) 
         before =
             read.before ∙ ap (parts (named ran)) (here f).4 ∙ sym (parts-append (named ran) (record { position = q; count = n } ∷ []) (drop count.next bs))
             ∙ ap (λ (ps : List Part). parts ps (drop count.next bs))
-            (sym (named_set 0 ran (q - 1) n w g.2 (λ k h. read.zeros k (omega arith))
-            ∙ ap (λ (k : ℕ). named ran ++ (record { position = k; count = n } ∷ [])) z));
+            (sym (named_set 0 ran (q - 1) n w g.2 (λ k h. read.zeros k (omega arith)) ∙ ap (λ (k : ℕ). named ran ++ (record { position = k; count = n } ∷ [])) z));
         after = λ ps r e. (part_left f ps r e).1;
       }
     where
       fit : (k : ℕ) (t : Bool) → eqb k (task.value - 1) ≡ t → task.value - 1 < length ran → get_or (set ran (task.value - 1) count.value) k 0 < limit
       fit k true e w =
           let v : get_or (set ran (task.value - 1) count.value) k 0 ≡ count.value =
-          ap (λ (j : ℕ). get_or (set ran (task.value - 1) count.value) j 0) (eqb-true k (task.value - 1) e)
-          ∙ get_or-set_same ran (task.value - 1) count.value 0 w in
+          ap (λ (j : ℕ). get_or (set ran (task.value - 1) count.value) j 0) (eqb-true k (task.value - 1) e) ∙ get_or-set_same ran (task.value - 1) count.value 0 w in
           omega (arith, (here f).2)
       fit k false e w =
           let v = get_or-set_other ran (task.value - 1) k count.value 0 (eqb-false k (task.value - 1) e) in
           omega (arith, read.fits k)
 
   -- it may not be here
-  pub read-wrong :
-      count.found ≡ true → tests last position task.value count.value ≡ false → PartsOf bs from position (record { found = false; ran = ran })
+  pub read-wrong : count.found ≡ true → tests last position task.value count.value ≡ false → PartsOf bs from position (record { found = false; ran = ran })
   read-wrong f t = record {
     there = λ q. absurd (false≢true q);
     none =

@@ -14,8 +14,8 @@ use Rattle.text.specs.Decimal.{decimal}
 use Rattle.text.specs.Output.{letters}
 use Rattle.text.specs.Written.{Put}
 use Rattle.text.proofs.Writing.{put_then, put-length}
-use Rattle.sentence.specs.Facts.{Facts, Part, named, namedFrom}
-use Rattle.sentence.specs.Sentence.{wordField, parts, sentenceHead, sentenceText}
+use Rattle.sentence.specs.Facts.{Facts, Part, named, named_from}
+use Rattle.sentence.specs.Sentence.{word_field, parts, sentence_head, sentence_text}
 use Rattle.sentence.proofs.Naming.{parts-append}
 
 -- there is space for what comes next
@@ -38,54 +38,53 @@ pub parts-rest : (ps : List Part) (rest : List ℕ) → parts ps rest ≡ parts 
 unfolding parts
 parts-rest [] rest = refl
 parts-rest (p ∷ ps) rest =
-    ap (λ (x : List ℕ). wordField (letters "; task ") p.position (wordField (letters " ran ") p.count x)) (parts-rest ps rest) ∙ simp append_assoc
+    ap (λ (x : List ℕ). word_field (letters "; task ") p.position (word_field (letters " ran ") p.count x)) (parts-rest ps rest) ∙ simp append_assoc
 
 -- counts and more counts
-named-append : (i : ℕ) (xs ys : List ℕ) → namedFrom i (xs ++ ys) ≡ namedFrom i xs ++ namedFrom (i + length xs) ys
-unfolding namedFrom
-named-append i [] ys = ap (λ (k : ℕ). namedFrom k ys) (sym (add-zero i))
+named-append : (i : ℕ) (xs ys : List ℕ) → named_from i (xs ++ ys) ≡ named_from i xs ++ named_from (i + length xs) ys
+unfolding named_from
+named-append i [] ys = ap (λ (k : ℕ). named_from k ys) (sym (add-zero i))
 named-append i (x ∷ xs) ys = go (eqb x 0) (named-append (suc i) xs ys)
   where
     more : suc i + length xs ≡ i + suc (length xs)
     more = omega arith
 
-    go : (t : Bool) → namedFrom (suc i) (xs ++ ys) ≡ namedFrom (suc i) xs ++ namedFrom (suc i + length xs) ys →
-        cond t (namedFrom (suc i) (xs ++ ys)) (record { position = suc i; count = x } ∷ namedFrom (suc i) (xs ++ ys))
-        ≡ cond t (namedFrom (suc i) xs) (record { position = suc i; count = x } ∷ namedFrom (suc i) xs) ++ namedFrom (i + suc (length xs)) ys
-    go true ih = ih ∙ ap (λ (k : ℕ). namedFrom (suc i) xs ++ namedFrom k ys) more
-    go false ih = ap (λ (ps : List Part). record { position = suc i; count = x } ∷ ps) (ih ∙ ap (λ (k : ℕ). namedFrom (suc i) xs ++ namedFrom k ys) more)
+    go : (t : Bool) → named_from (suc i) (xs ++ ys) ≡ named_from (suc i) xs ++ named_from (suc i + length xs) ys →
+        cond t (named_from (suc i) (xs ++ ys)) (record { position = suc i; count = x } ∷ named_from (suc i) (xs ++ ys))
+        ≡ cond t (named_from (suc i) xs) (record { position = suc i; count = x } ∷ named_from (suc i) xs) ++ named_from (i + suc (length xs)) ys
+    go true ih = ih ∙ ap (λ (k : ℕ). named_from (suc i) xs ++ named_from k ys) more
+    go false ih = ap (λ (ps : List Part). record { position = suc i; count = x } ∷ ps) (ih ∙ ap (λ (k : ℕ). named_from (suc i) xs ++ named_from k ys) more)
 
-parts-named : (xs ys : List ℕ) → parts (named (xs ++ ys)) [] ≡ parts (named xs) [] ++ parts (namedFrom (length xs) ys) []
+parts-named : (xs ys : List ℕ) → parts (named (xs ++ ys)) [] ≡ parts (named xs) [] ++ parts (named_from (length xs) ys) []
 parts-named xs ys =
-    ap (λ (ps : List Part). parts ps []) (named-append 0 xs ys) ∙ parts-append (named xs) (namedFrom (0 + length xs) ys) []
-    ∙ parts-rest (named xs) (parts (namedFrom (0 + length xs) ys) []) ∙ ap (λ (k : ℕ). parts (named xs) [] ++ parts (namedFrom k ys) []) zero-first
+    ap (λ (ps : List Part). parts ps []) (named-append 0 xs ys) ∙ parts-append (named xs) (named_from (0 + length xs) ys) []
+    ∙ parts-rest (named xs) (parts (named_from (0 + length xs) ys) []) ∙ ap (λ (k : ℕ). parts (named xs) [] ++ parts (named_from k ys) []) zero-first
   where
     zero-first : 0 + length xs ≡ length xs
     zero-first = omega arith
 
 -- one count more
-pub parts_next :
-    (ran : List ℕ) (k : ℕ) → k < length ran → parts (named (take k ran)) [] ++ parts (namedFrom k (get_or ran k 0 ∷ [])) [] ≡ parts (named (take (k + 1) ran)) []
+pub parts_next : (ran : List ℕ) (k : ℕ) → k < length ran → parts (named (take k ran)) [] ++ parts (named_from k (get_or ran k 0 ∷ [])) [] ≡ parts (named (take (k + 1) ran)) []
 parts_next ran k h =
     let n : length (take k ran) ≡ k = length-take-le k ran (omega arith) in
-    ap (λ (j : ℕ). parts (named (take k ran)) [] ++ parts (namedFrom j (get_or ran k 0 ∷ [])) []) (sym n) ∙ sym (parts-named (take k ran) (get_or ran k 0 ∷ []))
+    ap (λ (j : ℕ). parts (named (take k ran)) [] ++ parts (named_from j (get_or ran k 0 ∷ [])) []) (sym n) ∙ sym (parts-named (take k ran) (get_or ran k 0 ∷ []))
     ∙ ap (λ (xs : List ℕ). parts (named xs) []) (sym (ap (λ (j : ℕ). take j ran) (add-one k) ∙ take-suc ran k 0 h))
 
 -- the first counts take no more space than all
 pub parts_first : (ran : List ℕ) (k : ℕ) → length (parts (named (take k ran)) []) ≤ length (parts (named ran) [])
 parts_first ran k =
-    let e : parts (named ran) [] ≡ parts (named (take k ran)) [] ++ parts (namedFrom (length (take k ran)) (drop k ran)) [] =
+    let e : parts (named ran) [] ≡ parts (named (take k ran)) [] ++ parts (named_from (length (take k ran)) (drop k ran)) [] =
     ap (λ (xs : List ℕ). parts (named xs) []) (sym (take-append-drop k ran)) ∙ parts-named (take k ran) (drop k ran) in
-    let n = ap length e ∙ length-append (parts (named (take k ran)) []) (parts (namedFrom (length (take k ran)) (drop k ran)) []) in
+    let n = ap length e ∙ length-append (parts (named (take k ran)) []) (parts (named_from (length (take k ran)) (drop k ran)) []) in
     omega arith
 
 -- a count of 0 names no part, any other names one
-pub part_none : (q n : ℕ) → n ≡ 0 → parts (namedFrom q (n ∷ [])) [] ≡ []
-unfolding parts namedFrom
+pub part_none : (q n : ℕ) → n ≡ 0 → parts (named_from q (n ∷ [])) [] ≡ []
+unfolding parts named_from
 part_none q n e = rw e
 
-pub part-some : (q n : ℕ) → (n ≡ 0 → ⊥) → parts (namedFrom q (n ∷ [])) [] ≡ (letters "; task " ++ decimal (q + 1)) ++ (letters " ran " ++ decimal n)
-unfolding parts namedFrom
+pub part-some : (q n : ℕ) → (n ≡ 0 → ⊥) → parts (named_from q (n ∷ [])) [] ≡ (letters "; task " ++ decimal (q + 1)) ++ (letters " ran " ++ decimal n)
+unfolding parts named_from
 part-some q n h =
     let e : eqb n 0 ≡ false = ne_eqb n 0 h in
     let z : q + 1 ≡ suc q = omega arith in
@@ -112,31 +111,31 @@ module _ (f : Facts) where
   abbrev pub fourth : List ℕ
   fourth = letters " of " ++ decimal f.length
 
-  abbrev pub upTo4 : List ℕ
-  upTo4 = ((first ++ second) ++ third) ++ fourth
+  abbrev pub up_to4 : List ℕ
+  up_to4 = ((first ++ second) ++ third) ++ fourth
 
-  abbrev pub upTo6 : List ℕ
-  upTo6 = (upTo4 ++ letters " ticks") ++ parts f.others []
+  abbrev pub up_to6 : List ℕ
+  up_to6 = (up_to4 ++ letters " ticks") ++ parts f.others []
 
-  pub pieces : upTo6 ++ letters "." ≡ sentenceText f
-  unfolding sentenceText sentenceHead
+  pub pieces : up_to6 ++ letters "." ≡ sentence_text f
+  unfolding sentence_text sentence_head
   pieces =
       in_a_row first second third fourth (letters " ticks") (parts f.others []) (letters ".")
       ∙ ap (λ (x : List ℕ). first ++ (second ++ (third ++ (fourth ++ (letters " ticks" ++ x))))) (sym (parts-rest f.others (letters ".")))
 
   -- the space that a buffer has which the sentence fits in
-  module _ (n : ℕ) (fits : length (sentenceText f) ≤ n) where
-    pub room-7 : 0 + length (upTo6 ++ letters ".") ≤ n
+  module _ (n : ℕ) (fits : length (sentence_text f) ≤ n) where
+    pub room-7 : 0 + length (up_to6 ++ letters ".") ≤ n
     room-7 = subst (λ (x : List ℕ). 0 + length x ≤ n) (sym pieces) (omega arith)
 
-    pub room-6 : 0 + length upTo6 ≤ n
-    room-6 = room-first 0 n upTo6 (letters ".") room-7
+    pub room-6 : 0 + length up_to6 ≤ n
+    room-6 = room-first 0 n up_to6 (letters ".") room-7
 
-    pub room-5 : 0 + length (upTo4 ++ letters " ticks") ≤ n
-    room-5 = room-first 0 n (upTo4 ++ letters " ticks") (parts f.others []) room-6
+    pub room-5 : 0 + length (up_to4 ++ letters " ticks") ≤ n
+    room-5 = room-first 0 n (up_to4 ++ letters " ticks") (parts f.others []) room-6
 
-    pub room-4 : 0 + length upTo4 ≤ n
-    room-4 = room-first 0 n upTo4 (letters " ticks") room-5
+    pub room-4 : 0 + length up_to4 ≤ n
+    room-4 = room-first 0 n up_to4 (letters " ticks") room-5
 
     pub room-3 : 0 + length ((first ++ second) ++ third) ≤ n
     room-3 = room-first 0 n ((first ++ second) ++ third) fourth room-4

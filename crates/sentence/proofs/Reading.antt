@@ -11,12 +11,12 @@ use lib.Seq.{drop-cons, take-append_seam, length-take-le, get_or-take}
 use lib.Dec.{eqb, ltb}
 use borrow.Author.Tests.{eqb-true, eq-eqb, lt-leb, le-leb, ltb-false}
 use Rattle.model.proofs.Bools.{and_left, and_right, and_both}
-use Rattle.text.specs.Decimal.{all, isDigit, Digit, value, decimal}
+use Rattle.text.specs.Decimal.{all, is_digit, Digit, value, decimal}
 use Rattle.text.proofs.Values.{digit-exact, digits-exact}
 use Rattle.text.proofs.Decimals.{decimal-digits, decimal-some, decimal-length, decimal-lead, decimal-only, count-one}
 use Rattle.text.specs.Output.{letters}
 use Rattle.sentence.specs.Parsed.{same}
-use Rattle.sentence.specs.Reading.{starts_with, digitsOf, Stops}
+use Rattle.sentence.specs.Reading.{starts_with, digits_of, Stops}
 
 -- WORDS
 
@@ -26,8 +26,7 @@ unfolding starts_with
 begins-there [] bs e = refl
 begins-there (c ∷ cs) [] e = absurd (false≢true e)
 begins-there (c ∷ cs) (b ∷ bs) e =
-    ap₂ (λ (x : ℕ) (xs : List ℕ). x ∷ xs) (sym (eqb-true c b (and_left (eqb c b) (starts_with cs bs) e)))
-    (begins-there cs bs (and_right (eqb c b) (starts_with cs bs) e))
+    ap₂ (λ (x : ℕ) (xs : List ℕ). x ∷ xs) (sym (eqb-true c b (and_left (eqb c b) (starts_with cs bs) e))) (begins-there cs bs (and_right (eqb c b) (starts_with cs bs) e))
 
 pub begins-append : (word rest : List ℕ) → starts_with word (word ++ rest) ≡ true
 unfolding starts_with
@@ -57,91 +56,91 @@ begins-on word bs k i h l = rw (drop-cons word k 0 h, drop-cons bs i 0 l)
 
 -- DIGITS
 
-pub digits-within : (bs : List ℕ) → digitsOf bs ≤ length bs
-unfolding digitsOf
+pub digits-within : (bs : List ℕ) → digits_of bs ≤ length bs
+unfolding digits_of
 digits-within [] = omega arith
-digits-within (b ∷ bs) = go (isDigit b) (digits-within bs)
+digits-within (b ∷ bs) = go (is_digit b) (digits-within bs)
   where
-    go : (t : Bool) → digitsOf bs ≤ length bs → cond t (suc (digitsOf bs)) 0 ≤ suc (length bs)
+    go : (t : Bool) → digits_of bs ≤ length bs → cond t (suc (digits_of bs)) 0 ≤ suc (length bs)
     go true ih = omega arith
     go false ih = omega arith
 
-pub digits-all : (bs : List ℕ) → all isDigit (take (digitsOf bs) bs) ≡ true
-unfolding digitsOf all
+pub digits-all : (bs : List ℕ) → all is_digit (take (digits_of bs) bs) ≡ true
+unfolding digits_of all
 digits-all [] = refl
-digits-all (b ∷ bs) = go (isDigit b) refl (digits-all bs)
+digits-all (b ∷ bs) = go (is_digit b) refl (digits-all bs)
   where
-    go : (t : Bool) → isDigit b ≡ t → all isDigit (take (digitsOf bs) bs) ≡ true → all isDigit (take (cond t (suc (digitsOf bs)) 0) (b ∷ bs)) ≡ true
-    go true e ih = and_both (isDigit b) (all isDigit (take (digitsOf bs) bs)) e ih
+    go : (t : Bool) → is_digit b ≡ t → all is_digit (take (digits_of bs) bs) ≡ true → all is_digit (take (cond t (suc (digits_of bs)) 0) (b ∷ bs)) ≡ true
+    go true e ih = and_both (is_digit b) (all is_digit (take (digits_of bs) bs)) e ih
     go false e ih = refl
 
-pub digits-stop : (bs : List ℕ) → Stops (drop (digitsOf bs) bs)
-unfolding digitsOf
+pub digits-stop : (bs : List ℕ) → Stops (drop (digits_of bs) bs)
+unfolding digits_of
 digits-stop [] = refl
-digits-stop (b ∷ bs) = go (isDigit b) refl (digits-stop bs)
+digits-stop (b ∷ bs) = go (is_digit b) refl (digits-stop bs)
   where
-    go : (t : Bool) → isDigit b ≡ t → Stops (drop (digitsOf bs) bs) → Stops (drop (cond t (suc (digitsOf bs)) 0) (b ∷ bs))
+    go : (t : Bool) → is_digit b ≡ t → Stops (drop (digits_of bs) bs) → Stops (drop (cond t (suc (digits_of bs)) 0) (b ∷ bs))
     go true e ih = ih
     go false e ih = e
 
-digits_append : (ds rest : List ℕ) → all isDigit ds ≡ true → Stops rest → digitsOf (ds ++ rest) ≡ length ds
-unfolding digitsOf all
+digits_append : (ds rest : List ℕ) → all is_digit ds ≡ true → Stops rest → digits_of (ds ++ rest) ≡ length ds
+unfolding digits_of all
 digits_append [] [] e h = refl
 digits_append [] (b ∷ bs) e h = rw h
 digits_append (d ∷ ds) rest e h =
-    rw (and_left (isDigit d) (all isDigit ds) e) (ap suc (digits_append ds rest (and_right (isDigit d) (all isDigit ds) e) h))
+    rw (and_left (is_digit d) (all is_digit ds) e) (ap suc (digits_append ds rest (and_right (is_digit d) (all is_digit ds) e) h))
 
 -- .. from an index on
-pub digits-on : (bs : List ℕ) (i : ℕ) → i < length bs → Digit (get_or bs i 0) → digitsOf (drop i bs) ≡ suc (digitsOf (drop (i + 1) bs))
-unfolding digitsOf
+pub digits-on : (bs : List ℕ) (i : ℕ) → i < length bs → Digit (get_or bs i 0) → digits_of (drop i bs) ≡ suc (digits_of (drop (i + 1) bs))
+unfolding digits_of
 digits-on bs i l d = rw (add-one, drop-cons bs i 0 l, (digit-exact (get_or bs i 0)).1 d)
 
-pub digits_low : (bs : List ℕ) (i : ℕ) → i < length bs → get_or bs i 0 < 48 → digitsOf (drop i bs) ≡ 0
-unfolding digitsOf
+pub digits_low : (bs : List ℕ) (i : ℕ) → i < length bs → get_or bs i 0 < 48 → digits_of (drop i bs) ≡ 0
+unfolding digits_of
 digits_low bs i l h = rw (drop-cons bs i 0 l, lt-leb 48 (get_or bs i 0) h)
 
-pub digits-high : (bs : List ℕ) (i : ℕ) → i < length bs → 57 < get_or bs i 0 → digitsOf (drop i bs) ≡ 0
-unfolding digitsOf
+pub digits-high : (bs : List ℕ) (i : ℕ) → i < length bs → 57 < get_or bs i 0 → digits_of (drop i bs) ≡ 0
+unfolding digits_of
 digits-high bs i l h = rw (drop-cons bs i 0 l, le-leb 48 (get_or bs i 0) (omega arith), lt-leb (get_or bs i 0) 57 h)
 
-pub digits-none : (bs : List ℕ) (i : ℕ) → length bs ≤ i → digitsOf (drop i bs) ≡ 0
-unfolding digitsOf
+pub digits-none : (bs : List ℕ) (i : ℕ) → length bs ≤ i → digits_of (drop i bs) ≡ 0
+unfolding digits_of
 digits-none bs i l = rw (drop_of_length-le bs l)
 
 -- NUMBERS
 
 -- the digits at the front of a text
 abbrev pub front : List ℕ → List ℕ
-front bs = take (digitsOf bs) bs
+front bs = take (digits_of bs) bs
 
 -- where they are one or more, and have no zero in front, they are their number in decimal
-pub number-there : (bs : List ℕ) → 1 ≤ digitsOf bs → eqb (get_or bs 0 0) 48 && ltb 1 (digitsOf bs) ≡ false →
-    bs ≡ decimal (value (front bs)) ++ drop (digitsOf bs) bs
+pub number-there : (bs : List ℕ) → 1 ≤ digits_of bs → eqb (get_or bs 0 0) 48 && ltb 1 (digits_of bs) ≡ false →
+    bs ≡ decimal (value (front bs)) ++ drop (digits_of bs) bs
 number-there bs s z =
-    let n : length (front bs) ≡ digitsOf bs = length-take-le (digitsOf bs) bs (digits-within bs) in
-    let same : get_or (front bs) 0 0 ≡ get_or bs 0 0 = get_or-take (digitsOf bs) bs 0 0 s in
-    sym (take-append-drop (digitsOf bs) bs)
-    ∙ ap (λ (ds : List ℕ). ds ++ drop (digitsOf bs) bs)
-    (decimal-only (front bs) ((digits-exact (front bs)).0 (digits-all bs)) (omega arith) (λ e. go (ltb 1 (digitsOf bs)) refl n (sym same ∙ e)))
+    let n : length (front bs) ≡ digits_of bs = length-take-le (digits_of bs) bs (digits-within bs) in
+    let same : get_or (front bs) 0 0 ≡ get_or bs 0 0 = get_or-take (digits_of bs) bs 0 0 s in
+    sym (take-append-drop (digits_of bs) bs)
+    ∙ ap (λ (ds : List ℕ). ds ++ drop (digits_of bs) bs)
+    (decimal-only (front bs) ((digits-exact (front bs)).0 (digits-all bs)) (omega arith) (λ e. go (ltb 1 (digits_of bs)) refl n (sym same ∙ e)))
   where
-    go : (t : Bool) → ltb 1 (digitsOf bs) ≡ t → length (front bs) ≡ digitsOf bs → get_or bs 0 0 ≡ 48 → length (front bs) ≡ 1
-    go true e n q = absurd (false≢true (sym z ∙ and_both (eqb (get_or bs 0 0) 48) (ltb 1 (digitsOf bs)) (eq-eqb (get_or bs 0 0) 48 q) e))
-    go false e n q = let l = ltb-false 1 (digitsOf bs) e in omega arith
+    go : (t : Bool) → ltb 1 (digits_of bs) ≡ t → length (front bs) ≡ digits_of bs → get_or bs 0 0 ≡ 48 → length (front bs) ≡ 1
+    go true e n q = absurd (false≢true (sym z ∙ and_both (eqb (get_or bs 0 0) 48) (ltb 1 (digits_of bs)) (eq-eqb (get_or bs 0 0) 48 q) e))
+    go false e n q = let l = ltb-false 1 (digits_of bs) e in omega arith
 
 -- the digits of a text that begins with a number are that number's
-pub number-front : (bs rest : List ℕ) (n : ℕ) → Stops rest → bs ≡ decimal n ++ rest → (digitsOf bs ≡ length (decimal n)) × (front bs ≡ decimal n)
+pub number-front : (bs rest : List ℕ) (n : ℕ) → Stops rest → bs ≡ decimal n ++ rest → (digits_of bs ≡ length (decimal n)) × (front bs ≡ decimal n)
 number-front bs rest n h e =
-    let l : digitsOf bs ≡ length (decimal n) = ap digitsOf e ∙ digits_append (decimal n) rest ((digits-exact (decimal n)).1 (decimal-digits n)) h in
+    let l : digits_of bs ≡ length (decimal n) = ap digits_of e ∙ digits_append (decimal n) rest ((digits-exact (decimal n)).1 (decimal-digits n)) h in
     (l, ap₂ (λ (k : ℕ) (xs : List ℕ). take k xs) l e ∙ take-append_seam (decimal n) rest)
 
 -- .. so they have no zero in front
-pub number-plain : (bs rest : List ℕ) (n : ℕ) → Stops rest → bs ≡ decimal n ++ rest → eqb (get_or bs 0 0) 48 && ltb 1 (digitsOf bs) ≡ false
+pub number-plain : (bs rest : List ℕ) (n : ℕ) → Stops rest → bs ≡ decimal n ++ rest → eqb (get_or bs 0 0) 48 && ltb 1 (digits_of bs) ≡ false
 number-plain bs rest n h e = go (eqb (get_or bs 0 0) 48) refl
   where
     not-below : (k : ℕ) → k ≡ 1 → ltb 1 k ≡ false
     not-below k q = rw q
 
-    go : (t : Bool) → eqb (get_or bs 0 0) 48 ≡ t → t && ltb 1 (digitsOf bs) ≡ false
+    go : (t : Bool) → eqb (get_or bs 0 0) 48 ≡ t → t && ltb 1 (digits_of bs) ≡ false
     go false q = refl
     go true q =
         let f : get_or bs 0 0 ≡ get_or (decimal n) 0 0 = ap (λ (xs : List ℕ). get_or xs 0 0) e ∙ get_or-append (decimal n) rest 0 0 (decimal-some n) in
@@ -149,7 +148,7 @@ number-plain bs rest n h e = go (eqb (get_or bs 0 0) 48) refl
         let l = (number-front bs rest n h e).0 in
         let m = decimal-length n in
         let o = count-one n (omega arith) in
-        not-below (digitsOf bs) (omega arith)
+        not-below (digits_of bs) (omega arith)
 
 -- the first digits represent no more than all
 value-first : (xs ys : List ℕ) → value xs ≤ value (xs ++ ys)
@@ -157,8 +156,7 @@ unfolding value
 value-first [] ys = omega arith
 value-first (x ∷ xs) ys =
     let ih = value-first xs ys in
-    let m : (x - 48) * 10 ^ length xs ≤ (x - 48) * 10 ^ length (xs ++ ys) = mul-le-mul_left (x - 48)
-    (pow-le-pow_right (omega arith) (omega (arith, length-append xs ys))) in
+    let m : (x - 48) * 10 ^ length xs ≤ (x - 48) * 10 ^ length (xs ++ ys) = mul-le-mul_left (x - 48) (pow-le-pow_right (omega arith) (omega (arith, length-append xs ys))) in
     omega arith
 
 pub value-front : (k : ℕ) (ds : List ℕ) → value (take k ds) ≤ value ds

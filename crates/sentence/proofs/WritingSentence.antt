@@ -13,52 +13,52 @@ use borrow.Author.Tests.{lt-ltb, le-ltb}
 use Rattle.model.specs.Search.{any, least}
 use Rattle.model.specs.Task.{Table}
 use Rattle.model.specs.Horizon.{horizon}
-use Rattle.model.specs.Verdict.{missedAt, missedIn, firstMiss}
+use Rattle.model.specs.Verdict.{missed_at, missed_in, first_miss}
 use Rattle.judge.specs.declared.Missed.TheVariants.{Never, At}
-use Rattle.judge.specs.FirstMiss.{missedBefore}
+use Rattle.judge.specs.FirstMiss.{missed_before}
 use Rattle.text.specs.Written.{Put}
 use Rattle.sentence.specs.Facts.{Facts}
-use Rattle.sentence.specs.Sentence.{sentenceText}
-use Rattle.sentence.specs.Waiting.{factsAt, missPlace, factsIn}
-use Rattle.sentence.specs.SentenceAnswer.{byBuffer, byTable, front}
+use Rattle.sentence.specs.Sentence.{sentence_text}
+use Rattle.sentence.specs.Waiting.{facts_at, miss_place, facts_in}
+use Rattle.sentence.specs.SentenceAnswer.{by_buffer, by_table, front}
 use Rattle.sentence.specs.declared.SentenceAnswer.{SentenceAnswer}
 use Rattle.sentence.specs.declared.SentenceAnswer.TheVariants.{Length, Refused}
 
 -- by the buffer's length
-pub too_short : (f : Facts) (bytes : ℕ) → bytes < length (sentenceText f) → Refused 18 0 ≡ byBuffer f bytes
-unfolding byBuffer
-too_short f bytes l = rw (lt-ltb bytes (length (sentenceText f)) l)
+pub too_short : (f : Facts) (bytes : ℕ) → bytes < length (sentence_text f) → Refused 18 0 ≡ by_buffer f bytes
+unfolding by_buffer
+too_short f bytes l = rw (lt-ltb bytes (length (sentence_text f)) l)
 
-pub long-enough : (f : Facts) (bytes : ℕ) → length (sentenceText f) ≤ bytes → Length (length (sentenceText f)) ≡ byBuffer f bytes
-unfolding byBuffer
-long-enough f bytes l = rw (le-ltb bytes (length (sentenceText f)) l)
+pub long-enough : (f : Facts) (bytes : ℕ) → length (sentence_text f) ≤ bytes → Length (length (sentence_text f)) ≡ by_buffer f bytes
+unfolding by_buffer
+long-enough f bytes l = rw (le-ltb bytes (length (sentence_text f)) l)
 
 -- by the search
-pub by-never : (s : Table) (bytes : ℕ) → any (suc (horizon s)) (missedIn s) ≡ false → Refused 17 0 ≡ byTable s bytes
-unfolding byTable
+pub by-never : (s : Table) (bytes : ℕ) → any (suc (horizon s)) (missed_in s) ≡ false → Refused 17 0 ≡ by_table s bytes
+unfolding by_table
 by-never s bytes e = rw e
 
-pub by-found : (s : Table) (bytes : ℕ) → any (suc (horizon s)) (missedIn s) ≡ true → byBuffer (factsIn s) bytes ≡ byTable s bytes
-unfolding byTable
+pub by-found : (s : Table) (bytes : ℕ) → any (suc (horizon s)) (missed_in s) ≡ true → by_buffer (facts_in s) bytes ≡ by_table s bytes
+unfolding by_table
 by-found s bytes e = rw e
 
 -- the facts of what it finds
-pub found-facts : (s : Table) (t p : ℕ) → missedBefore s (suc (horizon s)) ≡ At t p → factsAt s t (p - 1) ≡ factsIn s
-unfolding missedBefore factsIn missPlace firstMiss
-found-facts s t p = go (any (suc (horizon s)) (missedIn s))
+pub found-facts : (s : Table) (t p : ℕ) → missed_before s (suc (horizon s)) ≡ At t p → facts_at s t (p - 1) ≡ facts_in s
+unfolding missed_before facts_in miss_place first_miss
+found-facts s t p = go (any (suc (horizon s)) (missed_in s))
   where
     first : ℕ
-    first = least (suc (horizon s)) (missedIn s)
+    first = least (suc (horizon s)) (missed_in s)
 
     place : ℕ
-    place = least (length s.tasks) (missedAt s first)
+    place = least (length s.tasks) (missed_at s first)
 
-    go : (b : Bool) → cond b (At first (suc place)) Never ≡ At t p → factsAt s t (p - 1) ≡ factsAt s first place
+    go : (b : Bool) → cond b (At first (suc place)) Never ≡ At t p → facts_at s t (p - 1) ≡ facts_at s first place
     go true e =
         let i : first ≡ t = cc in
         let j : suc place ≡ p = cc in
         let k : p - 1 ≡ place = omega arith in
-        ap (λ (q : ℕ). factsAt s t q) k ∙ ap (λ (u : ℕ). factsAt s u place) (sym i)
+        ap (λ (q : ℕ). facts_at s t q) k ∙ ap (λ (u : ℕ). facts_at s u place) (sym i)
     go false e = let z : ◌≡◌ {A = ℕ} 0 1 = cc in absurd (omega arith)
 
 -- a text written aside, and then copied

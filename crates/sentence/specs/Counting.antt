@@ -2,20 +2,20 @@
 use Rattle.std.specs.Prelude.{cond, List, ◌++◌, ℕ, ◌+◌, ◌-◌, ◌≤◌, ◌<◌, take, replicate}
 use Rattle.model.specs.Search.{bit}
 use Rattle.model.specs.Task.{task}
-use Rattle.model.specs.Sizes.{mostTasks}
+use Rattle.model.specs.Sizes.{most_tasks}
 use Rattle.table.specs.declared.Loaded.{Loaded}
-use Rattle.table.specs.Limits.{mostTime}
-use Rattle.simulation.specs.Places.{mapPlaces}
-use Rattle.table.specs.Fit.{loadedTable}
+use Rattle.table.specs.Limits.{most_time}
+use Rattle.simulation.specs.Places.{map_places}
+use Rattle.table.specs.Fit.{loaded_table}
 
--- a number of ticks more for each place of a set
-abbrev pub added : ℕ → ℕ → List ℕ → List ℕ
-added granted ticks ran = mapPlaces (λ q n. cond (bit granted q) (n + ticks) n) ran
+-- one more for each place of a set
+abbrev pub added : ℕ → List ℕ → List ℕ
+added granted ran = map_places (λ q n. cond (bit granted q) (n + 1) n) ran
 
 -- the counts of the places before p, and zeros from p on
 abbrev pub above : ℕ → List ℕ → List ℕ
-above p ran = take p ran ++ replicate (mostTasks - p) 0
+above p ran = take p ran ++ replicate (most_tasks - p) 0
 
 -- each length C of the table that was loaded is within its limit
 abbrev pub LengthsWithin : Loaded → Type 0
-LengthsWithin t = (p : ℕ) → p < t.count → (task (loadedTable t) p).length ≤ mostTime
+LengthsWithin t = (p : ℕ) → p < t.count → (task (loaded_table t) p).length ≤ most_time

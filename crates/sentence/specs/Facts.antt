@@ -1,7 +1,7 @@
 -- The facts of a miss that a sentence contains (request 'the miss in a sentence'), and the facts that a sentence is parsed to.
 use Rattle.std.specs.Prelude.{Bool, true, ◌&&◌, cond, List, [], ◌∷◌, ℕ, suc, ◌^◌, ◌≤◌, ◌<◌, eqb, leb, ltb}
 use Rattle.sentence.specs.declared.Facts as code
-use Rattle.model.specs.Sizes.{mostTasks}
+use Rattle.model.specs.Sizes.{most_tasks}
 
 -- a task above the late one, and the number of the late job's waiting ticks in which it ran
 pub record Part : Type 0 where
@@ -28,8 +28,8 @@ pub record MayFollow (last position : ℕ) (p : Part) : Type 0 where
   pub fits : p.count < limit
 
 -- .. the test (`may-follow-exact`)
-abbrev pub mayFollow : ℕ → ℕ → Part → Bool
-mayFollow last position p = ltb last p.position && (ltb p.position position && (ltb 0 p.count && ltb p.count limit))
+abbrev pub may_follow : ℕ → ℕ → Part → Bool
+may_follow last position p = ltb last p.position && (ltb p.position position && (ltb 0 p.count && ltb p.count limit))
 
 -- the parts rise: each may follow the one before it, the first may follow one of `last`
 unfoldable pub Ascending : ℕ → ℕ → List Part → Type 0
@@ -39,12 +39,12 @@ Ascending last position (p ∷ ps) = MayFollow last position p × Ascending p.po
 -- .. the test (`ascending-exact`)
 unfoldable pub ascending : ℕ → ℕ → List Part → Bool
 ascending last position [] = true
-ascending last position (p ∷ ps) = mayFollow last position p && ascending p.position position ps
+ascending last position (p ∷ ps) = may_follow last position p && ascending p.position position ps
 
 -- facts that a sentence is parsed to: position 1 to 32, fewer ticks had than C, the parts rise from 1 and stay above the late task, every number is below 2^64
 pub record Expressible (f : Facts) : Type 0 where
   pub first : 1 ≤ f.position
-  pub last : f.position ≤ mostTasks
+  pub last : f.position ≤ most_tasks
   pub tick : f.tick < limit
   pub short : f.had < f.length
   pub length : f.length < limit
@@ -54,17 +54,17 @@ pub record Expressible (f : Facts) : Type 0 where
 unfoldable pub expressible : Facts → Bool
 expressible f =
     leb 1 f.position
-    && (leb f.position mostTasks && (ltb f.tick limit && (ltb f.had f.length && (ltb f.length limit && ascending 0 f.position f.others))))
+    && (leb f.position most_tasks && (ltb f.tick limit && (ltb f.had f.length && (ltb f.length limit && ascending 0 f.position f.others))))
 
 -- the parts of counts in order of position, the first that of position q + 1; a task with count 0 has no part
-unfoldable pub namedFrom : ℕ → List ℕ → List Part
-namedFrom q [] = []
-namedFrom q (n ∷ ns) = cond (eqb n 0) (namedFrom (suc q) ns) (record { position = suc q; count = n } ∷ namedFrom (suc q) ns)
+unfoldable pub named_from : ℕ → List ℕ → List Part
+named_from q [] = []
+named_from q (n ∷ ns) = cond (eqb n 0) (named_from (suc q) ns) (record { position = suc q; count = n } ∷ named_from (suc q) ns)
 
 -- .. of all positions from 1 on
 abbrev pub named : List ℕ → List Part
-named ns = namedFrom 0 ns
+named ns = named_from 0 ns
 
 -- the facts in a struct
-abbrev pub factsBy : code.Facts → Facts
-factsBy f = record { position = f.position; tick = f.tick; had = f.had; length = f.length; others = named f.ran }
+abbrev pub facts_by : code.Facts → Facts
+facts_by f = record { position = f.position; tick = f.tick; had = f.had; length = f.length; others = named f.ran }

@@ -1,20 +1,20 @@
 -- A sentence parsed: the facts that its numbers give, if these facts are expressible and their sentence is exactly these bytes.
 use Rattle.std.specs.Prelude.{Bool, true, false, ◌&&◌, cond, List, [], ◌∷◌, ◌++◌, ◌↔◌, ◌≡◌, ℕ, eqb, drop, get_or, replicate}
-use Rattle.text.specs.Decimal.{isDigit, value}
-use Rattle.sentence.specs.Facts.{Facts, Part, Expressible, expressible, factsBy}
-use Rattle.sentence.specs.Sentence.{sentenceText}
+use Rattle.text.specs.Decimal.{is_digit, value}
+use Rattle.sentence.specs.Facts.{Facts, Part, Expressible, expressible, facts_by}
+use Rattle.sentence.specs.Sentence.{sentence_text}
 use Rattle.sentence.specs.declared.ParsedFacts.{ParsedFacts}
-use Rattle.model.specs.Sizes.{mostTasks}
+use Rattle.model.specs.Sizes.{most_tasks}
 
 -- the number that a run of digits represents, before the numbers that follow; a run of no digit gives none
-abbrev pub numberBefore : List ℕ → List ℕ → List ℕ
-numberBefore [] ns = ns
-numberBefore (d ∷ ds) ns = value (d ∷ ds) ∷ ns
+abbrev pub number_before : List ℕ → List ℕ → List ℕ
+number_before [] ns = ns
+number_before (d ∷ ds) ns = value (d ∷ ds) ∷ ns
 
 -- the numbers in a text, after the digits of a run that is not yet at its end
-unfoldable pub numbersFrom : List ℕ → List ℕ → List ℕ
-numbersFrom run [] = numberBefore run []
-numbersFrom run (b ∷ bs) = cond (isDigit b) (numbersFrom (run ++ (b ∷ [])) bs) (numberBefore run (numbersFrom [] bs))
+unfoldable pub numbers_from : List ℕ → List ℕ → List ℕ
+numbers_from run [] = number_before run []
+numbers_from run (b ∷ bs) = cond (is_digit b) (numbers_from (run ++ (b ∷ [])) bs) (number_before run (numbers_from [] bs))
 
 -- numbers two by two: a position and a count
 unfoldable pub paired : List ℕ → List Part
@@ -28,7 +28,7 @@ arranged ns = record { position = get_or ns 0 0; tick = get_or ns 1 0; had = get
 
 -- the facts from the numbers in a text (`numbers-sentence`)
 unfoldable pub candidate : List ℕ → Facts
-candidate bs = arranged (numbersFrom [] bs)
+candidate bs = arranged (numbers_from [] bs)
 
 -- two texts are the same
 unfoldable pub same : List ℕ → List ℕ → Bool
@@ -44,23 +44,23 @@ pub data ParsedSentence : Type 0 where
 
 -- the text is parsed to f exactly if f is expressible and the text is f's sentence (`read_back`)
 unfoldable pub parsed : List ℕ → ParsedSentence
-parsed bs = cond (expressible (candidate bs) && same (sentenceText (candidate bs)) bs) (facts (candidate bs)) none
+parsed bs = cond (expressible (candidate bs) && same (sentence_text (candidate bs)) bs) (facts (candidate bs)) none
 
 -- the meaning of an answer
-abbrev pub parsedBy : Bool → Facts → ParsedSentence
-parsedBy true f = facts f
-parsedBy false f = none
+abbrev pub parsed_by : Bool → Facts → ParsedSentence
+parsed_by true f = facts f
+parsed_by false f = none
 
 -- nothing found: all zeros
-abbrev pub noFacts : ParsedFacts
-noFacts = record { found = false; facts = record { position = 0; tick = 0; had = 0; length = 0; ran = replicate mostTasks 0 } }
+abbrev pub no_facts : ParsedFacts
+no_facts = record { found = false; facts = record { position = 0; tick = 0; had = 0; length = 0; ran = replicate most_tasks 0 } }
 
 -- the contract of `facts_of` on the bytes
 pub record FactsOf (bs : List ℕ) (r : ParsedFacts) : Type 0 where
   -- its value
-  pub value : parsedBy r.found (factsBy r.facts) ≡ parsed bs
-  pub zeros : r.found ≡ false → r ≡ noFacts
+  pub value : parsed_by r.found (facts_by r.facts) ≡ parsed bs
+  pub zeros : r.found ≡ false → r ≡ no_facts
   -- it is f exactly if f is expressible and the bytes are f's sentence
-  pub exact : (f : Facts) → ((r.found ≡ true) × (factsBy r.facts ≡ f)) ↔ (Expressible f × (bs ≡ sentenceText f))
+  pub exact : (f : Facts) → ((r.found ≡ true) × (facts_by r.facts ≡ f)) ↔ (Expressible f × (bs ≡ sentence_text f))
   -- nothing is found exactly if they are the sentence of no expressible facts
-  pub none : (r.found ≡ false) ↔ ((f : Facts) → Expressible f → ¬ (bs ≡ sentenceText f))
+  pub none : (r.found ≡ false) ↔ ((f : Facts) → Expressible f → ¬ (bs ≡ sentence_text f))

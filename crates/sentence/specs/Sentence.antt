@@ -5,21 +5,21 @@ use Rattle.text.specs.Output.{letters}
 use Rattle.sentence.specs.Facts.{Facts, Part}
 
 -- a word and then a number
-abbrev pub wordField : List ℕ → ℕ → List ℕ → List ℕ
-wordField word n rest = word ++ (decimal n ++ rest)
+abbrev pub word_field : List ℕ → ℕ → List ℕ → List ℕ
+word_field word n rest = word ++ (decimal n ++ rest)
 
 -- the parts, and what follows them
 unfoldable pub parts : List Part → List ℕ → List ℕ
 parts [] rest = rest
-parts (p ∷ ps) rest = wordField (letters "; task ") p.position (wordField (letters " ran ") p.count (parts ps rest))
+parts (p ∷ ps) rest = word_field (letters "; task ") p.position (word_field (letters " ran ") p.count (parts ps rest))
 
 -- all before the parts, and what follows it
-unfoldable pub sentenceHead : Facts → List ℕ → List ℕ
-sentenceHead f rest =
-    wordField (letters "task ") f.position
-    (wordField (letters " misses at tick ") f.tick
-    (wordField (letters " with ") f.had (wordField (letters " of ") f.length (letters " ticks" ++ rest))))
+unfoldable pub sentence_head : Facts → List ℕ → List ℕ
+sentence_head f rest =
+    word_field (letters "task ") f.position
+    (word_field (letters " misses at tick ") f.tick
+    (word_field (letters " with ") f.had (word_field (letters " of ") f.length (letters " ticks" ++ rest))))
 
 -- the sentence (`sentence-injective`, `read_back`)
-unfoldable pub sentenceText : Facts → List ℕ
-sentenceText f = sentenceHead f (parts f.others (letters "."))
+unfoldable pub sentence_text : Facts → List ℕ
+sentence_text f = sentence_head f (parts f.others (letters "."))

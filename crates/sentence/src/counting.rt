@@ -1,34 +1,41 @@
-// The facts of a miss, counted in the full-length run, from event to event.
-ghost use Rattle.std.specs.Prelude.{◌≡◌, ℕ, suc, ◌-◌, ◌≤◌, ◌<◌, ◌^◌, length, get_or};
+// The facts of a miss, counted in the full-length run.
+ghost use Rattle.std.specs.Prelude.{◌≡◌, ℕ, suc, ◌≤◌, ◌<◌, ◌^◌, length, get_or};
 ghost use Rattle.model.specs.Search.{bit};
-ghost use Rattle.model.specs.Sizes.{mostTasks};
+ghost use Rattle.model.specs.Sizes.{most_tasks};
 ghost use Rattle.model.specs.Verdict.{FirstMiss};
-ghost use Rattle.table.specs.Fit.{loadedTable, Fit};
-ghost use Rattle.sentence.specs.Facts.{factsBy};
-ghost use Rattle.sentence.specs.Waiting.{factsAt};
+ghost use Rattle.table.specs.Fit.{loaded_table, Fit};
+ghost use Rattle.sentence.specs.Facts.{facts_by};
+ghost use Rattle.sentence.specs.Waiting.{facts_at};
 ghost use Rattle.sentence.specs.Counting.{added, above};
 
 use crate::Facts;
 use model::MOST_TASKS;
-use table::{Loaded, Task};
+use table::Loaded;
 
-// Adds a number of ticks to the count of each place of a set.
-fn add(granted: u32, ticks: u32, ran: &mut [u64; MOST_TASKS])
-    requires { (q : ℕ) → get_or ran.old q 0 < 2 ^ 32 }
-    ensures { ran.new ≡ added granted ticks ran.old }
+// Whether a place is in a set.
+fn has(set: u32, place: usize) -> bool
+    requires { place < most_tasks }
+    ensures { result ≡ bit set place }
 {
-    let more = ticks as u64;
+    (set >> place) % 2 == 1
+}
+
+// Adds one to the count of each place of a set.
+fn add(granted: u32, ran: &mut [u64; MOST_TASKS])
+    requires { (q : ℕ) → get_or ran.old q 0 < 2 ^ 32 }
+    ensures { ran.new ≡ added granted ran.old }
+{
     let mut rest = granted;
     while 0 < rest {
         let place = u32::trailing_zeros(rest);
-        rest &= rest - 1;
-        ran[place as usize] += more;
+        rest -= 1u32 << place;
+        ran[place as usize] += 1;
     }
 }
 
 // The counts of the places above a place, and zeros from it on.
 fn counts_above(ran: [u64; MOST_TASKS], place: usize) -> [u64; MOST_TASKS]
-    requires { (place ≤ mostTasks) × (length ran ≡ mostTasks) }
+    requires { (place ≤ most_tasks) × (length ran ≡ most_tasks) }
     ensures { result ≡ above place ran }
 {
     let mut counts = [0u64; MOST_TASKS];
@@ -40,29 +47,11 @@ fn counts_above(ran: [u64; MOST_TASKS], place: usize) -> [u64; MOST_TASKS]
     counts
 }
 
-// The facts of a miss of a place at a tick, where this is left of its task's length, and these are the counts of all places.
-fn facts_with(late: Task, left: u32, tick: u32, place: usize, ran: [u64; MOST_TASKS]) -> Facts
-    requires { (left ≤ late.length) × (place < mostTasks) × (length ran ≡ mostTasks) }
-    ensures { (result.position ≡ suc place) × (result.tick ≡ tick) × (result.had ≡ late.length - left) × (result.length ≡ late.length)
-        × (result.ran ≡ above place ran) }
-{
-    let position = place as u32 + 1;
-    let had = late.length - left;
-    let counts = counts_above(ran, place);
-    Facts {
-        position: position,
-        tick: tick as u64,
-        had: had as u64,
-        length: late.length as u64,
-        ran: counts,
-    }
-}
-
-// The facts of the first miss, of a place at a tick: the run goes from event to event to the late job's release. From there it goes jump by jump: the
-// cores stay in the ticks of a jump, and where the late job is not granted cores these ticks are counted for the places that are.
+// The facts of the first miss, of a place at a tick: the run up to that tick; from the late job's release on, each tick in which it is not granted cores
+// is counted for the places that are.
 pub fn count(table: Loaded, tick: u32, place: usize) -> Facts
-    requires { Fit table × FirstMiss (loadedTable table) tick (suc place) × (tick ≤ table.horizon) }
-    ensures { factsBy result ≡ factsAt (loadedTable table) tick place }
+    requires { Fit table × FirstMiss (loaded_table table) tick (suc place) × (tick ≤ table.horizon) }
+    ensures { facts_by result ≡ facts_at (loaded_table table) tick place }
 {
     let tasks = table.tasks;
     let late = tasks[place];
@@ -71,21 +60,13 @@ pub fn count(table: Loaded, tick: u32, place: usize) -> Facts
     let setting = columns.setting;
     let widths = columns.widths;
     let times = columns.times;
-    let machine = simulation::events::start(table);
+    let machine = simulation::machine::start(table);
+    let mut registers = machine.registers;
     let mut places = machine.places;
-    let begun = judge::by_events::run_on(
-        setting,
-        &widths,
-        &times,
-        machine.registers,
-        &mut places,
-        release,
-    );
-    let mut registers = begun.registers;
     let mut ran = [0u64; MOST_TASKS];
     while registers.tick < tick {
         let before = registers.tick;
-        let on = judge::by_events::run_on(
+        let on = judge::by_ticks::run_on(
             setting,
             &widths,
             &times,
@@ -94,12 +75,22 @@ pub fn count(table: Loaded, tick: u32, place: usize) -> Facts
             before + 1,
         );
         registers = on.registers;
-        let granted = registers.granted;
-        let runs = model::sets::has(granted, place as u32);
-        if !runs {
-            add(granted, registers.tick - before, &mut ran);
+        if release <= before {
+            let granted = registers.granted;
+            let runs = has(granted, place);
+            if !runs {
+                add(granted, &mut ran);
+            }
         }
     }
-    let left = places[place];
-    facts_with(late, left, tick, place, ran)
+    let position = place as u32 + 1;
+    let had = late.length - places[place];
+    let counts = counts_above(ran, place);
+    Facts {
+        position: position,
+        tick: tick as u64,
+        had: had as u64,
+        length: late.length as u64,
+        ran: counts,
+    }
 }

@@ -1,11 +1,11 @@
 // The miss in a sentence: written, and parsed.
 ghost use Rattle.std.specs.Prelude.{◌≡◌, suc, ◌≤◌, length};
 ghost use Rattle.model.specs.Verdict.{FirstMiss};
-ghost use Rattle.table.specs.Fit.{loadedTable, Fit};
-ghost use Rattle.sentence.specs.Parsed.{noFacts, FactsOf};
-ghost use Rattle.sentence.specs.Waiting.{factsAt, factsIn};
+ghost use Rattle.table.specs.Fit.{loaded_table, Fit};
+ghost use Rattle.sentence.specs.Parsed.{no_facts, FactsOf};
+ghost use Rattle.sentence.specs.Waiting.{facts_at, facts_in};
 ghost use Rattle.sentence.specs.Counting.{LengthsWithin};
-ghost use Rattle.sentence.specs.SentenceAnswer.{byBuffer, byTable, sentenceMeaning, leftIn, SentenceOf};
+ghost use Rattle.sentence.specs.SentenceAnswer.{by_buffer, by_table, sentence_meaning, left_in, SentenceOf};
 
 use judge::Missed;
 use model::MOST_TASKS;
@@ -16,7 +16,7 @@ pub mod reader; // reader.rt: a sentence parsed
 pub mod writer; // writer.rt: a sentence written
 
 // No sentence is longer than this, for ticks up to 1,000,000,000.
-const LONGEST: usize = 700;
+pub const LONGEST: usize = 700;
 
 // The answer of `sentence`: the sentence's length, or Refused with number and position.
 #[derive(Drop)]
@@ -44,7 +44,7 @@ pub struct ParsedFacts {
 
 // Nothing is found.
 fn no_facts() -> ParsedFacts
-    ensures { result ≡ noFacts }
+    ensures { result ≡ no_facts }
 {
     let ran = [0u64; MOST_TASKS];
     ParsedFacts {
@@ -86,15 +86,15 @@ pub fn facts_of(bytes: &[u8]) -> ParsedFacts
 
 // Writes the sentence of a miss of a place at a tick at the front of the buffer, or returns 18 where it is too short.
 fn write_miss(table: Loaded, tick: u32, place: usize, buffer: &mut [u8]) -> SentenceAnswer
-    requires { Fit table × FirstMiss (loadedTable table) tick (suc place) × (tick ≤ table.horizon) × LengthsWithin table }
-    ensures { (result ≡ byBuffer (factsAt (loadedTable table) tick place) (length buffer.old))
-        × (buffer.new ≡ leftIn (sentenceMeaning result) (factsAt (loadedTable table) tick place) buffer.old) }
+    requires { Fit table × FirstMiss (loaded_table table) tick (suc place) × (tick ≤ table.horizon) × LengthsWithin table }
+    ensures { (result ≡ by_buffer (facts_at (loaded_table table) tick place) (length buffer.old))
+        × (buffer.new ≡ left_in (sentence_meaning result) (facts_at (loaded_table table) tick place) buffer.old) }
 {
     let facts = counting::count(table, tick, place);
     let mut text = [0u8; LONGEST];
     let length = writer::put(facts, &mut text);
     if buffer.len() < length {
-        return SentenceAnswer::Refused(model::numbers::SHORT_BUFFER, 0);
+        return SentenceAnswer::Refused(18, 0);
     }
     let end = text::row::copy(&text, 0, length, buffer, 0);
     SentenceAnswer::Length(end)
@@ -103,12 +103,11 @@ fn write_miss(table: Loaded, tick: u32, place: usize, buffer: &mut [u8]) -> Sent
 // The sentence of a table that passed: number 17 or 18, or its first miss.
 fn by_table(table: Loaded, buffer: &mut [u8]) -> SentenceAnswer
     requires { Fit table × LengthsWithin table }
-    ensures { (result ≡ byTable (loadedTable table) (length buffer.old))
-        × (buffer.new ≡ leftIn (sentenceMeaning result) (factsIn (loadedTable table)) buffer.old) }
+    ensures { (result ≡ by_table (loaded_table table) (length buffer.old)) × (buffer.new ≡ left_in (sentence_meaning result) (facts_in (loaded_table table)) buffer.old) }
 {
     let missed = judge::fastest::first_miss(table, table.horizon + 1);
     match missed {
-        Missed::Never => SentenceAnswer::Refused(model::numbers::NO_MISS, 0),
+        Missed::Never => SentenceAnswer::Refused(17, 0),
         Missed::At(tick, position) => write_miss(table, tick, position as usize - 1, buffer),
     }
 }
@@ -120,7 +119,7 @@ pub fn sentence(words: &[u32], buffer: &mut [u8]) -> SentenceAnswer
     let table = table::load(words);
     let answer = table.answer;
     match answer {
-        Answer::Taken => by_table(table, buffer),
+        Answer::Passed => by_table(table, buffer),
         Answer::Refused(number, position) => SentenceAnswer::Refused(number, position),
     }
 }

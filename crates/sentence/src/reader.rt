@@ -3,8 +3,8 @@ ghost use mathlib.Core.Bool.{◌&&◌, true};
 ghost use Rattle.std.specs.Prelude.{◌≡◌, ◌+◌, ◌≤◌, eqb, leb, ltb, length, drop};
 ghost use Rattle.text.specs.Output.{letters};
 ghost use Rattle.sentence.specs.Parsed.{same};
-ghost use Rattle.sentence.specs.Reading.{starts_with, digitsOf, NumberOf, FieldOf, PartsOf, HeadOf};
-ghost use Rattle.model.specs.Sizes.{mostTasks};
+ghost use Rattle.sentence.specs.Reading.{starts_with, digits_of, NumberOf, FieldOf, PartsOf, HeadOf};
+ghost use Rattle.model.specs.Sizes.{most_tasks};
 
 use model::MOST_TASKS;
 
@@ -54,7 +54,7 @@ pub fn begins_with(bytes: &[u8], at: usize, word: &[u8]) -> bool
 
 // Where the digits that begin at `at` end.
 fn digits_end(bytes: &[u8], at: usize) -> usize
-    ensures { result ≡ at + digitsOf (drop at bytes.now) }
+    ensures { result ≡ at + digits_of (drop at bytes.now) }
 {
     let mut end = at;
     while end < bytes.len() {
@@ -164,7 +164,7 @@ fn stops(bytes: &[u8], at: usize) -> bool
 
 // The parts from `from` on, and the full stop at the end.
 pub(crate) fn read_parts(bytes: &[u8], from: usize, position: u64) -> Parts
-    requires { (from ≤ length bytes.now) × (position ≤ mostTasks) }
+    requires { (from ≤ length bytes.now) × (position ≤ most_tasks) }
     ensures { PartsOf bytes.now from position result }
 {
     let mut ran = [0u64; MOST_TASKS];
@@ -195,9 +195,9 @@ pub(crate) fn read_parts(bytes: &[u8], from: usize, position: u64) -> Parts
 
 // Whether a task at such a position may be late, with this number of ticks had out of its length.
 fn may_be_late(position: u64, had: u64, length: u64) -> bool
-    ensures { result ≡ leb 1 position && (leb position mostTasks && ltb had length) }
+    ensures { result ≡ leb 1 position && (leb position most_tasks && ltb had length) }
 {
-    (1 <= position) & ((position <= MOST_TASKS as u64) & (had < length))
+    (1 <= position) & ((position <= 32) & (had < length))
 }
 
 // No sentence begins with these bytes.

@@ -2,8 +2,8 @@
 ghost use Rattle.std.specs.Prelude.{List, [], ◌∷◌, ◌++◌, ◌+◌, ◌≤◌, length};
 ghost use Rattle.text.specs.Decimal.{decimal};
 ghost use Rattle.text.specs.Written.{Put};
-ghost use Rattle.sentence.specs.Facts.{named, namedFrom, factsBy};
-ghost use Rattle.sentence.specs.Sentence.{parts, sentenceText};
+ghost use Rattle.sentence.specs.Facts.{named, named_from, facts_by};
+ghost use Rattle.sentence.specs.Sentence.{parts, sentence_text};
 
 use crate::Facts;
 use model::MOST_TASKS;
@@ -20,8 +20,8 @@ fn put_field(line: &mut [u8], at: usize, word: &[u8], number: u64) -> usize
 
 // Writes the part of the task at `place`, counted from 0, if it ran; returns where it ends.
 fn put_part(line: &mut [u8], at: usize, place: usize, count: u64) -> usize
-    requires { (place ≤ 31) × (at + length (parts (namedFrom place (count ∷ [])) []) ≤ length line.old) }
-    ensures { Put line.old at (parts (namedFrom place (count ∷ [])) []) line.new result }
+    requires { (place ≤ 31) × (at + length (parts (named_from place (count ∷ [])) []) ≤ length line.old) }
+    ensures { Put line.old at (parts (named_from place (count ∷ [])) []) line.new result }
 {
     if count == 0 {
         return at;
@@ -46,8 +46,8 @@ fn put_parts(line: &mut [u8], from: usize, ran: [u64; MOST_TASKS]) -> usize
 
 // Writes the sentence at the front of a buffer that it fits in; returns its length.
 pub fn put(facts: Facts, line: &mut [u8]) -> usize
-    requires { length (sentenceText (factsBy facts)) ≤ length line.old }
-    ensures { Put line.old 0 (sentenceText (factsBy facts)) line.new result }
+    requires { length (sentence_text (facts_by facts)) ≤ length line.old }
+    ensures { Put line.old 0 (sentence_text (facts_by facts)) line.new result }
 {
     let ran = facts.ran;
     let a = put_field(line, 0, b"task ", facts.position as u64);

@@ -10,8 +10,8 @@ use lib.ListN.{length, get_or, take, drop, length-take, length-drop}
 use lib.Seq.{take_all}
 use lib.Dec.{eqb, leb}
 use borrow.Author.Tests.{ne_eqb, leb-true, leb-false}
-use Rattle.text.specs.Format.{mostDigits, joined}
-use Rattle.text.specs.Input.{lengthTo, parseNumber}
+use Rattle.text.specs.Format.{most_digits, joined}
+use Rattle.text.specs.Input.{length_to, parse_number}
 use Rattle.text.specs.Output.{space}
 use Rattle.text.specs.declared.line.ParsedNumber.{ParsedNumber}
 use Rattle.text.specs.declared.line.ParsedNumber.TheVariants as found
@@ -23,177 +23,174 @@ use Rattle.session.specs.declared.operations.Numbers.{Numbers}
 use Rattle.session.specs.declared.operations.Numbers.TheVariants.{Bare, One, Two, Other}
 use Rattle.session.specs.declared.operations.Operation.{Operation}
 use Rattle.session.specs.declared.operations.Operation.TheVariants.{Nothing}
-use Rattle.session.specs.Operation.{noneLong, one_of, twoOf, numbersOf, numbersAfter, advanceBy, row_by, setsBy, workingBy, withdrawBy, withdrawAllBy}
-use Rattle.session.specs.Operation.{operationBy, operationOf}
+use Rattle.session.specs.Operation.{none_long, one_of, two_of, numbers_of, numbers_after, advance_by, row_by, sets_by, working_by, withdraw_by, withdraw_all_by}
+use Rattle.session.specs.Operation.{operation_by, operation_of}
 
 -- WORDS
 
 -- there is a word
 words-some : (l : List ℕ) → (w : List ℕ) × (ws : List (List ℕ)) × (words_in l ≡ w ∷ ws)
-words-some l =
-    ⊎_elim (λ e. (l, [], words-one l e)) (λ h. (take (lengthTo space l) l, words_in (drop (suc (lengthTo space l)) l), words_more l h))
-    (eq-or-lt_of_le (mark-within space l))
+words-some l = ⊎_elim (λ e. (l, [], words-one l e)) (λ h. (take (length_to space l) l, words_in (drop (suc (length_to space l)) l), words_more l h)) (eq-or-lt_of_le (mark-within space l))
 
 -- NUMBERS
 
 -- a text with a space represents no number
-spaced : (l : List ℕ) → lengthTo space l < length l → found.Nothing ≡ parseNumber l
-spaced l h = found_nothing l (λ n. omega (arith, mark-stop space l h, n.digits (lengthTo space l) h))
+spaced : (l : List ℕ) → length_to space l < length l → found.Nothing ≡ parse_number l
+spaced l h = found_nothing l (λ n. omega (arith, mark-stop space l h, n.digits (length_to space l) h))
 
-two_none : (f : ParsedNumber) → twoOf f found.Nothing ≡ Other
+two_none : (f : ParsedNumber) → two_of f found.Nothing ≡ Other
 two_none (found.Value n) = refl
 two_none found.Nothing = refl
 
 -- three words or more are no numbers
-numbers-many : (w v l : List ℕ) → numbersOf (w ∷ v ∷ words_in l) ≡ Other
-unfolding numbersOf
-numbers-many w v l = let s = words-some l in ap (λ (ls : List (List ℕ)). numbersOf (w ∷ v ∷ ls)) s.2
+numbers-many : (w v l : List ℕ) → numbers_of (w ∷ v ∷ words_in l) ≡ Other
+unfolding numbers_of
+numbers-many w v l = let s = words-some l in ap (λ (ls : List (List ℕ)). numbers_of (w ∷ v ∷ ls)) s.2
 
-numbers-last : (w l : List ℕ) → numbersOf (w ∷ words_in l) ≡ twoOf (parseNumber w) (parseNumber l)
-unfolding numbersOf
+numbers-last : (w l : List ℕ) → numbers_of (w ∷ words_in l) ≡ two_of (parse_number w) (parse_number l)
+unfolding numbers_of
 numbers-last w l = ⊎_elim whole part (eq-or-lt_of_le (mark-within space l))
   where
-    whole : lengthTo space l ≡ length l → numbersOf (w ∷ words_in l) ≡ twoOf (parseNumber w) (parseNumber l)
-    whole e = ap (λ (ls : List (List ℕ)). numbersOf (w ∷ ls)) (words-one l e)
+    whole : length_to space l ≡ length l → numbers_of (w ∷ words_in l) ≡ two_of (parse_number w) (parse_number l)
+    whole e = ap (λ (ls : List (List ℕ)). numbers_of (w ∷ ls)) (words-one l e)
 
-    part : lengthTo space l < length l → numbersOf (w ∷ words_in l) ≡ twoOf (parseNumber w) (parseNumber l)
+    part : length_to space l < length l → numbers_of (w ∷ words_in l) ≡ two_of (parse_number w) (parse_number l)
     part h =
-        ap (λ (ls : List (List ℕ)). numbersOf (w ∷ ls)) (words_more l h) ∙ numbers-many w (take (lengthTo space l) l) (drop (suc (lengthTo space l)) l)
-        ∙ sym (two_none (parseNumber w)) ∙ ap (twoOf (parseNumber w)) (spaced l h)
+        ap (λ (ls : List (List ℕ)). numbers_of (w ∷ ls)) (words_more l h) ∙ numbers-many w (take (length_to space l) l) (drop (suc (length_to space l)) l)
+        ∙ sym (two_none (parse_number w)) ∙ ap (two_of (parse_number w)) (spaced l h)
 
 -- with no space there is one number or none
-numbers-one : (l : List ℕ) → lengthTo space l ≡ length l → numbersOf (words_in l) ≡ one_of (parseNumber l)
-unfolding numbersOf
-numbers-one l e = ap numbersOf (words-one l e)
+numbers-one : (l : List ℕ) → length_to space l ≡ length l → numbers_of (words_in l) ≡ one_of (parse_number l)
+unfolding numbers_of
+numbers-one l e = ap numbers_of (words-one l e)
 
 -- else what is before the first space and what is after it are the two numbers
 numbers-two :
-    (l : List ℕ) → lengthTo space l < length l
-    → numbersOf (words_in l) ≡ twoOf (parseNumber (take (lengthTo space l) l)) (parseNumber (drop (suc (lengthTo space l)) l))
-numbers-two l h = ap numbersOf (words_more l h) ∙ numbers-last (take (lengthTo space l) l) (drop (suc (lengthTo space l)) l)
+    (l : List ℕ) → length_to space l < length l
+    → numbers_of (words_in l) ≡ two_of (parse_number (take (length_to space l) l)) (parse_number (drop (suc (length_to space l)) l))
+numbers-two l h = ap numbers_of (words_more l h) ∙ numbers-last (take (length_to space l) l) (drop (suc (length_to space l)) l)
 
 -- AFTER THE LETTER
 
-pub behind-none : (l : List ℕ) → length l ≡ 0 → Bare ≡ numbersAfter l
-unfolding numbersAfter
+pub behind-none : (l : List ℕ) → length l ≡ 0 → Bare ≡ numbers_after l
+unfolding numbers_after
 behind-none [] e = refl
 behind-none (b ∷ l) e = absurd (omega arith)
 
 -- a word after the first byte ends within the bytes
-pub word_end : (l : List ℕ) (end : ℕ) → (length l ≡ 0 → ⊥) → end ≡ 1 + lengthTo space (drop 1 l) → end ≤ length l
+pub word_end : (l : List ℕ) (end : ℕ) → (length l ≡ 0 → ⊥) → end ≡ 1 + length_to space (drop 1 l) → end ≤ length l
 word_end [] end n e = absurd (n refl)
 word_end (b ∷ l) end n e = omega (arith, e, mark-within space l)
 
-behind-space : (b : ℕ) (l : List ℕ) → b ≡ space → numbersOf (words_in l) ≡ numbersAfter (b ∷ l)
-unfolding numbersAfter
+behind-space : (b : ℕ) (l : List ℕ) → b ≡ space → numbers_of (words_in l) ≡ numbers_after (b ∷ l)
+unfolding numbers_after
 behind-space b l e = rw e
 
 pub behind-one :
-    (l : List ℕ) (end : ℕ) → (length l ≡ 0 → ⊥) → get_or l 0 0 ≡ space → end ≡ 1 + lengthTo space (drop 1 l) → end ≡ length l
-    → one_of (parseNumber (take (end - 1) (drop 1 l))) ≡ numbersAfter l
+    (l : List ℕ) (end : ℕ) → (length l ≡ 0 → ⊥) → get_or l 0 0 ≡ space → end ≡ 1 + length_to space (drop 1 l) → end ≡ length l
+    → one_of (parse_number (take (end - 1) (drop 1 l))) ≡ numbers_after l
 behind-one [] end n q e h = absurd (n refl)
 behind-one (b ∷ l) end n q e h =
-    let whole : lengthTo space l ≡ length l = omega arith in
-    ap (λ (x : List ℕ). one_of (parseNumber x)) (take_all (end - 1) l (omega arith)) ∙ sym (numbers-one l whole) ∙ behind-space b l q
+    let whole : length_to space l ≡ length l = omega arith in
+    ap (λ (x : List ℕ). one_of (parse_number x)) (take_all (end - 1) l (omega arith)) ∙ sym (numbers-one l whole) ∙ behind-space b l q
 
 pub behind-two :
-    (l : List ℕ) (end : ℕ) → (length l ≡ 0 → ⊥) → get_or l 0 0 ≡ space → end ≡ 1 + lengthTo space (drop 1 l) → (end ≡ length l → ⊥)
-    → twoOf (parseNumber (take (end - 1) (drop 1 l))) (parseNumber (take (length l - (end + 1)) (drop (end + 1) l))) ≡ numbersAfter l
+    (l : List ℕ) (end : ℕ) → (length l ≡ 0 → ⊥) → get_or l 0 0 ≡ space → end ≡ 1 + length_to space (drop 1 l) → (end ≡ length l → ⊥)
+    → two_of (parse_number (take (end - 1) (drop 1 l))) (parse_number (take (length l - (end + 1)) (drop (end + 1) l))) ≡ numbers_after l
 behind-two [] end n q e h = absurd (n refl)
 behind-two (b ∷ l) end n q e h =
-    ap₂ (λ (x y : List ℕ). twoOf (parseNumber x) (parseNumber y)) (ap (λ (i : ℕ). take i l) first)
-    (ap (λ (i : ℕ). take (length (b ∷ l) - i) (drop i (b ∷ l))) second ∙ rest)
+    ap₂ (λ (x y : List ℕ). two_of (parse_number x) (parse_number y)) (ap (λ (i : ℕ). take i l) first) (ap (λ (i : ℕ). take (length (b ∷ l) - i) (drop i (b ∷ l))) second ∙ rest)
     ∙ sym (numbers-two l part) ∙ behind-space b l q
   where
-    part : lengthTo space l < length l
+    part : length_to space l < length l
     part = omega (arith, mark-within space l, e, h)
 
-    first : end - 1 ≡ lengthTo space l
+    first : end - 1 ≡ length_to space l
     first = omega (arith, e)
 
-    second : end + 1 ≡ suc (suc (lengthTo space l))
+    second : end + 1 ≡ suc (suc (length_to space l))
     second = omega (arith, e)
 
-    rest : take (length (b ∷ l) - suc (suc (lengthTo space l))) (drop (suc (lengthTo space l)) l) ≡ drop (suc (lengthTo space l)) l
-    rest = take_all (length (b ∷ l) - suc (suc (lengthTo space l))) (drop (suc (lengthTo space l)) l) (omega (arith, length-drop (suc (lengthTo space l)) l))
+    rest : take (length (b ∷ l) - suc (suc (length_to space l))) (drop (suc (length_to space l)) l) ≡ drop (suc (length_to space l)) l
+    rest = take_all (length (b ∷ l) - suc (suc (length_to space l))) (drop (suc (length_to space l)) l) (omega (arith, length-drop (suc (length_to space l)) l))
 
-pub behind-other : (l : List ℕ) → (length l ≡ 0 → ⊥) → (get_or l 0 0 ≡ space → ⊥) → Other ≡ numbersAfter l
-unfolding numbersAfter
+pub behind-other : (l : List ℕ) → (length l ≡ 0 → ⊥) → (get_or l 0 0 ≡ space → ⊥) → Other ≡ numbers_after l
+unfolding numbers_after
 behind-other [] n q = absurd (n refl)
 behind-other (b ∷ l) n q = rw (ne_eqb b space q)
 
 -- THE OPERATION
 
-pub by-advance : (b : ℕ) (ns : Numbers) → b ≡ 97 → advanceBy ns ≡ operationBy b ns
-unfolding operationBy
+pub by-advance : (b : ℕ) (ns : Numbers) → b ≡ 97 → advance_by ns ≡ operation_by b ns
+unfolding operation_by
 by-advance b ns e = rw e
 
-pub by_row : (b : ℕ) (ns : Numbers) → b ≡ 114 → row_by ns ≡ operationBy b ns
-unfolding operationBy
+pub by_row : (b : ℕ) (ns : Numbers) → b ≡ 114 → row_by ns ≡ operation_by b ns
+unfolding operation_by
 by_row b ns e = rw e
 
-pub by-withdraw : (b : ℕ) (ns : Numbers) → b ≡ 119 → withdrawBy ns ≡ operationBy b ns
-unfolding operationBy
+pub by-withdraw : (b : ℕ) (ns : Numbers) → b ≡ 119 → withdraw_by ns ≡ operation_by b ns
+unfolding operation_by
 by-withdraw b ns e = rw e
 
-pub by-withdraw-all : (b : ℕ) (ns : Numbers) → b ≡ 87 → withdrawAllBy ns ≡ operationBy b ns
-unfolding operationBy
+pub by-withdraw-all : (b : ℕ) (ns : Numbers) → b ≡ 87 → withdraw_all_by ns ≡ operation_by b ns
+unfolding operation_by
 by-withdraw-all b ns e = rw e
 
-pub by-sets : (b : ℕ) (ns : Numbers) → b ≡ 115 → setsBy ns ≡ operationBy b ns
-unfolding operationBy
+pub by-sets : (b : ℕ) (ns : Numbers) → b ≡ 115 → sets_by ns ≡ operation_by b ns
+unfolding operation_by
 by-sets b ns e = rw e
 
-pub by-working : (b : ℕ) (ns : Numbers) → b ≡ 106 → workingBy ns ≡ operationBy b ns
-unfolding operationBy
+pub by-working : (b : ℕ) (ns : Numbers) → b ≡ 106 → working_by ns ≡ operation_by b ns
+unfolding operation_by
 by-working b ns e = rw e
 
 pub by-none :
-    (b : ℕ) (ns : Numbers) → (b ≡ 97 → ⊥) → (b ≡ 114 → ⊥) → (b ≡ 119 → ⊥) → (b ≡ 87 → ⊥) → (b ≡ 115 → ⊥) → (b ≡ 106 → ⊥) → Nothing ≡ operationBy b ns
-unfolding operationBy
+    (b : ℕ) (ns : Numbers) → (b ≡ 97 → ⊥) → (b ≡ 114 → ⊥) → (b ≡ 119 → ⊥) → (b ≡ 87 → ⊥) → (b ≡ 115 → ⊥) → (b ≡ 106 → ⊥) → Nothing ≡ operation_by b ns
+unfolding operation_by
 by-none b ns a r w v s j = rw (ne_eqb b 97 a, ne_eqb b 114 r, ne_eqb b 119 w, ne_eqb b 87 v, ne_eqb b 115 s, ne_eqb b 106 j)
 
-pub asked-empty : (l : List ℕ) → length l ≡ 0 → Nothing ≡ operationOf l
-unfolding operationOf
+pub asked-empty : (l : List ℕ) → length l ≡ 0 → Nothing ≡ operation_of l
+unfolding operation_of
 asked-empty [] e = refl
 asked-empty (b ∷ l) e = absurd (omega arith)
 
-pub asked_by : (l : List ℕ) → (length l ≡ 0 → ⊥) → operationBy (get_or l 0 0) (numbersAfter (take (length l - 1) (drop 1 l))) ≡ operationOf l
-unfolding operationOf
+pub asked_by : (l : List ℕ) → (length l ≡ 0 → ⊥) → operation_by (get_or l 0 0) (numbers_after (take (length l - 1) (drop 1 l))) ≡ operation_of l
+unfolding operation_of
 asked_by [] n = absurd (n refl)
-asked_by (b ∷ l) n = ap (λ (x : List ℕ). operationBy b (numbersAfter x)) (take_all (length (b ∷ l) - 1) l (omega arith))
+asked_by (b ∷ l) n = ap (λ (x : List ℕ). operation_by b (numbers_after x)) (take_all (length (b ∷ l) - 1) l (omega arith))
 
 -- A LINE THAT IS TOO LONG
 
 -- two numbers and the space between them have at most 21 bytes
-numbers-long : (l : List ℕ) → 2 * mostDigits + 1 < length l → numbersOf (words_in l) ≡ Other
+numbers-long : (l : List ℕ) → 2 * most_digits + 1 < length l → numbers_of (words_in l) ≡ Other
 numbers-long l h = ⊎_elim whole part (eq-or-lt_of_le (mark-within space l))
   where
-    none : (w : List ℕ) → mostDigits < length w → found.Nothing ≡ parseNumber w
+    none : (w : List ℕ) → most_digits < length w → found.Nothing ≡ parse_number w
     none w q = found_nothing w (λ n. omega (arith, q, n.short))
 
-    whole : lengthTo space l ≡ length l → numbersOf (words_in l) ≡ Other
+    whole : length_to space l ≡ length l → numbers_of (words_in l) ≡ Other
     whole e = numbers-one l e ∙ ap one_of (sym (none l (omega (arith, h))))
 
-    part : lengthTo space l < length l → numbersOf (words_in l) ≡ Other
-    part q = numbers-two l q ∙ go (leb (lengthTo space l) mostDigits) refl
+    part : length_to space l < length l → numbers_of (words_in l) ≡ Other
+    part q = numbers-two l q ∙ go (leb (length_to space l) most_digits) refl
       where
         first : List ℕ
-        first = take (lengthTo space l) l
+        first = take (length_to space l) l
 
         second : List ℕ
-        second = drop (suc (lengthTo space l)) l
+        second = drop (suc (length_to space l)) l
 
-        go : (t : Bool) → leb (lengthTo space l) mostDigits ≡ t → twoOf (parseNumber first) (parseNumber second) ≡ Other
+        go : (t : Bool) → leb (length_to space l) most_digits ≡ t → two_of (parse_number first) (parse_number second) ≡ Other
         go true e =
-            let s = leb-true (lengthTo space l) mostDigits e in
-            ap (twoOf (parseNumber first)) (sym (none second (omega (arith, h, s, length-drop (suc (lengthTo space l)) l)))) ∙ two_none (parseNumber first)
+            let s = leb-true (length_to space l) most_digits e in
+            ap (two_of (parse_number first)) (sym (none second (omega (arith, h, s, length-drop (suc (length_to space l)) l)))) ∙ two_none (parse_number first)
         go false e =
-            let s = leb-false (lengthTo space l) mostDigits e in
-            ap (λ (f : ParsedNumber). twoOf f (parseNumber second)) (sym (none first (omega (arith, q, s, length-take (lengthTo space l) l))))
+            let s = leb-false (length_to space l) most_digits e in
+            ap (λ (f : ParsedNumber). two_of f (parse_number second)) (sym (none first (omega (arith, q, s, length-take (length_to space l) l))))
 
-by-other : (b : ℕ) → operationBy b Other ≡ Nothing
-unfolding operationBy
+by-other : (b : ℕ) → operation_by b Other ≡ Nothing
+unfolding operation_by
 by-other b = go (eqb b 97) (eqb b 114) (eqb b 119) (eqb b 87) (eqb b 115) (eqb b 106)
   where
     go : (t u v w x y : Bool) → cond t Nothing (cond u Nothing (cond v Nothing (cond w Nothing (cond x Nothing (cond y Nothing Nothing))))) ≡ Nothing
@@ -206,12 +203,12 @@ by-other b = go (eqb b 97) (eqb b 114) (eqb b 119) (eqb b 87) (eqb b 115) (eqb b
     go false false false false false false = refl
 
 -- an operation has at most 23 bytes: a letter, and twice a space and ten digits
-pub long-none : (l : List ℕ) → noneLong ≤ length l → operationOf l ≡ Nothing
-unfolding operationOf numbersAfter
+pub long-none : (l : List ℕ) → none_long ≤ length l → operation_of l ≡ Nothing
+unfolding operation_of numbers_after
 long-none [] h = absurd (not-suc-le-zero h)
 long-none (a ∷ []) h = absurd (not-suc-le-zero (le_of_suc-le-suc h))
-long-none (a ∷ b ∷ l) h = ap (operationBy a) (go (eqb b space)) ∙ by-other a
+long-none (a ∷ b ∷ l) h = ap (operation_by a) (go (eqb b space)) ∙ by-other a
   where
-    go : (t : Bool) → cond t (numbersOf (words_in l)) Other ≡ Other
+    go : (t : Bool) → cond t (numbers_of (words_in l)) Other ≡ Other
     go true = numbers-long l (omega (arith, h))
     go false = refl

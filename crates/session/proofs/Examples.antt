@@ -4,140 +4,167 @@ use mathlib.Core.List.{List, [], ◌∷◌, map}
 use mathlib.Core.Path.{◌≡◌, refl}
 use Prim.Native.Nat.{ℕ}
 use Prim.Native.String.{String}
-use lib.ListN.{replicate}
-use Rattle.model.proofs.Computing.{Computes, computing}
+use lib.ListN.{drop, replicate}
+use Rattle.model.proofs.Computing.{computing}
+use Rattle.model.proofs.LineByLine.{LineByLine, by-line}
 use Rattle.phase.specs.declared.Phase.TheVariants as phase
 use Rattle.phase.specs.declared.Task.{Task}
 use Rattle.phase.specs.Task.{unused}
 use Rattle.run.specs.declared.Run.{Run}
-use Rattle.run.specs.Run.{grantsIn, lentIn, mapFirst, moved, offerIn, seeksIn, withdrawnIn}
-use Rattle.run.specs.Numbers.{pastCount, runOut, firstLateIn, wrongEmptiesIn, wrongReportsIn}
-use Rattle.run.specs.Advance.{advanceAnswer, advanceOf}
-use Rattle.run.specs.Withdraw.{withdrawAnswer, withdrawOf, withdrawAllOf}
-use Rattle.run.specs.Row.{rowAnswer, bytesIn, row_of}
-use Rattle.run.specs.Sets.{setsIn, setsOf}
-use Rattle.run.specs.Working.{workingOf}
-use Rattle.model.specs.Working.{setWhere}
-use Rattle.text.specs.Decimal.{all, value, decimal, lastDigits, digitCount, digitsWithin}
+use Rattle.run.specs.Run.{grants_in, lent_in, map_first, moved, offer_in, seeks_in, withdrawn_in}
+use Rattle.run.specs.Numbers.{past_count, run_out, first_late_in, wrong_empties_in, wrong_reports_in}
+use Rattle.run.specs.Advance.{advance_answer, advance_of}
+use Rattle.run.specs.Withdraw.{withdraw_answer, withdraw_of, withdraw_all_of}
+use Rattle.run.specs.Row.{row_answer, bytes_in, row_of}
+use Rattle.run.specs.Sets.{sets_in, sets_of}
+use Rattle.run.specs.Working.{working_of}
+use Rattle.model.specs.Working.{set_where}
+use Rattle.text.specs.Decimal.{all, value, decimal, last_digits, digit_count, digits_within}
 use Rattle.text.specs.Format.{is_number}
 use Rattle.text.specs.Output.{letters, fields, line_of}
-use Rattle.splitter.specs.Split.{nothing, lastLine, lines_from}
+use Rattle.splitter.specs.Split.{nothing, last_line, lines_from}
 use Rattle.splitter.specs.Words.{words_in}
+use Rattle.session.specs.declared.operations.Operation.{Operation}
 use Rattle.session.specs.declared.operations.Operation.TheVariants.{Advance, Withdraw, WithdrawAll, Row, Sets, Working, Nothing}
-use Rattle.session.specs.Operation.{numbersOf, numbersAfter, operationBy, operationOf, word_line, answerLine, shownLine, setsLine, workingLine, reply}
-use Rattle.session.specs.Operation.{runAfter}
+use Rattle.session.specs.Operation.{numbers_of, numbers_after, operation_by, operation_of, word_line, answer_line, shown_line, sets_line, working_line, reply, run_after}
 use Rattle.session.specs.Transcript.{replies}
 
 -- THE OPERATION OF A LINE
 
--- lines, each with the operation that it is
-pub lines-asked : Computes (λ s. operationOf (letters s)) (
-    ("a 1", Advance 1 0)
-    ∷ ("a 1 2", Advance 1 2)
-    ∷ ("r", Row 0)
-    ∷ ("r 1", Row 1)
-    ∷ ("w 1", Withdraw 1)
-    ∷ ("W 1", WithdrawAll 1)
-    ∷ ("s", Sets 0)
-    ∷ ("s 1", Sets 1)
-    ∷ ("j", Working 0)
-    ∷ ("j 1", Working 1)
+-- a line and the operation that it is
+pub record Line : Type 0 where
+  pub text : String
+  pub operation : Operation
+
+abbrev asks : String → Operation → Line
+asks s o = record { text = s; operation = o }
+
+abbrev pub lines : List Line
+lines =
+    asks "a 1" (Advance 1 0)
+    ∷ asks "a 1 2" (Advance 1 2)
+    ∷ asks "r" (Row 0)
+    ∷ asks "r 1" (Row 1)
+    ∷ asks "w 1" (Withdraw 1)
+    ∷ asks "W 1" (WithdrawAll 1)
+    ∷ asks "s" (Sets 0)
+    ∷ asks "s 1" (Sets 1)
+    ∷ asks "j" (Working 0)
+    ∷ asks "j 1" (Working 1)
     -- a letter is needed, and it is the first byte
-    ∷ ("", Nothing)
-    ∷ (" ", Nothing)
-    ∷ (" r", Nothing)
-    ∷ (" a 1", Nothing)
-    ∷ ("1", Nothing)
-    ∷ ("A 1", Nothing)
-    ∷ ("R", Nothing)
-    ∷ ("V 1", Nothing)
-    ∷ ("wW 1", Nothing)
-    ∷ ("S", Nothing)
-    ∷ ("--", Nothing)
+    ∷ asks "" Nothing
+    ∷ asks " " Nothing
+    ∷ asks " r" Nothing
+    ∷ asks " a 1" Nothing
+    ∷ asks "1" Nothing
+    ∷ asks "A 1" Nothing
+    ∷ asks "R" Nothing
+    ∷ asks "V 1" Nothing
+    ∷ asks "wW 1" Nothing
+    ∷ asks "S" Nothing
+    ∷ asks "--" Nothing
     -- an advance has one number or two, a row none or one, as sets too, a withdrawal, of a position or of a set, one
-    ∷ ("a", Nothing)
-    ∷ ("a 1 2 3", Nothing)
-    ∷ ("r 1 2", Nothing)
-    ∷ ("s 1 2", Nothing)
-    ∷ ("j 1 2", Nothing)
-    ∷ ("J", Nothing)
-    ∷ ("w", Nothing)
-    ∷ ("w 1 2", Nothing)
-    ∷ ("W", Nothing)
-    ∷ ("W 1 2", Nothing)
+    ∷ asks "a" Nothing
+    ∷ asks "a 1 2 3" Nothing
+    ∷ asks "r 1 2" Nothing
+    ∷ asks "s 1 2" Nothing
+    ∷ asks "j 1 2" Nothing
+    ∷ asks "J" Nothing
+    ∷ asks "w" Nothing
+    ∷ asks "w 1 2" Nothing
+    ∷ asks "W" Nothing
+    ∷ asks "W 1 2" Nothing
     -- one space before each number, and nothing after the last
-    ∷ ("a ", Nothing)
-    ∷ ("a  1", Nothing)
-    ∷ ("a 1 ", Nothing)
-    ∷ ("a 1  2", Nothing)
-    ∷ ("a 1 2 ", Nothing)
-    ∷ ("r ", Nothing)
-    ∷ ("r  1", Nothing)
-    ∷ ("r 1 ", Nothing)
-    ∷ ("s ", Nothing)
-    ∷ ("s1", Nothing)
-    ∷ ("j ", Nothing)
-    ∷ ("j1", Nothing)
-    ∷ ("w ", Nothing)
-    ∷ ("w  1", Nothing)
-    ∷ ("w 1 ", Nothing)
-    ∷ ("W ", Nothing)
-    ∷ ("W  1", Nothing)
-    ∷ ("W 1 ", Nothing)
-    ∷ ("a1", Nothing)
-    ∷ ("a1 2", Nothing)
-    ∷ ("r1", Nothing)
-    ∷ ("w1", Nothing)
-    ∷ ("W1", Nothing)
-    ∷ ("ar 1", Nothing)
-    ∷ ("a\t1", Nothing)
-    ∷ ("a 1,2", Nothing)
+    ∷ asks "a " Nothing
+    ∷ asks "a  1" Nothing
+    ∷ asks "a 1 " Nothing
+    ∷ asks "a 1  2" Nothing
+    ∷ asks "a 1 2 " Nothing
+    ∷ asks "r " Nothing
+    ∷ asks "r  1" Nothing
+    ∷ asks "r 1 " Nothing
+    ∷ asks "s " Nothing
+    ∷ asks "s1" Nothing
+    ∷ asks "j " Nothing
+    ∷ asks "j1" Nothing
+    ∷ asks "w " Nothing
+    ∷ asks "w  1" Nothing
+    ∷ asks "w 1 " Nothing
+    ∷ asks "W " Nothing
+    ∷ asks "W  1" Nothing
+    ∷ asks "W 1 " Nothing
+    ∷ asks "a1" Nothing
+    ∷ asks "a1 2" Nothing
+    ∷ asks "r1" Nothing
+    ∷ asks "w1" Nothing
+    ∷ asks "W1" Nothing
+    ∷ asks "ar 1" Nothing
+    ∷ asks "a\t1" Nothing
+    ∷ asks "a 1,2" Nothing
     -- digits alone
-    ∷ ("a +1", Nothing)
-    ∷ ("a 1 -2", Nothing)
-    ∷ ("a r", Nothing)
-    ∷ ("r\r", Nothing)
-    ∷ ("w 1\r", Nothing)
-    ∷ ("W 1\r", Nothing)
-    ∷ ("a 1\r", Nothing)
-    ∷ ("a 1 2\r", Nothing)
+    ∷ asks "a +1" Nothing
+    ∷ asks "a 1 -2" Nothing
+    ∷ asks "a r" Nothing
+    ∷ asks "r\r" Nothing
+    ∷ asks "w 1\r" Nothing
+    ∷ asks "W 1\r" Nothing
+    ∷ asks "a 1\r" Nothing
+    ∷ asks "a 1 2\r" Nothing
     -- one to ten digits, zeros in front among them
-    ∷ ("a 0000000001 0000000002", Advance 1 2)
-    ∷ ("r 0000000003", Row 3)
-    ∷ ("a 00000000001", Nothing)
-    ∷ ("a 00000000001 2", Nothing)
-    ∷ ("a 1 00000000002", Nothing)
-    ∷ ("r 00000000003", Nothing)
-    ∷ ("w 0000000004", Withdraw 4)
-    ∷ ("w 00000000004", Nothing)
-    ∷ ("W 0000000005", WithdrawAll 5)
-    ∷ ("W 00000000005", Nothing)
+    ∷ asks "a 0000000001 0000000002" (Advance 1 2)
+    ∷ asks "r 0000000003" (Row 3)
+    ∷ asks "a 00000000001" Nothing
+    ∷ asks "a 00000000001 2" Nothing
+    ∷ asks "a 1 00000000002" Nothing
+    ∷ asks "r 00000000003" Nothing
+    ∷ asks "w 0000000004" (Withdraw 4)
+    ∷ asks "w 00000000004" Nothing
+    ∷ asks "W 0000000005" (WithdrawAll 5)
+    ∷ asks "W 00000000005" Nothing
     -- up to 4,294,967,295
-    ∷ ("a 4294967295", Advance 4294967295 0)
-    ∷ ("a 4294967296", Nothing)
-    ∷ ("a 0 4294967295", Advance 0 4294967295)
-    ∷ ("a 0 4294967296", Nothing)
-    ∷ ("a 4294967296 0", Nothing)
-    ∷ ("r 4294967295", Row 4294967295)
-    ∷ ("r 4294967296", Nothing)
-    ∷ ("s 4294967295", Sets 4294967295)
-    ∷ ("s 4294967296", Nothing)
-    ∷ ("j 4294967295", Working 4294967295)
-    ∷ ("j 4294967296", Nothing)
-    ∷ ("w 0", Withdraw 0)
-    ∷ ("w 4294967295", Withdraw 4294967295)
-    ∷ ("w 4294967296", Nothing)
-    ∷ ("W 0", WithdrawAll 0)
-    ∷ ("W 4294967295", WithdrawAll 4294967295)
-    ∷ ("W 4294967296", Nothing)
+    ∷ asks "a 4294967295" (Advance 4294967295 0)
+    ∷ asks "a 4294967296" Nothing
+    ∷ asks "a 0 4294967295" (Advance 0 4294967295)
+    ∷ asks "a 0 4294967296" Nothing
+    ∷ asks "a 4294967296 0" Nothing
+    ∷ asks "r 4294967295" (Row 4294967295)
+    ∷ asks "r 4294967296" Nothing
+    ∷ asks "s 4294967295" (Sets 4294967295)
+    ∷ asks "s 4294967296" Nothing
+    ∷ asks "j 4294967295" (Working 4294967295)
+    ∷ asks "j 4294967296" Nothing
+    ∷ asks "w 0" (Withdraw 0)
+    ∷ asks "w 4294967295" (Withdraw 4294967295)
+    ∷ asks "w 4294967296" Nothing
+    ∷ asks "W 0" (WithdrawAll 0)
+    ∷ asks "W 4294967295" (WithdrawAll 4294967295)
+    ∷ asks "W 4294967296" Nothing
     -- the longest operation has 23 bytes; one byte more is none
-    ∷ ("a 4294967295 4294967295", Advance 4294967295 4294967295)
-    ∷ ("a 4294967295 42949672950", Nothing)
-    ∷ ("a 4294967295 4294967295 ", Nothing)
-    ∷ ("a 4294967295  4294967295", Nothing)
-    ∷ [])
-unfolding operationOf operationBy numbersAfter numbersOf words_in is_number all value
-lines-asked = refl
+    ∷ asks "a 4294967295 4294967295" (Advance 4294967295 4294967295)
+    ∷ asks "a 4294967295 42949672950" Nothing
+    ∷ asks "a 4294967295 4294967295 " Nothing
+    ∷ asks "a 4294967295  4294967295" Nothing
+    ∷ []
+
+-- the value by the definitions of a line; it is named by its text
+abbrev worked : Line → Line
+worked l = asks l.text (operation_of (letters l.text))
+
+each_line : LineByLine worked lines lines
+unfolding operation_of operation_by numbers_after numbers_of words_in is_number all value
+each_line =
+    let past-80 : LineByLine worked (drop 80 lines) (drop 80 lines) =
+    (refl, (refl, (refl, (refl, (refl, (refl, (refl, (refl, (refl, (refl, (refl, (refl, (refl, (refl, (refl, (refl, tt)))))))))))))))) in
+    let past-60 : LineByLine worked (drop 60 lines) (drop 60 lines) =
+    (refl, (refl, (refl, (refl, (refl, (refl, (refl, (refl, (refl, (refl, (refl, (refl, (refl, (refl, (refl, (refl, (refl, (refl, (refl, (refl, past-80)))))))))))))))))))) in
+    let past-40 : LineByLine worked (drop 40 lines) (drop 40 lines) =
+    (refl, (refl, (refl, (refl, (refl, (refl, (refl, (refl, (refl, (refl, (refl, (refl, (refl, (refl, (refl, (refl, (refl, (refl, (refl, (refl, past-60)))))))))))))))))))) in
+    let past-20 : LineByLine worked (drop 20 lines) (drop 20 lines) =
+    (refl, (refl, (refl, (refl, (refl, (refl, (refl, (refl, (refl, (refl, (refl, (refl, (refl, (refl, (refl, (refl, (refl, (refl, (refl, (refl, past-40)))))))))))))))))))) in
+    (refl, (refl, (refl, (refl, (refl, (refl, (refl, (refl, (refl, (refl, (refl, (refl, (refl, (refl, (refl, (refl, (refl, (refl, (refl, (refl, past-20))))))))))))))))))))
+
+pub lines-asked : map (λ l. asks l.text (operation_of (letters l.text))) lines ≡ lines
+lines-asked = by-line worked lines lines each_line
 
 -- THE REPLIES
 
@@ -170,52 +197,47 @@ pub record TranscriptExample : Type 0 where
   pub input : String
   pub output : String
 
-abbrev transcriptExample : Run → String → String → TranscriptExample
-transcriptExample r i o = record { from = r; input = i; output = o }
+abbrev transcript_example : Run → String → String → TranscriptExample
+transcript_example r i o = record { from = r; input = i; output = o }
 
 abbrev pub transcripts : List TranscriptExample
 transcripts =
     -- a row asked with empties shows the task that has the core then, and changes nothing
-    transcriptExample pair "r\nr 1\nr 2\nr 3\nr 4\nr" "row 1\nrow 2\nrow 1\nrow 0\nrefused 20 0\nrow 1\n"
+    transcript_example pair "r\nr 1\nr 2\nr 3\nr 4\nr" "row 1\nrow 2\nrow 1\nrow 0\nrefused 20 0\nrow 1\n"
     -- reports are the first number and empties the second
-    ∷ transcriptExample pair "a 2\na 1 1\na 2 1\nr\na 0 1\na 0\nr" "refused 16 0\nrefused 16 0\ntaken\nrow 0\nrefused 20 0\ntaken\nrow 1\n"
-    ∷ transcriptExample pair "a 1 2\nr" "taken\nrow 0\n"
-    ∷ transcriptExample pair "a 1\nr" "taken\nrow 2\n"
+    ∷ transcript_example pair "a 2\na 1 1\na 2 1\nr\na 0 1\na 0\nr" "refused 16 0\nrefused 16 0\ntaken\nrow 0\nrefused 20 0\ntaken\nrow 1\n"
+    ∷ transcript_example pair "a 1 2\nr" "taken\nrow 0\n"
+    ∷ transcript_example pair "a 1\nr" "taken\nrow 2\n"
     -- withdrawn in the release tick: the job is empty at once, and so is the next; an empty bit on it, and withdrawing it again, change nothing
-    ∷ transcriptExample pair "w 1\nr\nw 1\nr 1\na 1\na 2 1\nr\na 0\nr\nw 2\nr"
-    "taken\nrow 2\ntaken\nrow 2\nrefused 16 0\ntaken\nrow 0\ntaken\nrow 2\ntaken\nrow 0\n"
+    ∷ transcript_example pair "w 1\nr\nw 1\nr 1\na 1\na 2 1\nr\na 0\nr\nw 2\nr" "taken\nrow 2\ntaken\nrow 2\nrefused 16 0\ntaken\nrow 0\ntaken\nrow 2\ntaken\nrow 0\n"
     -- withdrawn a tick later: the job goes on, and the next is empty
-    ∷ transcriptExample pair "a 0\nw 2\nr\na 0\na 0\nr" "taken\ntaken\nrow 2\ntaken\ntaken\nrow 0\n"
+    ∷ transcript_example pair "a 0\nw 2\nr\na 0\na 0\nr" "taken\ntaken\nrow 2\ntaken\ntaken\nrow 0\n"
     -- no position 0 and none past the count; what is refused changes nothing
-    ∷ transcriptExample pair "w 0\nw 3\nw 4294967295\nr" "refused 22 0\nrefused 22 0\nrefused 22 0\nrow 1\n"
-    ∷ transcriptExample falling "w 1\nw 0\nr" "refused 21 0\nrefused 21 0\nrow 1 1\n"
+    ∷ transcript_example pair "w 0\nw 3\nw 4294967295\nr" "refused 22 0\nrefused 22 0\nrefused 22 0\nrow 1\n"
+    ∷ transcript_example falling "w 1\nw 0\nr" "refused 21 0\nrefused 21 0\nrow 1 1\n"
     -- both together, in the release tick and a tick later; the empty set changes nothing, and a set with a position past the count withdraws none
-    ∷ transcriptExample pair "W 3\nr\nW 1\nW 0\nr\na 0\na 0\nr" "taken\nrow 0\ntaken\ntaken\nrow 0\ntaken\ntaken\nrow 0\n"
-    ∷ transcriptExample pair "a 0\nW 3\nr\na 0\na 0\nr" "taken\ntaken\nrow 2\ntaken\ntaken\nrow 0\n"
-    ∷ transcriptExample pair "W 0\nr\nW 5\nW 4294967295\nr\nw 1\nW 2\nr" "taken\nrow 1\nrefused 22 0\nrefused 22 0\nrow 1\ntaken\ntaken\nrow 0\n"
-    ∷ transcriptExample falling "W 0\nW 1\nW 4\nr" "refused 21 0\nrefused 21 0\nrefused 21 0\nrow 1 1\n"
-    ∷ transcriptExample none "a 0\nw 1\nW 0\nr\na 1 2" "refused 14 0\nrefused 14 0\nrefused 14 0\nrefused 14 0\nrefused 14 0\n"
+    ∷ transcript_example pair "W 3\nr\nW 1\nW 0\nr\na 0\na 0\nr" "taken\nrow 0\ntaken\ntaken\nrow 0\ntaken\ntaken\nrow 0\n"
+    ∷ transcript_example pair "a 0\nW 3\nr\na 0\na 0\nr" "taken\ntaken\nrow 2\ntaken\ntaken\nrow 0\n"
+    ∷ transcript_example pair "W 0\nr\nW 5\nW 4294967295\nr\nw 1\nW 2\nr" "taken\nrow 1\nrefused 22 0\nrefused 22 0\nrow 1\ntaken\ntaken\nrow 0\n"
+    ∷ transcript_example falling "W 0\nW 1\nW 4\nr" "refused 21 0\nrefused 21 0\nrefused 21 0\nrow 1 1\n"
+    ∷ transcript_example none "a 0\nw 1\nW 0\nr\na 1 2" "refused 14 0\nrefused 14 0\nrefused 14 0\nrefused 14 0\nrefused 14 0\n"
     -- each release turns to the other width, that of an empty job too
-    ∷ transcriptExample alternating "r\na 0\nr\na 0\nr\na 0 1\na 0\nr\na 0\na 0\nr"
-    "row 1 0\ntaken\nrow 0 0\ntaken\nrow 1 1\ntaken\ntaken\nrow 1 0\ntaken\ntaken\nrow 1 1\n"
+    ∷ transcript_example alternating "r\na 0\nr\na 0\nr\na 0 1\na 0\nr\na 0\na 0\nr" "row 1 0\ntaken\nrow 0 0\ntaken\nrow 1 1\ntaken\ntaken\nrow 1 0\ntaken\ntaken\nrow 1 1\n"
     -- under rule 4 an empty job lends its cores: the row shows the borrower, which may be reported; the lender may not
-    ∷ transcriptExample lending "s\nr\nr 1\na 2\na 1 1\na 2 1\nr"
-    "sets 3 0 0 0 0 0 0 0 0 0 0 0 0 0 0 0 0 0 0 0 0 0 0 0 0 0 0 0 0 0 0 0\nrow 1 1\nrow 2 1\nrefused 16 0\nrefused 16 0\ntaken\nrow 2 0\n"
+    ∷ transcript_example lending "r\nr 1\na 2\na 1 1\na 2 1\nr" "row 1 1\nrow 2 1\nrefused 16 0\nrefused 16 0\ntaken\nrow 2 0\n"
     -- the same as sets: the lender keeps what it has not lent; a refusal has no sets; and nothing changes
-    ∷ transcriptExample lending "s 1\ns 4\nr"
-    "sets 2 1 0 0 0 0 0 0 0 0 0 0 0 0 0 0 0 0 0 0 0 0 0 0 0 0 0 0 0 0 0 0\nrefused 20 0\nrow 1 1\n"
-    ∷ transcriptExample none "s" "refused 14 0\n"
-    -- which positions work: the borrower and not the lender, whose set has a core; a refusal has no set; and nothing changes
-    ∷ transcriptExample lending "j\nj 1\nj 4\nr\na 1\nj\na 2\nj" "working 1\nworking 2\nrefused 20 0\nrow 1 1\ntaken\nworking 2\ntaken\nworking 1\n"
-    ∷ transcriptExample none "j" "refused 14 0\n"
+    ∷ transcript_example lending "s\ns 1\ns 4\nr"
+    "sets 3 0 0 0 0 0 0 0 0 0 0 0 0 0 0 0 0 0 0 0 0 0 0 0 0 0 0 0 0 0 0 0\nsets 2 1 0 0 0 0 0 0 0 0 0 0 0 0 0 0 0 0 0 0 0 0 0 0 0 0 0 0 0 0 0 0\nrefused 20 0\nrow 1 1\n"
+    ∷ transcript_example none "s" "refused 14 0\n"
+    -- who works: the borrower and not the lender, whose set has a core; a refusal has no set; and nothing changes
+    ∷ transcript_example lending "j\nj 1\nj 4\nr\na 1\nj\na 2\nj" "working 1\nworking 2\nrefused 20 0\nrow 1 1\ntaken\nworking 2\ntaken\nworking 1\n"
+    ∷ transcript_example none "j" "refused 14 0\n"
     -- after a line that is no operation nothing is written
-    ∷ transcriptExample pair "r 1 2\nr\n" "not an operation\n"
+    ∷ transcript_example pair "r 1 2\nr\n" "not an operation\n"
     ∷ []
 
 pub transcripts-exact : map (λ t. replies t.from (lines_from nothing [] (letters t.input))) transcripts ≡ map (λ t. letters t.output) transcripts
-unfolding replies lines_from lastLine reply runAfter word_line answerLine shownLine setsLine workingLine operationOf operationBy numbersAfter numbersOf words_in
-    is_number all value line_of fields
-    decimal lastDigits digitCount digitsWithin computing advanceOf advanceAnswer withdrawOf withdrawAllOf withdrawAnswer row_of rowAnswer bytesIn setsOf setsIn
-    workingOf setWhere pastCount runOut
-    firstLateIn wrongEmptiesIn wrongReportsIn grantsIn lentIn offerIn seeksIn mapFirst moved withdrawnIn
+unfolding replies lines_from last_line reply run_after word_line answer_line shown_line sets_line working_line operation_of operation_by numbers_after numbers_of words_in is_number all value line_of fields
+    decimal last_digits digit_count digits_within computing advance_of advance_answer withdraw_of withdraw_all_of withdraw_answer row_of row_answer bytes_in sets_of sets_in working_of set_where past_count run_out
+    first_late_in wrong_empties_in wrong_reports_in grants_in lent_in offer_in seeks_in map_first moved withdrawn_in
 transcripts-exact = refl

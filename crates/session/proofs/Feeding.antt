@@ -8,7 +8,7 @@ use native.Mathlib.Omega.{arith}
 use lib.ListN.{length, take, drop}
 use lib.Seq.{take_all}
 use Rattle.splitter.specs.declared.Part.{Part}
-use Rattle.splitter.specs.Split.{tooMany, InputEnd, nothing, unknown, lines_from, split, growing}
+use Rattle.splitter.specs.Split.{too_many, InputEnd, nothing, unknown, lines_from, split, growing}
 use Rattle.splitter.specs.Parts.{Comes, goes, end_of, OneLine, LineOf, TableOf}
 use Rattle.splitter.proofs.Splits.{lines_none, lines-waits}
 use Rattle.splitter.proofs.Lines.{empty_of}
@@ -20,12 +20,11 @@ use Rattle.session.specs.declared.Fed.{Fed}
 use Rattle.session.specs.declared.open.Opened.{Opened}
 use Rattle.session.specs.declared.operations.Operation.{Operation}
 use Rattle.session.specs.declared.operations.Operation.TheVariants.{Nothing}
-use Rattle.session.specs.Operation.{noneLong, operationOf, reply, runAfter, is_last}
-use Rattle.session.specs.Transcript.{replies, opened, answersTo}
-use Rattle.session.specs.Session.{transcriptIn, transcriptOf, IsPrefix, FedBy, FedOf, stageAfter, TextWritten, OpenedOf, fedWith}
+use Rattle.session.specs.Operation.{none_long, operation_of, reply, run_after, is_last}
+use Rattle.session.specs.Transcript.{replies, opened, answers_to}
+use Rattle.session.specs.Session.{transcript_in, transcript_of, IsPrefix, FedBy, FedOf, stage_after, TextWritten, OpenedOf, fed_with}
 use Rattle.session.proofs.Asking.{long-none}
-use Rattle.session.proofs.Transcripts.{begins-with, all-opened, due-opened, due-none, noOperation, replies-none, replies-long, replies-due}
-use Rattle.session.proofs.Transcripts.{replies-line, replies-last}
+use Rattle.session.proofs.Transcripts.{begins-with, all-opened, due-opened, due-none, no_operation, replies-none, replies-long, replies-due, replies-line, replies-last}
 
 -- where the input has not ended anything may come
 any : {ended : Bool} {e : InputEnd} {more : List ℕ} → ended ≡ false → Comes ended e more
@@ -37,13 +36,13 @@ no_bytes [] n m z = refl
 no_bytes (b ∷ bytes) n m z = absurd (omega (arith, m (omega arith), z))
 
 -- no bytes have no replies
-none-replied : (r : Run) (e : InputEnd) → transcriptIn Operations r e [] ≡ []
+none-replied : (r : Run) (e : InputEnd) → transcript_in Operations r e [] ≡ []
 none-replied r e = ap (replies r) (lines_none e) ∙ replies-none r
 
 -- nothing is taken and nothing is written
 waits :
-    (stage : Stage) (run : Run) (ended : Bool) (bytes before : List ℕ) → transcriptIn stage run (end_of ended) bytes ≡ [] → length bytes < tooMany
-    → FedBy (transcriptIn stage run) ended bytes before before (fedWith stage run 0 0)
+    (stage : Stage) (run : Run) (ended : Bool) (bytes before : List ℕ) → transcript_in stage run (end_of ended) bytes ≡ [] → length bytes < too_many
+    → FedBy (transcript_in stage run) ended bytes before before (fed_with stage run 0 0)
 waits stage run ended bytes before e h = record {
   taken = omega arith;
   room = omega arith;
@@ -56,7 +55,7 @@ waits stage run ended bytes before e h = record {
 }
 
 -- a session that is over writes nothing
-pub over-fed : (run : Run) (ended : Bool) (bytes before : List ℕ) → FedBy (transcriptIn Over run) ended bytes before before (fedWith Over run (length bytes) 0)
+pub over-fed : (run : Run) (ended : Bool) (bytes before : List ℕ) → FedBy (transcript_in Over run) ended bytes before before (fed_with Over run (length bytes) 0)
 over-fed run ended bytes before = record {
   taken = omega arith;
   room = omega arith;
@@ -73,64 +72,56 @@ over-fed run ended bytes before = record {
 module _ (run : Run) (ended : Bool) (bytes before after : List ℕ) (p : Part) (w : TableOf bytes ended p) where
   -- its text is answered
   pub table-fed :
-      (o : Opened) (stage : Stage) → p.whole ≡ true → OpenedOf (take p.end bytes) before after o → stage ≡ stageAfter o.over
-      → FedBy (transcriptIn Table run) ended bytes before after (fedWith stage o.run p.next o.length)
-  table-fed o stage h b g =
-      subst⁻¹ (λ (x : Stage). FedBy (transcriptIn Table run) ended bytes before after (fedWith x o.run p.next o.length)) g (record {
-        taken = w.next;
-        room = b.room;
-        same = b.same;
-        behind = b.behind;
-        text = λ more c. all-opened (split nothing (bytes ++ more)) (take p.end bytes) _ (w.text h nothing more c) ∙ answered nothing more;
-        at_once =
-            λ f more. subst (IsPrefix (answersTo (split unknown (bytes ++ more)))) (answered unknown more)
-            (due-opened (split unknown (bytes ++ more)) (take p.end bytes) _ (w.text h unknown more (any f)));
-        rest = λ z. ap (transcriptIn (stageAfter o.over) o.run (end_of ended)) (no_bytes bytes p.next w.moves z) ∙ left o.over;
-        short = λ z _. let e = ap length (no_bytes bytes p.next w.moves z) in omega (arith, e);
-      })
+      (o : Opened) (stage : Stage) → p.whole ≡ true → OpenedOf (take p.end bytes) before after o → stage ≡ stage_after o.over
+      → FedBy (transcript_in Table run) ended bytes before after (fed_with stage o.run p.next o.length)
+  table-fed o stage h b g = subst⁻¹ (λ (x : Stage). FedBy (transcript_in Table run) ended bytes before after (fed_with x o.run p.next o.length)) g (record {
+    taken = w.next;
+    room = b.room;
+    same = b.same;
+    behind = b.behind;
+    text = λ more c. all-opened (split nothing (bytes ++ more)) (take p.end bytes) _ (w.text h nothing more c) ∙ answered nothing more;
+    at_once = λ f more. subst (IsPrefix (answers_to (split unknown (bytes ++ more)))) (answered unknown more) (due-opened (split unknown (bytes ++ more)) (take p.end bytes) _ (w.text h unknown more (any f)));
+    rest = λ z. ap (transcript_in (stage_after o.over) o.run (end_of ended)) (no_bytes bytes p.next w.moves z) ∙ left o.over;
+    short = λ z _. let e = ap length (no_bytes bytes p.next w.moves z) in omega (arith, e);
+  })
     where
-      after-lines :
-          (e : InputEnd) (over : Bool) (bs : List ℕ) → cond over [] (replies o.run (lines_from e [] bs)) ≡ transcriptIn (stageAfter over) o.run e bs
+      after-lines : (e : InputEnd) (over : Bool) (bs : List ℕ) → cond over [] (replies o.run (lines_from e [] bs)) ≡ transcript_in (stage_after over) o.run e bs
       after-lines e true bs = refl
       after-lines e false bs = refl
 
-      answered :
-          (e : InputEnd) (more : List ℕ) → opened (take p.end bytes) (lines_from e [] (drop p.next bytes ++ more)) ≡ take o.length after
-          ++ transcriptIn (stageAfter o.over) o.run e (drop p.next bytes ++ more)
-      answered e more =
-          b.text (lines_from e [] (drop p.next bytes ++ more))
-          ∙ ap (λ (y : List ℕ). take o.length after ++ y) (after-lines e o.over (drop p.next bytes ++ more))
+      answered : (e : InputEnd) (more : List ℕ) → opened (take p.end bytes) (lines_from e [] (drop p.next bytes ++ more)) ≡ take o.length after ++ transcript_in (stage_after o.over) o.run e (drop p.next bytes ++ more)
+      answered e more = b.text (lines_from e [] (drop p.next bytes ++ more)) ∙ ap (λ (y : List ℕ). take o.length after ++ y) (after-lines e o.over (drop p.next bytes ++ more))
 
-      left : (over : Bool) → transcriptIn (stageAfter over) o.run (end_of ended) [] ≡ []
+      left : (over : Bool) → transcript_in (stage_after over) o.run (end_of ended) [] ≡ []
       left true = refl
       left false = none-replied o.run (end_of ended)
 
   -- its end is still to come
-  pub table-waits : p.whole ≡ false → FedBy (transcriptIn Table run) ended bytes before before (fedWith Table run 0 0)
+  pub table-waits : p.whole ≡ false → FedBy (transcript_in Table run) ended bytes before before (fed_with Table run 0 0)
   table-waits h =
       let n = w.none h in
       waits Table run ended bytes before
-      (ap (λ (b : Bool). answersTo (split (end_of b) bytes)) n.1 ∙ ap answersTo n.2 ∙ due-none (length bytes) (omega (arith, n.0)))
+      (ap (λ (b : Bool). answers_to (split (end_of b) bytes)) n.1 ∙ ap answers_to n.2 ∙ due-none (length bytes) (omega (arith, n.0)))
       n.0
 
 -- THE OPERATIONS
 
-module _ (run : Run) (ended : Bool) (bytes before after : List ℕ) (p : Part) (w : LineOf bytes noneLong ended p) where
+module _ (run : Run) (ended : Bool) (bytes before after : List ℕ) (p : Part) (w : LineOf bytes none_long ended p) where
   abbrev line : List ℕ
   line = take p.end bytes
 
   -- a line that is longer than any operation
-  long : p.end ≡ length bytes → noneLong ≤ length bytes → operationOf line ≡ Nothing
-  long e l = ap operationOf (take_all p.end bytes (omega (arith, e))) ∙ long-none bytes l
+  long : p.end ≡ length bytes → none_long ≤ length bytes → operation_of line ≡ Nothing
+  long e l = ap operation_of (take_all p.end bytes (omega (arith, e))) ∙ long-none bytes l
 
-  no-reply : (o : Operation) → o ≡ Nothing → noOperation ≡ reply o run
+  no-reply : (o : Operation) → o ≡ Nothing → no_operation ≡ reply o run
   unfolding reply
   no-reply o e = ap (λ (x : Operation). reply x run) (sym e)
 
   -- no operation: the session is over
   pub operation-last :
-      (run' : Run) (n : ℕ) → p.whole ≡ true → is_last (operationOf line) ≡ true → TextWritten (reply (operationOf line) run) before after n
-      → FedBy (transcriptIn Operations run) ended bytes before after (fedWith Over run' (length bytes) n)
+      (run' : Run) (n : ℕ) → p.whole ≡ true → is_last (operation_of line) ≡ true → TextWritten (reply (operation_of line) run) before after n
+      → FedBy (transcript_in Operations run) ended bytes before after (fed_with Over run' (length bytes) n)
   operation-last run' n h l t = record {
     taken = omega arith;
     room = t.room;
@@ -142,29 +133,28 @@ module _ (run : Run) (ended : Bool) (bytes before after : List ℕ) (p : Part) (
     short = λ z _. omega (arith, z);
   }
     where
-      written : reply (operationOf line) run ≡ take n after ++ []
+      written : reply (operation_of line) run ≡ take n after ++ []
       written = sym t.front ∙ sym (append-nil (take n after))
 
       Handed : Type 0
       Handed =
           ((e : InputEnd) (more : List ℕ) → Comes ended e more → lines_from e [] (bytes ++ more) ≡ line ∷ lines_from e [] (drop p.next bytes ++ more))
-          ⊎ ((p.end ≡ length bytes) × (noneLong ≤ length bytes) × OneLine bytes)
+          ⊎ ((p.end ≡ length bytes) × (none_long ≤ length bytes) × OneLine bytes)
 
-      all_of : Handed → (more : List ℕ) → Comes ended nothing more → replies run (lines_from nothing [] (bytes ++ more)) ≡ reply (operationOf line) run
+      all_of : Handed → (more : List ℕ) → Comes ended nothing more → replies run (lines_from nothing [] (bytes ++ more)) ≡ reply (operation_of line) run
       all_of (inl x) more c = ap (replies run) (x nothing more c) ∙ replies-last run line _ l
-      all_of (inr x) more c = ap (replies run) (x.2 nothing more) ∙ replies-long run bytes more x.1 ∙ no-reply (operationOf line) (long x.0 x.1)
+      all_of (inr x) more c = ap (replies run) (x.2 nothing more) ∙ replies-long run bytes more x.1 ∙ no-reply (operation_of line) (long x.0 x.1)
 
-      due-of :
-          Handed → (more : List ℕ) → Comes ended unknown more → IsPrefix (replies run (lines_from unknown [] (bytes ++ more))) (reply (operationOf line) run)
+      due-of : Handed → (more : List ℕ) → Comes ended unknown more → IsPrefix (replies run (lines_from unknown [] (bytes ++ more))) (reply (operation_of line) run)
       due-of (inl x) more c = begins-with (sym (ap (replies run) (x unknown more c) ∙ replies-last run line _ l))
       due-of (inr x) more c =
-          subst (IsPrefix (replies run (lines_from unknown [] (bytes ++ more)))) (no-reply (operationOf line) (long x.0 x.1))
-          (subst⁻¹ (λ (ls : List (List ℕ)). IsPrefix (replies run ls) noOperation) (x.2 unknown more) (replies-due run bytes more x.1))
+          subst (IsPrefix (replies run (lines_from unknown [] (bytes ++ more)))) (no-reply (operation_of line) (long x.0 x.1))
+          (subst⁻¹ (λ (ls : List (List ℕ)). IsPrefix (replies run ls) no_operation) (x.2 unknown more) (replies-due run bytes more x.1))
 
   -- an operation: it is answered
   pub operation-next :
-      (run' : Run) (n : ℕ) → p.whole ≡ true → is_last (operationOf line) ≡ false → TextWritten (reply (operationOf line) run) before after n
-      → run' ≡ runAfter (operationOf line) run → FedBy (transcriptIn Operations run) ended bytes before after (fedWith Operations run' p.next n)
+      (run' : Run) (n : ℕ) → p.whole ≡ true → is_last (operation_of line) ≡ false → TextWritten (reply (operation_of line) run) before after n
+      → run' ≡ run_after (operation_of line) run → FedBy (transcript_in Operations run) ended bytes before after (fed_with Operations run' p.next n)
   operation-next run' n h l t g = record {
     taken = w.next;
     room = t.room;
@@ -172,13 +162,13 @@ module _ (run : Run) (ended : Bool) (bytes before after : List ℕ) (p : Part) (
     behind = t.behind;
     text = λ more c. answered (w.line h) nothing more c;
     at_once = λ f more. begins-with (sym (answered (w.line h) unknown more (any f)));
-    rest = λ z. ap (transcriptIn Operations run' (end_of ended)) (no_bytes bytes p.next w.moves z) ∙ none-replied run' (end_of ended);
+    rest = λ z. ap (transcript_in Operations run' (end_of ended)) (no_bytes bytes p.next w.moves z) ∙ none-replied run' (end_of ended);
     short = λ z _. let e = ap length (no_bytes bytes p.next w.moves z) in omega (arith, e);
   }
     where
       answered :
           ((e : InputEnd) (more : List ℕ) → Comes ended e more → lines_from e [] (bytes ++ more) ≡ line ∷ lines_from e [] (drop p.next bytes ++ more))
-          ⊎ ((p.end ≡ length bytes) × (noneLong ≤ length bytes) × OneLine bytes) → (e : InputEnd) (more : List ℕ) → Comes ended e more
+          ⊎ ((p.end ≡ length bytes) × (none_long ≤ length bytes) × OneLine bytes) → (e : InputEnd) (more : List ℕ) → Comes ended e more
           → replies run (lines_from e [] (bytes ++ more)) ≡ take n after ++ replies run' (lines_from e [] (drop p.next bytes ++ more))
       answered (inl x) e more c =
           ap (replies run) (x e more c) ∙ replies-line run line (lines_from e [] (drop p.next bytes ++ more)) l
@@ -186,19 +176,18 @@ module _ (run : Run) (ended : Bool) (bytes before after : List ℕ) (p : Part) (
       answered (inr x) e more c = absurd (true≢false (sym (ap is_last (long x.0 x.1)) ∙ l))
 
   -- its end is still to come
-  pub operation-waits : p.whole ≡ false → FedBy (transcriptIn Operations run) ended bytes before before (fedWith Operations run 0 0)
+  pub operation-waits : p.whole ≡ false → FedBy (transcript_in Operations run) ended bytes before before (fed_with Operations run 0 0)
   operation-waits h =
       let n = w.none h in
       waits Operations run ended bytes before (due ended refl n.1 n.2) (omega (arith, n.0))
     where
-      due : (b : Bool) → ended ≡ b → OneLine bytes → (ended ≡ true → bytes ≡ []) → transcriptIn Operations run (end_of b) bytes ≡ []
-      due true e one z = ap (transcriptIn Operations run nothing) (z e) ∙ none-replied run nothing
-      due false e one z =
-          ap (transcriptIn Operations run unknown) (sym (append-nil bytes)) ∙ ap (replies run) (one unknown [] ∙ lines-waits bytes) ∙ replies-none run
+      due : (b : Bool) → ended ≡ b → OneLine bytes → (ended ≡ true → bytes ≡ []) → transcript_in Operations run (end_of b) bytes ≡ []
+      due true e one z = ap (transcript_in Operations run nothing) (z e) ∙ none-replied run nothing
+      due false e one z = ap (transcript_in Operations run unknown) (sym (append-nil bytes)) ∙ ap (replies run) (one unknown [] ∙ lines-waits bytes) ∙ replies-none run
 
 -- BY THE STAGE
 
 pub fed-in :
-    (s : Session) (t : Stage) (ended : Bool) (bytes before after : List ℕ) (r : Fed) → s.stage ≡ t → FedBy (transcriptIn t s.run) ended bytes before after r
+    (s : Session) (t : Stage) (ended : Bool) (bytes before after : List ℕ) (r : Fed) → s.stage ≡ t → FedBy (transcript_in t s.run) ended bytes before after r
     → FedOf s ended bytes before after r
-fed-in s t ended bytes before after r e w = subst⁻¹ (λ (x : Stage). FedBy (transcriptIn x s.run) ended bytes before after r) e w
+fed-in s t ended bytes before after r e w = subst⁻¹ (λ (x : Stage). FedBy (transcript_in x s.run) ended bytes before after r) e w

@@ -9,30 +9,30 @@ use lib.Dec.{leb}
 use borrow.Author.Tests.{leb-false}
 use Rattle.run.specs.Start.{start_of}
 use Rattle.run.proofs.NoWords.{no_words}
-use Rattle.text.specs.Format.{mostBytes, Words, words_of, numbersIn}
+use Rattle.text.specs.Format.{most_bytes, Words, words_of, numbers_in}
 use Rattle.text.specs.Output.{letters}
 use Rattle.text.proofs.Exact.{long-refused}
-use Rattle.session.specs.Operation.{answerLine}
-use Rattle.session.specs.Transcript.{startLine, replies, opened}
+use Rattle.session.specs.Operation.{answer_line}
+use Rattle.session.specs.Transcript.{start_line, replies, opened}
 use Rattle.session.specs.Session.{IsPrefix}
-use Rattle.session.proofs.Transcripts.{tooLong, opened-long, begins-with}
+use Rattle.session.proofs.Transcripts.{too_long, opened-long, begins-with}
 
 -- no numbers are turned down with 1
-no-numbers : startLine [] ≡ tooLong
-unfolding startLine answerLine
-no-numbers = ap (answerLine (letters "ok")) no_words
+no-numbers : start_line [] ≡ too_long
+unfolding start_line answer_line
+no-numbers = ap (answer_line (letters "ok")) no_words
 
 -- start's answer to a text that is too long
-pub too-long-start : (table : List ℕ) → mostBytes < length table → startLine (numbersIn (words_of table)) ≡ tooLong
-too-long-start table h = ap (λ (w : Words). startLine (numbersIn w)) (long-refused table h) ∙ no-numbers
+pub too-long-start : (table : List ℕ) → most_bytes < length table → start_line (numbers_in (words_of table)) ≡ too_long
+too-long-start table h = ap (λ (w : Words). start_line (numbers_in w)) (long-refused table h) ∙ no-numbers
 
 -- THEOREM: by either route, the transcript begins with start's answer to the text
-pub opened-starts : (table : List ℕ) (ls : List (List ℕ)) → IsPrefix (startLine (numbersIn (words_of table))) (opened table ls)
+pub opened-starts : (table : List ℕ) (ls : List (List ℕ)) → IsPrefix (start_line (numbers_in (words_of table))) (opened table ls)
 unfolding opened
-opened-starts table ls = go (leb (length table) mostBytes) refl
+opened-starts table ls = go (leb (length table) most_bytes) refl
   where
-    go : (t : Bool) → leb (length table) mostBytes ≡ t → IsPrefix (startLine (numbersIn (words_of table))) (opened table ls)
-    go true e = rw e (replies (start_of (numbersIn (words_of table))).run ls, refl)
+    go : (t : Bool) → leb (length table) most_bytes ≡ t → IsPrefix (start_line (numbers_in (words_of table))) (opened table ls)
+    go true e = rw e (replies (start_of (numbers_in (words_of table))).run ls, refl)
     go false e =
-        let h = leb-false (length table) mostBytes e in
+        let h = leb-false (length table) most_bytes e in
         begins-with (opened-long table ls h ∙ sym (too-long-start table h))

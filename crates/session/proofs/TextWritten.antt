@@ -41,8 +41,7 @@ one_field n {at} {end} {before} {after} p = subst (λ (x : List ℕ). Put before
 
 -- a word, numbers and a newline, one after the other, are a line
 pub line-put :
-    (word ns : List ℕ) {before middle after : List ℕ} {start end : ℕ} → Put before 0 word middle start → Put middle start (fields ns) after end
-    → end < length before
+    (word ns : List ℕ) {before middle after : List ℕ} {start end : ℕ} → Put before 0 word middle start → Put middle start (fields ns) after end → end < length before
     → TextWritten (line_of word ns) before (set after end 10) (end + 1)
 unfolding line_of
 line-put word ns {before} {middle} {after} {start} {end} p q room =

@@ -1,9 +1,9 @@
 -- The state of a session: its transcript for the bytes to come.
 use Rattle.std.specs.Prelude.{Bool, true, false, cond, List, [], ◌++◌, ◌≡◌, ℕ, ◌≤◌, ◌<◌, length, take, drop}
-use Rattle.splitter.specs.Split.{tooMany, InputEnd, nothing, unknown, lines_from, split}
+use Rattle.splitter.specs.Split.{too_many, InputEnd, nothing, unknown, lines_from, split}
 use Rattle.splitter.specs.Parts.{Comes, end_of}
 use Rattle.run.specs.declared.Run.{Run}
-use Rattle.session.specs.Transcript.{replies, opened, answersTo, transcript, transcriptSoFar}
+use Rattle.session.specs.Transcript.{replies, opened, answers_to, transcript, transcript_so_far}
 use Rattle.session.specs.declared.Stage.{Stage}
 use Rattle.session.specs.declared.Stage.TheVariants.{Table, Operations, Over}
 use Rattle.session.specs.declared.Session.{Session}
@@ -11,10 +11,10 @@ use Rattle.session.specs.declared.Fed.{Fed}
 use Rattle.session.specs.declared.open.Opened.{Opened}
 
 -- the transcript of a stage, with its run, for the bytes bs, by what comes after them
-abbrev pub transcriptIn : Stage → Run → InputEnd → List ℕ → List ℕ
-transcriptIn Table r e bs = answersTo (split e bs)
-transcriptIn Operations r e bs = replies r (lines_from e [] bs)
-transcriptIn Over r e bs = []
+abbrev pub transcript_in : Stage → Run → InputEnd → List ℕ → List ℕ
+transcript_in Table r e bs = answers_to (split e bs)
+transcript_in Operations r e bs = replies r (lines_from e [] bs)
+transcript_in Over r e bs = []
 
 -- nothing is printed any more. As in plan_text/specs/Check: `is_over`, `FedBy`, `FedOf` and `NewOf`, there of a check
 abbrev pub is_over : Stage → Bool
@@ -23,8 +23,8 @@ is_over Operations = false
 is_over Over = true
 
 -- the transcript of a session for the bytes bs; where it is unknown what comes, what it must have printed
-abbrev pub transcriptOf : Session → InputEnd → List ℕ → List ℕ
-transcriptOf s e bs = transcriptIn s.stage s.run e bs
+abbrev pub transcript_of : Session → InputEnd → List ℕ → List ℕ
+transcript_of s e bs = transcript_in s.stage s.run e bs
 
 -- a text begins with another
 abbrev pub IsPrefix : List ℕ → List ℕ → Type 0
@@ -39,16 +39,16 @@ pub record FedBy (f : InputEnd → List ℕ → List ℕ) (ended : Bool) (bytes 
   pub behind : drop r.length after ≡ drop r.length before
   pub text :
       (more : List ℕ) → Comes ended nothing more
-      → f nothing (bytes ++ more) ≡ take r.length after ++ transcriptOf r.session nothing (drop r.taken bytes ++ more)
+      → f nothing (bytes ++ more) ≡ take r.length after ++ transcript_of r.session nothing (drop r.taken bytes ++ more)
   pub at_once :
       ended ≡ false → (more : List ℕ)
-      → IsPrefix (f unknown (bytes ++ more)) (take r.length after ++ transcriptOf r.session unknown (drop r.taken bytes ++ more))
-  pub rest : r.taken ≡ 0 → transcriptOf r.session (end_of ended) bytes ≡ []
-  pub short : r.taken ≡ 0 → ended ≡ false → length bytes < tooMany
+      → IsPrefix (f unknown (bytes ++ more)) (take r.length after ++ transcript_of r.session unknown (drop r.taken bytes ++ more))
+  pub rest : r.taken ≡ 0 → transcript_of r.session (end_of ended) bytes ≡ []
+  pub short : r.taken ≡ 0 → ended ≡ false → length bytes < too_many
 
 -- the contract of `feed` of a session
 abbrev pub FedOf : Session → Bool → List ℕ → List ℕ → List ℕ → Fed → Type 0
-FedOf s ended bytes before after r = FedBy (transcriptOf s) ended bytes before after r
+FedOf s ended bytes before after r = FedBy (transcript_of s) ended bytes before after r
 
 -- the first n bytes of the buffer are the text, and all else is as it was
 pub record TextWritten (text before after : List ℕ) (n : ℕ) : Type 0 where
@@ -59,12 +59,12 @@ pub record TextWritten (text before after : List ℕ) (n : ℕ) : Type 0 where
 
 -- a session whose transcript is what the program prints, and whose due transcript is what the program must have printed
 abbrev pub NewOf : Session → Type 0
-NewOf s = (bs : List ℕ) → (transcriptOf s nothing bs ≡ transcript bs) × (transcriptOf s unknown bs ≡ transcriptSoFar bs)
+NewOf s = (bs : List ℕ) → (transcript_of s nothing bs ≡ transcript bs) × (transcript_of s unknown bs ≡ transcript_so_far bs)
 
 -- the stage after the table: the operations, or none
-abbrev pub stageAfter : Bool → Stage
-stageAfter true = Over
-stageAfter false = Operations
+abbrev pub stage_after : Bool → Stage
+stage_after true = Over
+stage_after false = Operations
 
 -- the contract of `begin` of a table's text
 pub record OpenedOf (table before after : List ℕ) (r : Opened) : Type 0 where
@@ -74,8 +74,8 @@ pub record OpenedOf (table before after : List ℕ) (r : Opened) : Type 0 where
   pub text : (ls : List (List ℕ)) → opened table ls ≡ take r.length after ++ cond r.over [] (replies r.run ls)
 
 -- a session in a stage, after a number of bytes taken and a number of bytes written
-abbrev pub fedWith : Stage → Run → ℕ → ℕ → Fed
-fedWith stage run taken length = record { session = record { stage = stage; run = run }; taken = taken; length = length }
+abbrev pub fed_with : Stage → Run → ℕ → ℕ → Fed
+fed_with stage run taken length = record { session = record { stage = stage; run = run }; taken = taken; length = length }
 
 -- session s is fed these bytes, and what is left of them again and again; `text` is written, then the session is s', and `left` is left
 pub data FedAgain : Bool → Session → List ℕ → List ℕ → List ℕ → Session → Type 0 where
@@ -90,4 +90,4 @@ pub data Feeds : Session → List ℕ → List ℕ → List ℕ → List ℕ →
   none : {s : Session} {left : List ℕ} → Feeds s left [] [] left s
   more :
       {s s' s'' : Session} (left chunk : List ℕ) {bs text text' left' left'' : List ℕ} → FedAgain false s (left ++ chunk) text left' s'
-      → transcriptOf s' unknown left' ≡ [] → Feeds s' left' bs text' left'' s'' → Feeds s left (chunk ++ bs) (text ++ text') left'' s''
+      → transcript_of s' unknown left' ≡ [] → Feeds s' left' bs text' left'' s'' → Feeds s left (chunk ++ bs) (text ++ text') left'' s''

@@ -1,10 +1,10 @@
 // A session: the table and the operations of a run, read as they come, and the reply to each.
 ghost use Rattle.std.specs.Prelude.{◌≡◌};
 ghost use Rattle.session.specs.declared.Stage.TheVariants.{Table, Operations};
-ghost use Rattle.session.specs.Session.{transcriptIn, is_over, stageAfter, fedWith, FedBy, FedOf, NewOf};
+ghost use Rattle.session.specs.Session.{transcript_in, is_over, stage_after, fed_with, FedBy, FedOf, NewOf};
 
-mod open; // open.rt: the table, and the run that it starts
-mod operations; // operations.rt: the operation of a line
+pub mod open; // open.rt: the table, and the run that it starts
+pub mod operations; // operations.rt: the operation of a line
 mod replies; // replies.rt: the reply to an operation
 
 use model::MOST_TASKS;
@@ -41,7 +41,7 @@ pub struct Fed {
 
 // A session in a stage, after a number of bytes taken and a number of bytes written.
 fn fed_with(stage: Stage, run: Run, taken: usize, length: usize) -> Fed
-    ensures { result ≡ fedWith stage run taken length }
+    ensures { result ≡ fed_with stage run taken length }
 {
     Fed {
         session: Session {
@@ -55,14 +55,14 @@ fn fed_with(stage: Stage, run: Run, taken: usize, length: usize) -> Fed
 
 // The stage after the table.
 fn stage_after(over: bool) -> Stage
-    ensures { result ≡ stageAfter over }
+    ensures { result ≡ stage_after over }
 {
     if over { Stage::Over } else { Stage::Operations }
 }
 
 // The table, once it has ended, and the answer to it.
 fn feed_table(run: Run, bytes: &[u8], ended: bool, out: &mut [u8; REPLY]) -> Fed
-    ensures { FedBy (transcriptIn Table run) ended bytes.now out.old out.new result }
+    ensures { FedBy (transcript_in Table run) ended bytes.now out.old out.new result }
 {
     let part = splitter::table(bytes, ended);
     if part.whole {
@@ -76,7 +76,7 @@ fn feed_table(run: Run, bytes: &[u8], ended: bool, out: &mut [u8; REPLY]) -> Fed
 
 // The first operation, once its line has ended, and the reply to it; a line longer than any operation is none.
 fn feed_operations(run: Run, bytes: &[u8], ended: bool, out: &mut [u8; REPLY]) -> Fed
-    ensures { FedBy (transcriptIn Operations run) ended bytes.now out.old out.new result }
+    ensures { FedBy (transcript_in Operations run) ended bytes.now out.old out.new result }
 {
     let part = splitter::line(bytes, NONE_LONG, ended);
     if part.whole {

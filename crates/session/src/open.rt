@@ -1,12 +1,11 @@
 // The table of a session, and the run that it starts.
 ghost use Rattle.std.specs.Prelude.{◌≡◌};
-ghost use Rattle.text.specs.Format.{words_of, numbersIn};
+ghost use Rattle.text.specs.Format.{words_of, numbers_in};
 ghost use Rattle.run.specs.Start.{start_of};
 ghost use Rattle.session.specs.Session.{OpenedOf};
 
 use crate::{REPLY, replies};
-use model::numbers;
-use run::{Run, RunAnswer};
+use run::{Run, Started};
 
 // The length of the answer to the table, its run, and whether the session is over.
 #[derive(Drop)]
@@ -17,8 +16,8 @@ pub struct Opened {
 }
 
 // The start of the run of a table's text.
-fn start(table: &[u8]) -> RunAnswer
-    ensures { result ≡ start_of (numbersIn (words_of table.now)) }
+fn start(table: &[u8]) -> Started
+    ensures { result ≡ start_of (numbers_in (words_of table.now)) }
 {
     let input = text::read(table);
     let words = input.words;
@@ -34,7 +33,7 @@ pub(crate) fn begin(table: &[u8], out: &mut [u8; REPLY]) -> Opened
     let answer = started.answer;
     let run = started.run;
     if text::BYTES < table.len() {
-        let length = replies::write_refused(numbers::NOT_A_TABLE, 0, out);
+        let length = replies::write_refused(1, 0, out);
         return Opened {
             run: run,
             length: length,

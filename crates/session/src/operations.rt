@@ -1,11 +1,11 @@
 // The operation of a line.
 ghost use Rattle.std.specs.Prelude.{◌≡◌};
-ghost use Rattle.session.specs.Operation.{operationOf, numbersAfter, one_of, twoOf, advanceBy, row_by, setsBy, workingBy, withdrawBy, withdrawAllBy};
+ghost use Rattle.session.specs.Operation.{operation_of, numbers_after, one_of, two_of, advance_by, row_by, sets_by, working_by, withdraw_by, withdraw_all_by};
 
 use text::line::ParsedNumber;
 
 // An advance with its reports and its empties, a position withdrawn, the positions of a set withdrawn together, a row asked with empties, one asked as
-// sets, which positions work asked, or nothing that a run can do.
+// sets, who works asked, or nothing that a run can do.
 #[derive(Drop)]
 pub enum Operation {
     Advance(u32, u32),
@@ -38,7 +38,7 @@ fn one(found: ParsedNumber) -> Numbers
 
 // The two numbers found.
 fn two(first: ParsedNumber, second: ParsedNumber) -> Numbers
-    ensures { result ≡ twoOf first second }
+    ensures { result ≡ two_of first second }
 {
     match first {
         ParsedNumber::Value(number) => match second {
@@ -51,7 +51,7 @@ fn two(first: ParsedNumber, second: ParsedNumber) -> Numbers
 
 // The numbers after the letter of a line, one space before each.
 fn after(rest: &[u8]) -> Numbers
-    ensures { result ≡ numbersAfter rest.now }
+    ensures { result ≡ numbers_after rest.now }
 {
     let count = rest.len();
     if count == 0 {
@@ -70,7 +70,7 @@ fn after(rest: &[u8]) -> Numbers
 
 // An advance with the numbers after its letter.
 fn advance_by(numbers: Numbers) -> Operation
-    ensures { result ≡ advanceBy numbers }
+    ensures { result ≡ advance_by numbers }
 {
     match numbers {
         Numbers::Bare => Operation::Nothing,
@@ -94,7 +94,7 @@ fn row_by(numbers: Numbers) -> Operation
 
 // A row asked as sets with the number after its letter.
 fn sets_by(numbers: Numbers) -> Operation
-    ensures { result ≡ setsBy numbers }
+    ensures { result ≡ sets_by numbers }
 {
     match numbers {
         Numbers::Bare => Operation::Sets(0),
@@ -104,9 +104,9 @@ fn sets_by(numbers: Numbers) -> Operation
     }
 }
 
-// The question which positions work, with the number after its letter.
+// The question who works, with the number after its letter.
 fn working_by(numbers: Numbers) -> Operation
-    ensures { result ≡ workingBy numbers }
+    ensures { result ≡ working_by numbers }
 {
     match numbers {
         Numbers::Bare => Operation::Working(0),
@@ -118,7 +118,7 @@ fn working_by(numbers: Numbers) -> Operation
 
 // A withdrawal of the position after its letter.
 fn withdraw_by(numbers: Numbers) -> Operation
-    ensures { result ≡ withdrawBy numbers }
+    ensures { result ≡ withdraw_by numbers }
 {
     match numbers {
         Numbers::Bare => Operation::Nothing,
@@ -130,7 +130,7 @@ fn withdraw_by(numbers: Numbers) -> Operation
 
 // A withdrawal of the positions of the set after its letter together.
 fn withdraw_all_by(numbers: Numbers) -> Operation
-    ensures { result ≡ withdrawAllBy numbers }
+    ensures { result ≡ withdraw_all_by numbers }
 {
     match numbers {
         Numbers::Bare => Operation::Nothing,
@@ -142,7 +142,7 @@ fn withdraw_all_by(numbers: Numbers) -> Operation
 
 // The operation of a line: `a REPORTS EMPTIES`, `r EMPTIES`, `s EMPTIES`, `j EMPTIES`, `w POSITION`, `W SET`, or none.
 pub fn operation_of(line: &[u8]) -> Operation
-    ensures { result ≡ operationOf line.now }
+    ensures { result ≡ operation_of line.now }
 {
     let count = line.len();
     if count == 0 {

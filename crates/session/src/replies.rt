@@ -3,14 +3,13 @@ ghost use Rattle.std.specs.Prelude.{◌≡◌, false, [], ◌∷◌, ◌+◌, �
 ghost use Rattle.text.specs.Decimal.{decimal};
 ghost use Rattle.text.specs.Output.{fields, letters, line_of, space};
 ghost use Rattle.text.specs.Written.{Put};
-ghost use Rattle.session.specs.Operation.{word_line, answerLine, shownLine, setsLine, workingLine, reply, runAfter, is_last};
+ghost use Rattle.session.specs.Operation.{word_line, answer_line, shown_line, sets_line, working_line, reply, run_after, is_last};
 ghost use Rattle.session.specs.Session.{TextWritten};
 
 use crate::REPLY;
 use crate::operations::Operation;
 use model::{MOST_TASKS, ROW};
-use run::{Row, Run, RunAnswer, Sets, WorkingPositions};
-use table::Answer;
+use run::{Advanced, Answer, Row, Run, Sets, WorkingPositions};
 use text::row::CELLS;
 use text::{decimal, first, row};
 
@@ -42,7 +41,7 @@ pub(crate) fn write_word(word: &[u8], out: &mut [u8; REPLY]) -> usize
 // Writes an answer: the word where it is taken.
 pub(crate) fn write_answer(word: &[u8], answer: Answer, out: &mut [u8; REPLY]) -> usize
     requires { length word.now ≤ 16 }
-    ensures { TextWritten (answerLine word.now answer) out.old out.new result }
+    ensures { TextWritten (answer_line word.now answer) out.old out.new result }
 {
     match answer {
         Answer::Taken => write_word(word, out),
@@ -51,9 +50,8 @@ pub(crate) fn write_answer(word: &[u8], answer: Answer, out: &mut [u8; REPLY]) -
 }
 
 // Writes the answer to an advance or a withdrawal, and returns the run after it.
-fn write_moved(advanced: RunAnswer, out: &mut [u8; REPLY]) -> Reply
-    ensures { TextWritten (answerLine (letters "taken") advanced.answer) out.old out.new result.length × (result.run ≡ advanced.run)
-        × (result.last ≡ false) }
+fn write_moved(advanced: Advanced, out: &mut [u8; REPLY]) -> Reply
+    ensures { TextWritten (answer_line (letters "taken") advanced.answer) out.old out.new result.length × (result.run ≡ advanced.run) × (result.last ≡ false) }
 {
     let answer = advanced.answer;
     let next = advanced.run;
@@ -78,7 +76,7 @@ fn write_cores(cores: u32, bytes: [u8; ROW], out: &mut [u8; REPLY]) -> usize
 
 // Writes a row, or its refusal.
 fn write_row(cores: u32, row: Row, out: &mut [u8; REPLY]) -> usize
-    ensures { TextWritten (shownLine cores row.answer row.bytes) out.old out.new result }
+    ensures { TextWritten (shown_line cores row.answer row.bytes) out.old out.new result }
 {
     let answer = row.answer;
     let bytes = row.bytes;
@@ -123,7 +121,7 @@ fn write_each(sets: [u64; MOST_TASKS], out: &mut [u8; REPLY]) -> usize
 
 // Writes a row as sets, or its refusal.
 fn write_sets(shown: Sets, out: &mut [u8; REPLY]) -> usize
-    ensures { TextWritten (setsLine shown.answer shown.sets) out.old out.new result }
+    ensures { TextWritten (sets_line shown.answer shown.sets) out.old out.new result }
 {
     let answer = shown.answer;
     let sets = shown.sets;
@@ -143,9 +141,9 @@ fn write_positions(set: u32, out: &mut [u8; REPLY]) -> usize
     end + 1
 }
 
-// Writes which positions work, or its refusal.
+// Writes who works, or its refusal.
 fn write_working(asked: WorkingPositions, out: &mut [u8; REPLY]) -> usize
-    ensures { TextWritten (workingLine asked.answer asked.set) out.old out.new result }
+    ensures { TextWritten (working_line asked.answer asked.set) out.old out.new result }
 {
     let answer = asked.answer;
     let set = asked.set;
@@ -157,8 +155,7 @@ fn write_working(asked: WorkingPositions, out: &mut [u8; REPLY]) -> usize
 
 // Does an operation, and writes the reply to it.
 pub(crate) fn answer(run: Run, operation: Operation, out: &mut [u8; REPLY]) -> Reply
-    ensures { TextWritten (reply operation run) out.old out.new result.length × (result.run ≡ runAfter operation run)
-        × (result.last ≡ is_last operation) }
+    ensures { TextWritten (reply operation run) out.old out.new result.length × (result.run ≡ run_after operation run) × (result.last ≡ is_last operation) }
 {
     match operation {
         Operation::Advance(reports, empties) => write_moved(run.advance(reports, empties), out),

@@ -12,16 +12,16 @@ use lib.ListN.{length, get_or, replicate, get_or-replicate, length-map}
 use borrow.Author.Tests.{leb-true, leb-false}
 use Rattle.model.specs.Search.{bit}
 use Rattle.model.specs.Task.{Table, task}
-use Rattle.model.specs.Jobs.{emptyBook}
+use Rattle.model.specs.Jobs.{empty_book}
 use Rattle.model.specs.Lists.{full, Missed}
 use Rattle.model.proofs.Digits.{bit-none}
 use Rattle.table.specs.declared.Loaded.{Loaded}
 use Rattle.simulation.specs.Machine.{started}
-use Rattle.simulation.specs.TickState.{Numbers, loadedNumbers, choice}
+use Rattle.simulation.specs.TickState.{Numbers, loaded_numbers, choice}
 use Rattle.simulation.proofs.Sets.{set_is}
 use Rattle.simulation.proofs.WidthParity.{toggled-start}
-use Rattle.table.specs.declared.Answer.TheVariants.{Taken}
-use Rattle.table.specs.Fit.{loadedTable, Fit}
+use Rattle.table.specs.declared.Answer.TheVariants.{Passed}
+use Rattle.table.specs.Fit.{loaded_table, Fit}
 use Rattle.table.specs.Load.{LoadOf, load_of}
 use Rattle.table.specs.Numbers.{NoneApplies}
 use Rattle.table.specs.Words.{table_of}
@@ -31,17 +31,17 @@ use Rattle.table.proofs.Fit.{same-table}
 use Rattle.table.proofs.Fit as table
 use Rattle.simulation.proofs.AtTick.{few, column, columns, paired, chosen_none}
 use Rattle.simulation.specs.Event.{Event, NextEvent}
-use Rattle.simulation.specs.EventState.{EventState, MachineRepresents, StateRepresents, initialEventState, MetBefore}
+use Rattle.simulation.specs.EventState.{EventState, MachineRepresents, StateRepresents, initial_event_state, MetBefore}
 use Rattle.simulation.specs.Jump.{jumped, JumpLands, jumps, Unmissed, AreEvents}
 use Rattle.simulation.proofs.JumpLands.{lands}
 use Rattle.simulation.proofs.Represents.{same-represents, represents-start}
 
 module _ (t : Loaded) (fit : Fit t) where
   abbrev book : Table
-  book = loadedTable t
+  book = loaded_table t
 
   abbrev n : Numbers
-  n = loadedNumbers t
+  n = loaded_numbers t
 
   -- before tick 0
   initially : MachineRepresents book 0 0 (started (map (λ x. x.offset) t.tasks))
@@ -49,7 +49,7 @@ module _ (t : Loaded) (fit : Fit t) where
   initially = record {
     sized = record { left = refl; event = simp length-map fit.places; next = simp length-map fit.places };
     places = λ p l.
-        same-represents (task book p) 0 (emptyBook.job p)
+        same-represents (task book p) 0 (empty_book.job p)
         (get_or (replicate 32 0) p 0) 0 (O p) (O p) (O p) (O p) (bit 0 p) false
         (get_or-replicate 32 p 0 0 (le_trans l (few t fit))) refl refl (bit-none p)
         (represents-start (task book p) (O p) (column t fit (λ x. x.offset) (λ τ. τ.offset) (λ x. refl) p l));
@@ -59,7 +59,7 @@ module _ (t : Loaded) (fit : Fit t) where
       O : ℕ → ℕ
       O p = get_or (map (λ x. x.offset) t.tasks) p 0
 
-  pub initial-represents : StateRepresents t (initialEventState t)
+  pub initial-represents : StateRepresents t (initial_event_state t)
   initial-represents = record {
     machines = initially;
     dues = refl;
@@ -144,5 +144,5 @@ module _ (t : Loaded) (fit : Fit t) where
 pub jumps-over-events : (ws : List ℕ) → NoneApplies ws → AreEvents (table_of ws) (load_of ws)
 jumps-over-events ws none =
     let l : LoadOf ws (load_of ws) = contract-of ws (load_of ws) refl in
-    let passed : (load_of ws).answer ≡ Taken = load-answer ws ∙ (passed-exact ws).1 none in
+    let passed : (load_of ws).answer ≡ Passed = load-answer ws ∙ (passed-exact ws).1 none in
     subst (λ (s : Table). AreEvents s (load_of ws)) (same-table ws (load_of ws) l passed) (jumps-are-events (load_of ws) (table.fit ws (load_of ws) l passed))

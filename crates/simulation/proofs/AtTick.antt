@@ -11,21 +11,21 @@ use lib.Dec.{eqb}
 use lib.ListN.{length, get_or, take, length-map, get_or-map, get_or-append}
 use lib.Seq.{get_or-append-add}
 use Rattle.model.proofs.Digits.{bit-none}
-use Rattle.model.specs.Fence.{unfencedCores}
+use Rattle.model.specs.Fence.{unfenced_cores}
 use Rattle.model.specs.Search.{bit}
-use Rattle.model.specs.Task.{Table, task, ruleOf}
+use Rattle.model.specs.Task.{Table, task, rule_of}
 use Rattle.model.specs.Task as model
 use Rattle.model.specs.Grants.{claimants}
 use Rattle.model.specs.Claims.{in_row}
 use Rattle.model.specs.Lists.{full, Missed}
 use Rattle.model.proofs.Grants.{grants-empty}
-use Rattle.model.specs.Sizes.{mostTasks}
+use Rattle.model.specs.Sizes.{most_tasks}
 use Rattle.table.specs.declared.Task.{Task}
 use Rattle.table.specs.declared.Loaded.{Loaded}
-use Rattle.table.specs.Task.{task_of, noTask}
+use Rattle.table.specs.Task.{task_of, no_task}
 use Rattle.table.proofs.Places.{tasks-length, task-at}
-use Rattle.simulation.specs.Machine.{Machine, started, workedTick, GrantedOwed}
-use Rattle.simulation.specs.TickState.{loadedNumbers, pairedIn}
+use Rattle.simulation.specs.Machine.{Machine, started, worked_tick, GrantedOwed}
+use Rattle.simulation.specs.TickState.{loaded_numbers, paired_in}
 use Rattle.simulation.proofs.Sets.{set-has}
 use Rattle.simulation.proofs.MachineRelated.{MachineRelated, Ready, Columns, related-start, tick-keeps}
 use Rattle.simulation.proofs.WidthParity.{WidthToggled, Paired, toggled-start, toggled-tick}
@@ -33,66 +33,64 @@ use Rattle.simulation.proofs.NextEvent.{NextEventBound, next-event-tick, no-even
 use Rattle.simulation.proofs.Late.{passed-met}
 use Rattle.simulation.proofs.SameClaimants.{Agrees, all-agree, first-agree, row-places, row-owed}
 use Rattle.rule.specs.Granted.{granted}
-use Rattle.rule.specs.Widths.{widthsIn}
-use Rattle.table.specs.Fit.{loadedTable, Fit}
+use Rattle.rule.specs.Widths.{widths_in}
+use Rattle.table.specs.Fit.{loaded_table, Fit}
 
 -- before the due events of a tick
-pub record Before (t : Loaded) (m : Machine) (even nextEvent tick : ℕ) : Type 0 where
-  pub related : MachineRelated (loadedTable t) tick m
-  pub toggles : WidthToggled (loadedTable t) m even
-  pub next-event : NextEventBound (length (loadedTable t).tasks) nextEvent m
-  pub met : (p u : ℕ) → u < tick → ¬ Missed (loadedTable t) p u
+pub record Before (t : Loaded) (m : Machine) (even next_event tick : ℕ) : Type 0 where
+  pub related : MachineRelated (loaded_table t) tick m
+  pub toggles : WidthToggled (loaded_table t) m even
+  pub next-event : NextEventBound (length (loaded_table t).tasks) next_event m
+  pub met : (p u : ℕ) → u < tick → ¬ Missed (loaded_table t) p u
 
 -- after them: no deadline of the tick is missed
-pub record After (t : Loaded) (m : Machine) (even nextEvent tick : ℕ) : Type 0 where
-  pub ready : Ready (loadedTable t) tick m
-  pub toggles : WidthToggled (loadedTable t) m even
-  pub next-event : NextEventBound (length (loadedTable t).tasks) nextEvent m
+pub record After (t : Loaded) (m : Machine) (even next_event tick : ℕ) : Type 0 where
+  pub ready : Ready (loaded_table t) tick m
+  pub toggles : WidthToggled (loaded_table t) m even
+  pub next-event : NextEventBound (length (loaded_table t).tasks) next_event m
 
 -- g is the set of places that are granted cores where those of the set c claim, and those of the set e are at their second width
 abbrev pub Chosen : Loaded → ℕ → ℕ → ℕ → Type 0
 Chosen t c e g =
-    (p : ℕ) → bit g p ≡ granted (ruleOf t.rule) (claimants (widthsIn e (loadedNumbers t).widths) (bit c)) (unfencedCores (loadedTable t)) p
+    (p : ℕ) → bit g p ≡ granted (rule_of t.rule) (claimants (widths_in e (loaded_numbers t).widths) (bit c)) (unfenced_cores (loaded_table t)) p
 
 -- where no place claims, no place is granted cores
 pub chosen_none : (t : Loaded) (e : ℕ) → Chosen t 0 e 0
-chosen_none t e p = bit-none p ∙ sym (grants-empty (ruleOf t.rule) (widthsIn e (loadedNumbers t).widths) (unfencedCores (loadedTable t)) p)
+chosen_none t e p = bit-none p ∙ sym (grants-empty (rule_of t.rule) (widths_in e (loaded_numbers t).widths) (unfenced_cores (loaded_table t)) p)
 
 module _ (t : Loaded) (fit : Fit t) where
   abbrev s : Table
-  s = loadedTable t
+  s = loaded_table t
 
   -- the table has as many tasks as the count
   pub size : length s.tasks ≡ t.count
   size = tasks-length t.tasks t.count (omega (arith, fit.few, fit.places))
 
-  pub few : length s.tasks ≤ mostTasks
+  pub few : length s.tasks ≤ most_tasks
   few = omega (arith, size, fit.few)
 
   -- a field of a task, from its column
-  pub column :
-      (f : Task → ℕ) (g : model.Task → ℕ) → ((x : Task) → f x ≡ g (task_of x)) → (p : ℕ) → p < length s.tasks
-      → get_or (map f t.tasks) p (f noTask) ≡ g (task s p)
-  column f g e p l = get_or-map f t.tasks p noTask ∙ (e (get_or t.tasks p noTask) ∙ ap g (sym (task-at t.tasks t.count p (omega (arith, size)))))
+  pub column : (f : Task → ℕ) (g : model.Task → ℕ) → ((x : Task) → f x ≡ g (task_of x)) → (p : ℕ) → p < length s.tasks → get_or (map f t.tasks) p (f no_task) ≡ g (task s p)
+  column f g e p l = get_or-map f t.tasks p no_task ∙ (e (get_or t.tasks p no_task) ∙ ap g (sym (task-at t.tasks t.count p (omega (arith, size)))))
 
   -- the two widths of a task are in two columns, one after the other
   first-wide : length (map (λ (x : Task). x.width) t.tasks) ≡ 32
   first-wide = length-map t.tasks (λ (x : Task). x.width) ∙ fit.places
 
-  odd-width : (p : ℕ) → p < length s.tasks → get_or (loadedNumbers t).widths p 0 ≡ (task s p).oddWidth
+  odd-width : (p : ℕ) → p < length s.tasks → get_or (loaded_numbers t).widths p 0 ≡ (task s p).odd_width
   odd-width p l =
       get_or-append (map (λ x. x.width) t.tasks) (map (λ x. x.second) t.tasks) 0 p (omega (arith, first-wide, few))
-      ∙ column (λ x. x.width) (λ τ. τ.oddWidth) (λ x. refl) p l
+      ∙ column (λ x. x.width) (λ τ. τ.odd_width) (λ x. refl) p l
 
-  even-width : (p : ℕ) → p < length s.tasks → get_or (loadedNumbers t).widths (32 + p) 0 ≡ (task s p).evenWidth
+  even-width : (p : ℕ) → p < length s.tasks → get_or (loaded_numbers t).widths (32 + p) 0 ≡ (task s p).even_width
   even-width p l =
-      ap (λ (k : ℕ). get_or (loadedNumbers t).widths (k + p) 0) (sym first-wide)
+      ap (λ (k : ℕ). get_or (loaded_numbers t).widths (k + p) 0) (sym first-wide)
       ∙ (get_or-append-add (map (λ x. x.width) t.tasks) (map (λ x. x.second) t.tasks) p 0
-      ∙ column (λ x. x.second) (λ τ. τ.evenWidth) (λ x. refl) p l)
+      ∙ column (λ x. x.second) (λ τ. τ.even_width) (λ x. refl) p l)
 
   -- the columns of the table
   pub columns :
-      Columns s (map (λ x. x.offset) t.tasks) (loadedNumbers t).widths (map (λ x. x.length) t.tasks)
+      Columns s (map (λ x. x.offset) t.tasks) (loaded_numbers t).widths (map (λ x. x.length) t.tasks)
       (map (λ x. x.deadline) t.tasks) (map (λ x. x.period) t.tasks)
   columns = record {
     places = length-map t.tasks (λ (x : Task). x.offset) ∙ fit.places;
@@ -105,67 +103,66 @@ module _ (t : Loaded) (fit : Fit t) where
   }
 
   -- and the places with two widths
-  pub paired : Paired s (pairedIn t.tasks)
-  unfolding pairedIn
+  pub paired : Paired s (paired_in t.tasks)
+  unfolding paired_in
   paired p l =
-      set-has 32 (λ q. not (eqb (get_or t.tasks q noTask).width (get_or t.tasks q noTask).second)) p (omega (arith, few))
-      ∙ ap (λ (τ : model.Task). not (eqb τ.oddWidth τ.evenWidth)) (sym (task-at t.tasks t.count p (omega (arith, size))))
+      set-has 32 (λ q. not (eqb (get_or t.tasks q no_task).width (get_or t.tasks q no_task).second)) p (omega (arith, few))
+      ∙ ap (λ (τ : model.Task). not (eqb τ.odd_width τ.even_width)) (sym (task-at t.tasks t.count p (omega (arith, size))))
 
-  pub at-start : Before t (started (map (λ x. x.offset) t.tasks)) (pairedIn t.tasks) 0 0
+  pub at-start : Before t (started (map (λ x. x.offset) t.tasks)) (paired_in t.tasks) 0 0
   at-start = record {
     related = related-start s fit.valid few (map (λ x. x.offset) t.tasks) columns.places columns.offsets;
-    toggles = toggled-start s fit.valid (map (λ x. x.offset) t.tasks) (pairedIn t.tasks) columns.offsets paired;
+    toggles = toggled-start s fit.valid (map (λ x. x.offset) t.tasks) (paired_in t.tasks) columns.offsets paired;
     next-event = λ p l. omega arith;
     met = λ p u h. absurd (omega arith);
   }
 
   -- before the next event there is nothing to handle
-  pub walk-skipped : (m : Machine) (even nextEvent tick : ℕ) → Before t m even nextEvent tick → tick < nextEvent → After t m even nextEvent tick
-  walk-skipped m even nextEvent tick b h = record {
-    ready = no-event s fit.valid few tick nextEvent m b.related b.next-event h;
+  pub walk-skipped : (m : Machine) (even next_event tick : ℕ) → Before t m even next_event tick → tick < next_event → After t m even next_event tick
+  walk-skipped m even next_event tick b h = record {
+    ready = no-event s fit.valid few tick next_event m b.related b.next-event h;
     toggles = b.toggles;
     next-event = b.next-event;
   }
 
   -- what is met before a tick and at it
   pub met_at :
-      (m : Machine) (even nextEvent tick : ℕ) → ((p u : ℕ) → u < tick → ¬ Missed s p u) → After t m even nextEvent tick → (p u : ℕ) → u ≤ tick → ¬ Missed s p u
-  met_at m even nextEvent tick met a p u h =
+      (m : Machine) (even next_event tick : ℕ) → ((p u : ℕ) → u < tick → ¬ Missed s p u) → After t m even next_event tick → (p u : ℕ) → u ≤ tick → ¬ Missed s p u
+  met_at m even next_event tick met a p u h =
       ⊎_elim
-      (λ (e : u ≡ tick). λ x. let y : Missed s p tick = subst (λ (n : ℕ). Missed s p n) e x
-      in passed-met s fit.valid tick (length s.tasks) m a.ready p y.0 y)
+      (λ (e : u ≡ tick). λ x. let y : Missed s p tick = subst (λ (n : ℕ). Missed s p n) e x in passed-met s fit.valid tick (length s.tasks) m a.ready p y.0 y)
       (λ (l : u < tick). met p u l)
       (eq-or-lt_of_le h)
 
   -- A TICK
 
-  module _ (m : Machine) (even nextEvent tick : ℕ) (a : After t m even nextEvent tick) where
+  module _ (m : Machine) (even next_event tick : ℕ) (a : After t m even next_event tick) where
     -- the widths of the places that claim are those of their newest jobs: of all places, and of the first ones
-    pub widths-agree : Agrees s tick m (widthsIn even (loadedNumbers t).widths)
+    pub widths-agree : Agrees s tick m (widths_in even (loaded_numbers t).widths)
     widths-agree =
-        all-agree s fit.valid few tick m even a.ready a.toggles (map (λ x. x.offset) t.tasks) (loadedNumbers t).widths
+        all-agree s fit.valid few tick m even a.ready a.toggles (map (λ x. x.offset) t.tasks) (loaded_numbers t).widths
         (map (λ x. x.length) t.tasks) (map (λ x. x.deadline) t.tasks) (map (λ x. x.period) t.tasks) columns
 
-    pub front-agree : Agrees s tick m (take t.count (widthsIn even (loadedNumbers t).widths))
+    pub front-agree : Agrees s tick m (take t.count (widths_in even (loaded_numbers t).widths))
     front-agree =
-        first-agree s fit.valid few tick m even a.ready a.toggles (map (λ x. x.offset) t.tasks) (loadedNumbers t).widths
+        first-agree s fit.valid few tick m even a.ready a.toggles (map (λ x. x.offset) t.tasks) (loaded_numbers t).widths
         (map (λ x. x.length) t.tasks) (map (λ x. x.deadline) t.tasks) (map (λ x. x.period) t.tasks) columns
         t.count (omega (arith, size)) fit.few
 
     -- a place that is granted cores is in the row
     pub chosen-row : (g : ℕ) → Chosen t m.claiming even g → (p : ℕ) → bit g p ≡ in_row s (full s tick) p
-    chosen-row g e p = e p ∙ row-places s fit.valid tick m a.ready (widthsIn even (loadedNumbers t).widths) widths-agree p
+    chosen-row g e p = e p ∙ row-places s fit.valid tick m a.ready (widths_in even (loaded_numbers t).widths) widths-agree p
 
     pub chosen-owed : (g : ℕ) → Chosen t m.claiming even g → GrantedOwed (bit g) m
-    chosen-owed g e = row-owed s fit.valid tick m a.ready (widthsIn even (loadedNumbers t).widths) widths-agree (bit g) (chosen-row g e)
+    chosen-owed g e = row-owed s fit.valid tick m a.ready (widths_in even (loaded_numbers t).widths) widths-agree (bit g) (chosen-row g e)
 
     pub next-tick :
-        (m' : Machine) (g : ℕ) → ((p u : ℕ) → u < tick → ¬ Missed s p u) → Chosen t m.claiming even g → m' ≡ workedTick (bit g) m
-        → Before t m' even nextEvent (tick + 1)
+        (m' : Machine) (g : ℕ) → ((p u : ℕ) → u < tick → ¬ Missed s p u) → Chosen t m.claiming even g → m' ≡ worked_tick (bit g) m
+        → Before t m' even next_event (tick + 1)
     next-tick m' g met e w =
-        rw add-one (subst (λ (x : Machine). Before t x even nextEvent (suc tick)) (sym w) (record {
+        rw add-one (subst (λ (x : Machine). Before t x even next_event (suc tick)) (sym w) (record {
           related = tick-keeps s fit.valid few tick m a.ready (bit g) (λ p l. chosen-row g e p);
           toggles = toggled-tick s fit.valid m even (bit g) a.toggles;
-          next-event = next-event-tick s fit.valid few tick nextEvent m a.ready a.next-event (bit g);
-          met = λ p u l. met_at m even nextEvent tick met a p u (omega arith);
+          next-event = next-event-tick s fit.valid few tick next_event m a.ready a.next-event (bit g);
+          met = λ p u l. met_at m even next_event tick met a p u (omega arith);
         }))

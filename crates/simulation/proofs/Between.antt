@@ -10,12 +10,12 @@ use lib.Dec.{leb}
 use lib.ListN.{length, length-map}
 use lib.Seq.{ext_get_or}
 use borrow.Author.Tests.{leb-true, leb-false}
-use Rattle.model.specs.Fence.{unfencedCores}
-use Rattle.model.specs.Task.{Task, Table, absentTask, task, ValidTask, AllValid, release, due, newest, width_of}
+use Rattle.model.specs.Fence.{unfenced_cores}
+use Rattle.model.specs.Task.{Task, Table, absent_task, task, ValidTask, AllValid, release, due, newest, width_of}
 use Rattle.model.specs.Grants.{Claimant, claimants, grants}
 use Rattle.model.specs.Row.{row}
 use Rattle.model.specs.Jobs.{Book}
-use Rattle.model.specs.Claims.{jobClaims, taskClaims, widths, grantsOf}
+use Rattle.model.specs.Claims.{job_claims, task_claims, widths, grants_of}
 use Rattle.model.specs.Lists.{full}
 use Rattle.model.proofs.Bools.{same_test, not-true-false}
 use Rattle.model.proofs.Jobs.{after-release, before-due, claims-if, done-off}
@@ -75,15 +75,15 @@ pub widths-stay : (s : Table) (t u : ℕ) → SameNewest s t u → widths s u �
 widths-stay s t u e =
     ext_get_or 0 (widths s u) (widths s t) (size u ∙ sym (size t)) (λ i l.
     let h : i < length s.tasks = subst (λ (n : ℕ). i < n) (size u) l in
-    map_at (λ τ. width_of τ (newest τ u)) s.tasks i 0 absentTask h
-    ∙ (ap (width_of (task s i)) (e i h) ∙ sym (map_at (λ τ. width_of τ (newest τ t)) s.tasks i 0 absentTask h)))
+    map_at (λ τ. width_of τ (newest τ u)) s.tasks i 0 absent_task h
+    ∙ (ap (width_of (task s i)) (e i h) ∙ sym (map_at (λ τ. width_of τ (newest τ t)) s.tasks i 0 absent_task h)))
   where
     size : (w : ℕ) → length (widths s w) ≡ length s.tasks
     size w = length-map s.tasks (λ τ. width_of τ (newest τ w))
 
 -- where the same tasks claim, with the same widths, the cores go to the same
 pub same-claims :
-    (s : Table) (t u : ℕ) → SameNewest s t u → ((p : ℕ) → p < length s.tasks → taskClaims s (full s u) p ≡ taskClaims s (full s t) p)
+    (s : Table) (t u : ℕ) → SameNewest s t u → ((p : ℕ) → p < length s.tasks → task_claims s (full s u) p ≡ task_claims s (full s t) p)
     → SameAllocation s t u
 same-claims s t u new e = record {
   grants = same;
@@ -93,27 +93,27 @@ same-claims s t u new e = record {
     wide : widths s (full s u).tick ≡ widths s (full s t).tick
     wide = ap (widths s) (full-tick s u) ∙ (widths-stay s t u new ∙ ap (widths s) (sym (full-tick s t)))
 
-    same : grantsOf s (full s u) ≡ grantsOf s (full s t)
+    same : grants_of s (full s u) ≡ grants_of s (full s t)
     same =
-        ap (λ (bs : List Claimant). grants s.rule bs (unfencedCores s))
-        (ap (λ (ws : List ℕ). claimants ws (taskClaims s (full s u))) wide
-        ∙ claimants-same (widths s (full s t).tick) (taskClaims s (full s u)) (taskClaims s (full s t))
+        ap (λ (bs : List Claimant). grants s.rule bs (unfenced_cores s))
+        (ap (λ (ws : List ℕ). claimants ws (task_claims s (full s u))) wide
+        ∙ claimants-same (widths s (full s t).tick) (task_claims s (full s u)) (task_claims s (full s t))
         (λ q l. e q (subst (λ (n : ℕ). q < n) (length-map s.tasks (λ τ. width_of τ (newest τ (full s t).tick))) l)))
 
 module _ (s : Table) (ok : AllValid s) where
   -- in the full-length run a job that claims has not ended
-  open-claims : (t p k : ℕ) → jobClaims s (full s t) p k ≡ true → ((full s t).job p k).ended ≡ false
+  open-claims : (t p k : ℕ) → job_claims s (full s t) p k ≡ true → ((full s t).job p k).ended ≡ false
   open-claims t p k c =
       not-true-false ((full s t).job p k).ended
       (λ e. true≢false (sym c ∙ done-off s.rule (task s p) k (full s t).tick ((full s t).job p k) e (full-claimed s t p k e)))
 
-  claims-at : (t p k : ℕ) → release (task s p) k ≤ t → t < due (task s p) k → ((full s t).job p k).ended ≡ false → jobClaims s (full s t) p k ≡ true
+  claims-at : (t p k : ℕ) → release (task s p) k ≤ t → t < due (task s p) k → ((full s t).job p k).ended ≡ false → job_claims s (full s t) p k ≡ true
   claims-at t p k a b o =
       claims-if s.rule (task s p) k (full s t).tick ((full s t).job p k) (omega (arith, full-tick s t)) (omega (arith, full-tick s t)) (rw o)
 
   module _ (t : ℕ) (quiet : ¬ Event s (suc t)) (p : ℕ) (l : p < length s.tasks) where
     -- a place that claims in the tick after claimed before it
-    claimed-before : (k : ℕ) → jobClaims s (full s (suc t)) p k ≡ true → jobClaims s (full s t) p k ≡ true
+    claimed-before : (k : ℕ) → job_claims s (full s (suc t)) p k ≡ true → job_claims s (full s t) p k ≡ true
     claimed-before k c =
         let a = after-release s.rule (task s p) k (full s (suc t)).tick ((full s (suc t)).job p k) c in
         let b = before-due s.rule (task s p) k (full s (suc t)).tick ((full s (suc t)).job p k) c in
@@ -128,7 +128,7 @@ module _ (s : Table) (ok : AllValid s) where
         stays e = subst (λ (n : ℕ). ((full s n).job p k).ended ≡ true) (add-suc t 0 ∙ ap suc (add-zero t)) (full-stays s t 1 p k e)
 
     -- and a place that claimed before it claims
-    claims-after : (k : ℕ) → jobClaims s (full s t) p k ≡ true → jobClaims s (full s (suc t)) p k ≡ true
+    claims-after : (k : ℕ) → job_claims s (full s t) p k ≡ true → job_claims s (full s (suc t)) p k ≡ true
     claims-after k c =
         let a = after-release s.rule (task s p) k (full s t).tick ((full s t).job p k) c in
         let b = before-due s.rule (task s p) k (full s t).tick ((full s t).job p k) c in
@@ -139,17 +139,17 @@ module _ (s : Table) (ok : AllValid s) where
         apart : {a : ℕ} → (a ≡ suc t → ⊥) → t < a → suc t < a
         apart n h = omega arith
 
-    claims-stay : taskClaims s (full s (suc t)) p ≡ taskClaims s (full s t) p
+    claims-stay : task_claims s (full s (suc t)) p ≡ task_claims s (full s t) p
     claims-stay =
-        same_test (taskClaims s (full s (suc t)) p) (taskClaims s (full s t) p)
+        same_test (task_claims s (full s (suc t)) p) (task_claims s (full s t) p)
         (λ e. let x = (claims-exact s ok (full s (suc t)) p l).0 e in (claims-exact s ok (full s t) p l).1 (x.0, claimed-before x.0 x.1))
         (λ e. let x = (claims-exact s ok (full s t) p l).0 e in (claims-exact s ok (full s (suc t)) p l).1 (x.0, claims-after x.0 x.1))
 
   -- over d ticks without an event
-  stay-over : (t d : ℕ) → NoEventBetween s t (suc (t + d)) → (p : ℕ) → p < length s.tasks → taskClaims s (full s (t + d)) p ≡ taskClaims s (full s t) p
-  stay-over t zero none p l = ap (λ (n : ℕ). taskClaims s (full s n) p) (add-zero t)
+  stay-over : (t d : ℕ) → NoEventBetween s t (suc (t + d)) → (p : ℕ) → p < length s.tasks → task_claims s (full s (t + d)) p ≡ task_claims s (full s t) p
+  stay-over t zero none p l = ap (λ (n : ℕ). task_claims s (full s n) p) (add-zero t)
   stay-over t (suc d) none p l =
-      ap (λ (n : ℕ). taskClaims s (full s n) p) (add-suc t d)
+      ap (λ (n : ℕ). task_claims s (full s n) p) (add-suc t d)
       ∙ (claims-stay (t + d) (none (suc (t + d)) (omega arith) (omega arith)) p l
       ∙ stay-over t d (λ w a b. none w a (omega arith)) p l)
 

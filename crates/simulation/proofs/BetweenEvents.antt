@@ -9,18 +9,18 @@ use native.Mathlib.Omega.{arith}
 use lib.Dec.{eqb, leb}
 use lib.ListN.{length, get_or, length-map, get_or-eq_default}
 use borrow.Author.Tests.{eqb-true, eqb-false, eq-eqb, ne_eqb, leb-true, leb-false}
-use Rattle.model.specs.Fence.{unfencedCores}
+use Rattle.model.specs.Fence.{unfenced_cores}
 use Rattle.model.specs.Search.{bit}
 use Rattle.model.specs.Task.{Table, task, AllValid, release, due, newest, width_of}
 use Rattle.model.specs.Grants.{some}
 use Rattle.model.specs.Jobs.{Job, Book}
-use Rattle.model.specs.Claims.{claims, served, taskClaims, widths, grantsOf, in_row}
+use Rattle.model.specs.Claims.{claims, served, task_claims, widths, grants_of, in_row}
 use Rattle.model.specs.Lists.{full}
 use Rattle.model.proofs.Runs.{full-tick, full-claimed, full-next}
 use Rattle.model.proofs.Grants.{grants-length}
 use Rattle.simulation.specs.PlaceRelation.{PlaceRelatedAt}
 use Rattle.simulation.specs.Machine.{Machine}
-use Rattle.simulation.proofs.Lines.{lineOn}
+use Rattle.simulation.proofs.Lines.{line_on}
 use Rattle.simulation.proofs.Place.{related-claims, pass-related}
 use Rattle.simulation.specs.Event.{Event, NoEventBetween, Ends, SameAllocation}
 use Rattle.simulation.specs.EventState.{PlaceRepresents, MachineRepresents}
@@ -29,23 +29,22 @@ use Rattle.simulation.proofs.Upcoming.{upcoming-later}
 use Rattle.simulation.proofs.Represents.{event-least, tick-represents, none-ends, last-ends}
 
 -- the tick that the book enters, at one place
-line-next : (s : Table) (u p : ℕ) → lineOn s.rule (task s p) u (in_row s (full s u) p) ((full s u).job p) ≡ (full s (suc u)).job p
+line-next : (s : Table) (u p : ℕ) → line_on s.rule (task s p) u (in_row s (full s u) p) ((full s u).job p) ≡ (full s (suc u)).job p
 unfolding served
 line-next s u p =
-    ap (λ (x : ℕ). lineOn s.rule (task s p) x (in_row s (full s u) p) ((full s u).job p)) (sym (full-tick s u))
+    ap (λ (x : ℕ). line_on s.rule (task s p) x (in_row s (full s u) p) ((full s u).job p)) (sym (full-tick s u))
     ∙ fun_ext (λ i. sym (full-next s u p i))
 
 -- a place that is in the row is a place of the table
 pub row_inside : (s : Table) (b : Book) (p : ℕ) → in_row s b p ≡ true → p < length s.tasks
 row_inside s b p e = go (leb (length s.tasks) p) refl
   where
-    size : length (grantsOf s b) ≡ length s.tasks
-    size = grants-length s.rule (widths s b.tick) (taskClaims s b) (unfencedCores s) ∙ length-map s.tasks (λ τ. width_of τ (newest τ b.tick))
+    size : length (grants_of s b) ≡ length s.tasks
+    size = grants-length s.rule (widths s b.tick) (task_claims s b) (unfenced_cores s) ∙ length-map s.tasks (λ τ. width_of τ (newest τ b.tick))
 
     go : (x : Bool) → leb (length s.tasks) p ≡ x → p < length s.tasks
     go true q =
-        absurd (false≢true (sym (ap some (get_or-eq_default (grantsOf s b) [] (subst (λ (n : ℕ). n ≤ p) (sym size) (leb-true (length s.tasks) p q))))
-        ∙ e))
+        absurd (false≢true (sym (ap some (get_or-eq_default (grants_of s b) [] (subst (λ (n : ℕ). n ≤ p) (sym size) (leb-true (length s.tasks) p q)))) ∙ e))
     go false q = leb-false (length s.tasks) p q
 
 -- WHAT IS LEFT
@@ -88,23 +87,21 @@ module _
     c p = bit m.claiming p
 
     -- what is left of place p after j ticks
-    abbrev afterHandling : ℕ → ℕ → ℕ
-    afterHandling j p = cond (granted p) (L p - j) (L p)
+    abbrev after_handling : ℕ → ℕ → ℕ
+    after_handling j p = cond (granted p) (L p - j) (L p)
 
     -- place p at tick u, j ticks after t
     abbrev At : ℕ → ℕ → ℕ → Type 0
-    At u j p = PlaceRelatedAt (task s p) (suc u) ((full s u).job p) (afterHandling j p) (cond (c p) (M p) (N p)) (N p) (c p)
+    At u j p = PlaceRelatedAt (task s p) (suc u) ((full s u).job p) (after_handling j p) (cond (c p) (M p) (N p)) (N p) (c p)
 
     -- it claims as it did at t
-    claims-is : (u j p : ℕ) → p < length s.tasks → At u j p → taskClaims s (full s u) p ≡ c p
+    claims-is : (u j p : ℕ) → p < length s.tasks → At u j p → task_claims s (full s u) p ≡ c p
     claims-is u j p l a =
         subst (λ (x : ℕ). claims s.rule (task s p) (newest (task s p) x) x ((full s u).job p (newest (task s p) x)) ≡ c p) (sym (full-tick s u))
-        (related-claims s.rule (task s p) (ok p l) u ((full s u).job p) (full-claimed s u p) (afterHandling j p) (cond (c p) (M p) (N p)) (N p) (c p) a)
+        (related-claims s.rule (task s p) (ok p l) u ((full s u).job p) (full-claimed s u p) (after_handling j p) (cond (c p) (M p) (N p)) (N p) (c p) a)
 
     start : (p : ℕ) → p < length s.tasks → At t 0 p
-    start p l =
-        subst (λ (x : ℕ). PlaceRelatedAt (task s p) (suc t) ((full s t).job p) x (cond (c p) (M p) (N p)) (N p) (c p)) (same (granted p))
-        (h.places p l).related
+    start p l = subst (λ (x : ℕ). PlaceRelatedAt (task s p) (suc t) ((full s t).job p) x (cond (c p) (M p) (N p)) (N p) (c p)) (same (granted p)) (h.places p l).related
       where
         same : (g : Bool) → L p ≡ cond g (L p - 0) (L p)
         same true = omega arith
@@ -126,34 +123,33 @@ module _
     -- the tick u at place p
     ticked : (u j : ℕ) → SameNewest s t u → ((p : ℕ) → p < length s.tasks → At u j p) → (p : ℕ) → p < length s.tasks
         → PlaceRelatedAt (task s p) (suc u) ((full s (suc u)).job p) (cond (granted p) (L p - suc j) (L p))
-        (cond (c p && not (granted p && eqb (afterHandling j p) 1)) (M p) (N p)) (N p) (c p && not (granted p && eqb (afterHandling j p) 1))
+        (cond (c p && not (granted p && eqb (after_handling j p) 1)) (M p) (N p)) (N p) (c p && not (granted p && eqb (after_handling j p) 1))
     ticked u j new a p l =
         subst₂ (λ (js : ℕ → Job) (x : ℕ). PlaceRelatedAt (task s p) (suc u) js x (cond c' (M p) (N p)) (N p) c')
-        (ap (λ (w : Bool). lineOn s.rule (task s p) u w ((full s u).job p)) (sym (same_at u j new a p)) ∙ line-next s u p)
+        (ap (λ (w : Bool). line_on s.rule (task s p) u w ((full s u).job p)) (sym (same_at u j new a p)) ∙ line-next s u p)
         (one_less (granted p) (L p) j)
-        (tick-represents s.rule (task s p) (ok p l) u ((full s u).job p) (full-claimed s u p) (afterHandling j p) (M p) (N p) (c p) (granted p) (a p l))
+        (tick-represents s.rule (task s p) (ok p l) u ((full s u).job p) (full-claimed s u p) (after_handling j p) (M p) (N p) (c p) (granted p) (a p l))
       where
         c' : Bool
-        c' = c p && not (granted p && eqb (afterHandling j p) 1)
+        c' = c p && not (granted p && eqb (after_handling j p) 1)
 
     -- j ticks, j below k
     pub no-event : (j : ℕ) → j < k → (p : ℕ) → p < length s.tasks → At (t + j) j p
     no-event zero b p l = subst (λ (u : ℕ). At u 0 p) (sym (add-zero t)) (start p l)
     no-event (suc j) b p l =
         subst (λ (u : ℕ). At u (suc j) p) (sym (add-suc t j))
-        (pass-related (task s p) (suc (t + j)) ((full s (suc (t + j))).job p) (afterHandling (suc j) p) (cond (c p) (M p) (N p)) (N p) (c p)
-        (subst (λ (x : Bool). PlaceRelatedAt (task s p) (suc (t + j)) ((full s (suc (t + j))).job p) (afterHandling (suc j) p) (cond x (M p) (N p)) (N p) x)
-        still
+        (pass-related (task s p) (suc (t + j)) ((full s (suc (t + j))).job p) (after_handling (suc j) p) (cond (c p) (M p) (N p)) (N p) (c p)
+        (subst (λ (x : Bool). PlaceRelatedAt (task s p) (suc (t + j)) ((full s (suc (t + j))).job p) (after_handling (suc j) p) (cond x (M p) (N p)) (N p) x) still
         (ticked (t + j) j (newest-is j (omega arith)) (λ q i. no-event j (omega arith) q i) p l))
         (λ e. absurd (omega (arith, near p l, event-least (task s p) (suc t) ((full s t).job p) (L p) (M p) (N p) (c p) (h.places p l)))))
       where
-        still : c p && not (granted p && eqb (afterHandling j p) 1) ≡ c p
+        still : c p && not (granted p && eqb (after_handling j p) 1) ≡ c p
         still = ap (λ (x : Bool). c p && not x) (not_last (granted p) (L p) j (λ g. let q = short p g in omega arith)) ∙ and-true (c p)
 
     -- what the k ticks enter at place p
-    line_at : (j : ℕ) → j < k → (p : ℕ) → lineOn s.rule (task s p) (t + j) (granted p) ((full s (t + j)).job p) ≡ (full s (suc (t + j))).job p
+    line_at : (j : ℕ) → j < k → (p : ℕ) → line_on s.rule (task s p) (t + j) (granted p) ((full s (t + j)).job p) ≡ (full s (suc (t + j))).job p
     line_at j b p =
-        ap (λ (w : Bool). lineOn s.rule (task s p) (t + j) w ((full s (t + j)).job p)) (sym (same_at (t + j) j (newest-is j b) (no-event j b) p))
+        ap (λ (w : Bool). line_on s.rule (task s p) (t + j) w ((full s (t + j)).job p)) (sym (same_at (t + j) j (newest-is j b) (no-event j b) p))
         ∙ line-next s (t + j) p
 
     left_is : (p j : ℕ) (x : Bool) → x ≡ true → cond x (L p - j) (L p) ≡ L p - j
@@ -166,11 +162,10 @@ module _
         true≢false
         (sym x.0
         ∙ (ap (λ (js : ℕ → Job). (js i).ended) (sym (line_at j (omega arith) p))
-        ∙ none-ends s.rule (task s p) (ok p l) (t + j) ((full s (t + j)).job p) (full-claimed s (t + j) p) (afterHandling j p) (cond (c p) (M p) (N p)) (N p)
-        (c p) (granted p)
+        ∙ none-ends s.rule (task s p) (ok p l) (t + j) ((full s (t + j)).job p) (full-claimed s (t + j) p) (after_handling j p) (cond (c p) (M p) (N p)) (N p) (c p) (granted p)
         (no-event j (omega arith) p l) more i (ends_by s (t + j) p i x)))
       where
-        more : granted p ≡ true → afterHandling j p ≡ 1 → ⊥
+        more : granted p ≡ true → after_handling j p ≡ 1 → ⊥
         more g e = omega (arith, short p g, left_is p j (granted p) g)
 
     -- so no tick before the k are over is an event
@@ -185,15 +180,14 @@ module _
     pub ends : (j : ℕ) → k ≡ suc j → (p : ℕ) → granted p ≡ true → k ≡ L p → Event s (suc (t + j))
     ends j e p g z =
         let l : p < length s.tasks = row_inside s (full s t) p (sym (row p) ∙ g) in
-        let x = last-ends s.rule (task s p) (ok p l) (t + j) ((full s (t + j)).job p) (full-claimed s (t + j) p) (afterHandling j p) (cond (c p) (M p) (N p))
-        (N p) (c p)
+        let x = last-ends s.rule (task s p) (ok p l) (t + j) ((full s (t + j)).job p) (full-claimed s (t + j) p) (after_handling j p) (cond (c p) (M p) (N p)) (N p) (c p)
         (no-event j (omega arith) p l) (omega (arith, left_is p j (granted p) g)) in (
           p,
           x.0,
           l,
           inr (inr (ends_at s (t + j) p x.0
               (ap (λ (js : ℕ → Job). (js x.0).ended)
-              (sym (line_at j (omega arith) p) ∙ ap (λ (w : Bool). lineOn s.rule (task s p) (t + j) w ((full s (t + j)).job p)) g)
+              (sym (line_at j (omega arith) p) ∙ ap (λ (w : Bool). line_on s.rule (task s p) (t + j) w ((full s (t + j)).job p)) g)
               ∙ x.2)
               x.1)),
         )
@@ -206,8 +200,7 @@ module _
       related =
           subst
           (λ (x : Bool).
-          PlaceRelatedAt (task s p) (suc (t + j)) ((full s (suc (t + j))).job p) (cond (granted p) (L p - suc j) (L p)) (cond (c p && not x) (M p) (N p)) (N p)
-          (c p && not x))
+          PlaceRelatedAt (task s p) (suc (t + j)) ((full s (suc (t + j))).job p) (cond (granted p) (L p - suc j) (L p)) (cond (c p && not x) (M p) (N p)) (N p) (c p && not x))
           (is_last (granted p) (L p) j (λ g. let q = short p g in omega arith))
           (ticked (t + j) j (newest-is j (omega arith)) (no-event j (omega arith)) p l);
       ahead = upcoming-later (task s p) (suc t) (suc (t + j)) (M p) (N p) (h.places p l).ahead (omega arith) (omega (arith, near p l));

@@ -16,7 +16,7 @@ use Rattle.model.specs.Search.{bit}
 use Rattle.model.proofs.Bools.{same_test}
 use Rattle.model.proofs.Digits.{or-bit, bit-power, bit-none}
 use Rattle.simulation.proofs.Sets.{set-has, set-lt, set_past, set_is}
-use Rattle.simulation.specs.EventState.{due_at, earliestOf}
+use Rattle.simulation.specs.EventState.{due_at, earliest_of}
 
 -- the set of those of the first i places whose event is t, digit by digit
 pub record DueTo (t i : ℕ) (ms : List ℕ) (set : ℕ) : Type 0 where
@@ -100,41 +100,41 @@ module _ (t i : ℕ) (ms : List ℕ) (set : ℕ) (h : DueTo t i ms set) where
 
 -- THE EARLIEST EVENT
 
-pub earliest-more : (i b b' : ℕ) (ms : List ℕ) → b ≡ earliestOf i ms → b' ≡ min b (get_or ms i 0) → b' ≡ earliestOf (i + 1) ms
-unfolding earliestOf
+pub earliest-more : (i b b' : ℕ) (ms : List ℕ) → b ≡ earliest_of i ms → b' ≡ min b (get_or ms i 0) → b' ≡ earliest_of (i + 1) ms
+unfolding earliest_of
 earliest-more i b b' ms e f =
-    let z : earliestOf (suc i) ms ≡ earliestOf (i + 1) ms = ap (λ (n : ℕ). earliestOf n ms) (sym (add-one i)) in
+    let z : earliest_of (suc i) ms ≡ earliest_of (i + 1) ms = ap (λ (n : ℕ). earliest_of n ms) (sym (add-one i)) in
     f ∙ (ap (λ (x : ℕ). min x (get_or ms i 0)) e ∙ z)
 
 -- it is no later than any of them
-pub earliest-below : (n : ℕ) (ms : List ℕ) (p : ℕ) → p < n → earliestOf n ms ≤ get_or ms p 0
-unfolding earliestOf
+pub earliest-below : (n : ℕ) (ms : List ℕ) (p : ℕ) → p < n → earliest_of n ms ≤ get_or ms p 0
+unfolding earliest_of
 earliest-below zero ms p l = absurd (not-suc-le-zero l)
 earliest-below (suc n) ms p l =
     ⊎_elim
-    (λ (e : p ≡ n). subst (λ (x : ℕ). earliestOf (suc n) ms ≤ get_or ms x 0) (sym e) (omega arith))
+    (λ (e : p ≡ n). subst (λ (x : ℕ). earliest_of (suc n) ms ≤ get_or ms x 0) (sym e) (omega arith))
     (λ (e : p < n). let o = earliest-below n ms p e in omega arith)
     (eq-or-lt_of_le (omega arith))
 
 -- and is one of them
-either-event : (n : ℕ) (ms : List ℕ) → (p : ℕ) × (p < suc n) × (get_or ms p 0 ≡ earliestOf n ms)
-unfolding earliestOf
+either-event : (n : ℕ) (ms : List ℕ) → (p : ℕ) × (p < suc n) × (get_or ms p 0 ≡ earliest_of n ms)
+unfolding earliest_of
 either-event zero ms = (0, omega arith, refl)
-either-event (suc n) ms = go (either-event n ms) (leb (earliestOf n ms) (get_or ms n 0)) refl
+either-event (suc n) ms = go (either-event n ms) (leb (earliest_of n ms) (get_or ms n 0)) refl
   where
-    go : (p : ℕ) × (p < suc n) × (get_or ms p 0 ≡ earliestOf n ms) → (x : Bool) → leb (earliestOf n ms) (get_or ms n 0) ≡ x
-        → (p : ℕ) × (p < suc (suc n)) × (get_or ms p 0 ≡ min (earliestOf n ms) (get_or ms n 0))
-    go r true q = (r.0, omega (arith, r.1), omega (arith, r.2, leb-true (earliestOf n ms) (get_or ms n 0) q))
-    go r false q = (n, omega arith, omega (arith, leb-false (earliestOf n ms) (get_or ms n 0) q))
+    go : (p : ℕ) × (p < suc n) × (get_or ms p 0 ≡ earliest_of n ms) → (x : Bool) → leb (earliest_of n ms) (get_or ms n 0) ≡ x
+        → (p : ℕ) × (p < suc (suc n)) × (get_or ms p 0 ≡ min (earliest_of n ms) (get_or ms n 0))
+    go r true q = (r.0, omega (arith, r.1), omega (arith, r.2, leb-true (earliest_of n ms) (get_or ms n 0) q))
+    go r false q = (n, omega arith, omega (arith, leb-false (earliest_of n ms) (get_or ms n 0) q))
 
-pub earliest-event : (n : ℕ) (ms : List ℕ) → 0 < n → (p : ℕ) × (p < n) × (get_or ms p 0 ≡ earliestOf n ms)
+pub earliest-event : (n : ℕ) (ms : List ℕ) → 0 < n → (p : ℕ) × (p < n) × (get_or ms p 0 ≡ earliest_of n ms)
 earliest-event zero ms some = absurd (not-suc-le-zero some)
-earliest-event (suc n) ms some = go (either-event n ms) (leb (earliestOf n ms) (get_or ms n 0)) refl
+earliest-event (suc n) ms some = go (either-event n ms) (leb (earliest_of n ms) (get_or ms n 0)) refl
   where
-    here : earliestOf (suc n) ms ≡ min (earliestOf n ms) (get_or ms n 0)
-    here = unfold earliestOf in refl
+    here : earliest_of (suc n) ms ≡ min (earliest_of n ms) (get_or ms n 0)
+    here = unfold earliest_of in refl
 
-    go : (p : ℕ) × (p < suc n) × (get_or ms p 0 ≡ earliestOf n ms) → (x : Bool) → leb (earliestOf n ms) (get_or ms n 0) ≡ x
-        → (p : ℕ) × (p < suc n) × (get_or ms p 0 ≡ earliestOf (suc n) ms)
-    go r true q = (r.0, r.1, omega (arith, here, r.2, leb-true (earliestOf n ms) (get_or ms n 0) q))
-    go r false q = (n, omega arith, omega (arith, here, leb-false (earliestOf n ms) (get_or ms n 0) q))
+    go : (p : ℕ) × (p < suc n) × (get_or ms p 0 ≡ earliest_of n ms) → (x : Bool) → leb (earliest_of n ms) (get_or ms n 0) ≡ x
+        → (p : ℕ) × (p < suc n) × (get_or ms p 0 ≡ earliest_of (suc n) ms)
+    go r true q = (r.0, r.1, omega (arith, here, r.2, leb-true (earliest_of n ms) (get_or ms n 0) q))
+    go r false q = (n, omega arith, omega (arith, here, leb-false (earliest_of n ms) (get_or ms n 0) q))

@@ -11,20 +11,20 @@ use Rattle.model.specs.Jobs.{Job}
 use Rattle.model.specs.Lists.{full}
 use Rattle.model.specs.Grants.{claimants, given, left, grants}
 use Rattle.model.specs.Search.{filtered, up_from}
-use Rattle.model.proofs.Computing.{Equal, computing}
+use Rattle.model.proofs.Computing.{computing}
 use Rattle.model.proofs.Examples.{t, on}
 use Rattle.model.proofs.Runs.{full-fresh}
-use Rattle.table.specs.declared.Answer.TheVariants.{Taken}
+use Rattle.table.specs.declared.Answer.TheVariants.{Passed}
 use Rattle.table.specs.declared.Task.{Task}
 use Rattle.table.specs.declared.Loaded.{Loaded}
-use Rattle.table.specs.Task.{noTask}
-use Rattle.rule.specs.Widths.{widthsIn}
-use Rattle.simulation.specs.Machine.{withRelease}
-use Rattle.simulation.specs.Places.{mapPlaces, setWhere}
-use Rattle.simulation.specs.TickState.{pairedIn}
+use Rattle.table.specs.Task.{no_task}
+use Rattle.rule.specs.Widths.{widths_in}
+use Rattle.simulation.specs.Machine.{with_release}
+use Rattle.simulation.specs.Places.{map_places, set_where}
+use Rattle.simulation.specs.TickState.{paired_in}
 use Rattle.simulation.specs.Event.{Ends, EventOf, Event}
-use Rattle.simulation.specs.EventState.{due_at, earliestOf}
-use Rattle.simulation.specs.Jump.{handledAll, leastLeft, elapsed, afterHandling, nextEventAhead, evenInJump, grantedInJump, ticksInJump, jumped, jumps}
+use Rattle.simulation.specs.EventState.{due_at, earliest_of}
+use Rattle.simulation.specs.Jump.{handled_all, least_left, elapsed, after_handling, next_event_ahead, even_in_jump, granted_in_jump, ticks_in_jump, jumped, jumps}
 
 -- ONE TASK that ends before its deadline: released at 0 and 5, ended at 1, due at 3
 abbrev early : Table
@@ -97,12 +97,12 @@ task-of o v c d p = task-of₂ o v v c d p
 
 abbrev loaded : ℕ → ℕ → List Task → Loaded
 loaded m r ts = record {
-  answer = Taken;
+  answer = Passed;
   count = length ts;
   cores = m;
   fence = 0;
   rule = r;
-  tasks = ts ++ replicate (32 - length ts) noTask;
+  tasks = ts ++ replicate (32 - length ts) no_task;
   start = 0;
   period = 0;
   horizon = 0;
@@ -112,18 +112,45 @@ loaded m r ts = record {
 abbrev ticks : ℕ → Loaded → List ℕ
 ticks n x = map (λ i. (jumps x i).tick) (up_from 0 n)
 
--- two tasks, under a rule
-abbrev both : ℕ → Loaded
-both r = loaded 2 r (task-of 0 2 2 6 6 ∷ task-of 0 1 2 5 6 ∷ [])
+-- of the tables above: an ended job's deadline is reached; end, deadline and release on one tick are one; tick 0 is where the first begins
+pub reached :
+    (ticks 7 (loaded 1 1 (task-of 0 1 1 3 5 ∷ [])) ≡ 0 ∷ 1 ∷ 3 ∷ 5 ∷ 6 ∷ 8 ∷ 10 ∷ [])
+    × (ticks 4 (loaded 1 1 (task-of 0 1 2 2 2 ∷ [])) ≡ 0 ∷ 2 ∷ 4 ∷ 6 ∷ [])
+    × (ticks 4 (loaded 1 1 (task-of 3 1 1 1 2 ∷ [])) ≡ 0 ∷ 3 ∷ 4 ∷ 5 ∷ [])
+unfolding jumps jumped ticks_in_jump granted_in_jump even_in_jump next_event_ahead after_handling elapsed least_left handled_all with_release due_at earliest_of paired_in widths_in map_places set_where
+    grants claimants given left filtered up_from
+reached = (refl, refl, refl)
 
--- TWO WIDTHS (request 108). The first task's jobs end where they are due and the next is released, with width 1 and then 2: the claimants are the same and
--- the choice is not. At 2 the second task has to wait, and goes on at 4
+-- and of two tasks: the second ends at 4, after the first has ended at 2 and freed its cores
+pub reached-by-two : ticks 6 (loaded 2 1 (task-of 0 2 2 6 6 ∷ task-of 0 1 2 5 6 ∷ [])) ≡ 0 ∷ 2 ∷ 4 ∷ 5 ∷ 6 ∷ 8 ∷ []
+unfolding jumps jumped ticks_in_jump granted_in_jump even_in_jump next_event_ahead after_handling elapsed least_left handled_all with_release due_at earliest_of paired_in widths_in map_places set_where
+    grants claimants given left filtered up_from
+reached-by-two = refl
+
+-- RULE 4 (request 109): at full length nothing is lent, so the events are those of rule 3
+pub reached-lending :
+    (ticks 6 (loaded 2 4 (task-of 0 2 2 6 6 ∷ task-of 0 1 2 5 6 ∷ [])) ≡ 0 ∷ 2 ∷ 4 ∷ 5 ∷ 6 ∷ 8 ∷ [])
+    × (ticks 6 (loaded 2 3 (task-of 0 2 2 6 6 ∷ task-of 0 1 2 5 6 ∷ [])) ≡ 0 ∷ 2 ∷ 4 ∷ 5 ∷ 6 ∷ 8 ∷ [])
+unfolding jumps jumped ticks_in_jump granted_in_jump even_in_jump next_event_ahead after_handling elapsed least_left handled_all with_release due_at earliest_of paired_in widths_in map_places set_where
+    grants claimants given left filtered up_from
+reached-lending = (refl, refl)
+
+-- TWO WIDTHS (request 108)
+
+-- what the choice of the i-th jump was made for, the places that were granted cores by it, and those at their second width
+abbrev choices : ℕ → Loaded → List (ℕ × ℕ × ℕ)
+choices n x = map (λ i. ((jumps x i).chosen, (jumps x i).granted, (jumps x i).even)) (up_from 1 n)
+
+-- the first task's jobs end where they are due and the next is released, with width 1 and then 2: the claimants are the same and the choice is not. At 2
+-- the second task has to wait, and goes on at 4
 abbrev alternating : Loaded
 alternating = loaded 2 1 (task-of₂ 0 1 2 2 2 2 ∷ task-of 0 1 3 6 6 ∷ [])
 
--- what the choice of the i-th jump was made for, the places that were granted cores by it, and those at their second width
-abbrev choice : ℕ → List ℕ
-choice i = (jumps alternating i).chosen ∷ (jumps alternating i).granted ∷ (jumps alternating i).even ∷ []
+pub reached-parity :
+    (ticks 5 alternating ≡ 0 ∷ 2 ∷ 4 ∷ 5 ∷ 6 ∷ []) × (choices 3 alternating ≡ (3, 3, 0) ∷ (3, 1, 1) ∷ (3, 3, 0) ∷ [])
+unfolding jumps jumped ticks_in_jump granted_in_jump even_in_jump next_event_ahead after_handling elapsed least_left handled_all with_release due_at earliest_of paired_in widths_in map_places set_where
+    grants claimants given left filtered up_from
+reached-parity = (refl, refl)
 
 -- the second task's even job does not fit beside the first: it is late at 7, in the second half of 2T, and was not at 3
 abbrev half : Loaded
@@ -133,27 +160,7 @@ half = loaded 2 1 (task-of 0 1 3 4 4 ∷ task-of₂ 0 1 2 2 3 4 ∷ [])
 abbrev owed : ℕ → Loaded → List ℕ
 owed n x = map (λ i. get_or (jumps x i).machine.left 1 0) (up_from 0 n)
 
-pub reached : Equal (
-    -- the tables above: an ended job's deadline is reached; end, deadline and release on one tick are one; tick 0 is where the first begins
-    (ticks 7 (loaded 1 1 (task-of 0 1 1 3 5 ∷ [])), 0 ∷ 1 ∷ 3 ∷ 5 ∷ 6 ∷ 8 ∷ 10 ∷ [])
-    ∷ (ticks 4 (loaded 1 1 (task-of 0 1 2 2 2 ∷ [])), 0 ∷ 2 ∷ 4 ∷ 6 ∷ [])
-    ∷ (ticks 4 (loaded 1 1 (task-of 3 1 1 1 2 ∷ [])), 0 ∷ 3 ∷ 4 ∷ 5 ∷ [])
-    -- two tasks: the second ends at 4, after the first has ended at 2 and freed its cores
-    ∷ (ticks 6 (both 1), 0 ∷ 2 ∷ 4 ∷ 5 ∷ 6 ∷ 8 ∷ [])
-    -- rule 4 (request 109): at full length nothing is lent, so the events are those of rule 3
-    ∷ (ticks 6 (both 4), 0 ∷ 2 ∷ 4 ∷ 5 ∷ 6 ∷ 8 ∷ [])
-    ∷ (ticks 6 (both 3), 0 ∷ 2 ∷ 4 ∷ 5 ∷ 6 ∷ 8 ∷ [])
-    -- two widths: the choices of three jumps
-    ∷ (ticks 5 alternating, 0 ∷ 2 ∷ 4 ∷ 5 ∷ 6 ∷ [])
-    ∷ (choice 1, 3 ∷ 3 ∷ 0 ∷ [])
-    ∷ (choice 2, 3 ∷ 1 ∷ 1 ∷ [])
-    ∷ (choice 3, 3 ∷ 3 ∷ 0 ∷ [])
-    -- late in the second half
-    ∷ (ticks 5 half, 0 ∷ 2 ∷ 3 ∷ 4 ∷ 7 ∷ [])
-    ∷ (owed 5 half, 0 ∷ 0 ∷ 0 ∷ 0 ∷ 2 ∷ [])
-    ∷ ((jumps half 4).due ∷ [], 2 ∷ [])
-    ∷ [])
-unfolding jumps jumped ticksInJump grantedInJump evenInJump nextEventAhead afterHandling elapsed leastLeft handledAll withRelease due_at earliestOf pairedIn
-    widthsIn mapPlaces setWhere
+pub late-in-second-half : (ticks 5 half ≡ 0 ∷ 2 ∷ 3 ∷ 4 ∷ 7 ∷ []) × (owed 5 half ≡ 0 ∷ 0 ∷ 0 ∷ 0 ∷ 2 ∷ []) × ((jumps half 4).due ≡ 2)
+unfolding jumps jumped ticks_in_jump granted_in_jump even_in_jump next_event_ahead after_handling elapsed least_left handled_all with_release due_at earliest_of paired_in widths_in map_places set_where
     grants claimants given left filtered up_from
-reached = refl
+late-in-second-half = (refl, refl, refl)

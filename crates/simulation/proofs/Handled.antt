@@ -14,9 +14,9 @@ use Rattle.model.specs.Task.{Task, Table, task, AllValid, ValidTask, due}
 use Rattle.model.specs.Jobs.{Job}
 use Rattle.model.specs.Lists.{full, Missed}
 use Rattle.model.proofs.Runs.{missed-at}
-use Rattle.simulation.specs.Places.{mapPlaces, setWhere}
-use Rattle.simulation.specs.Machine.{Machine, machine, withRelease, Sized}
-use Rattle.simulation.specs.TickState.{toggledBy}
+use Rattle.simulation.specs.Places.{map_places, set_where}
+use Rattle.simulation.specs.Machine.{Machine, machine, with_release, Sized}
+use Rattle.simulation.specs.TickState.{toggled_by}
 use Rattle.simulation.specs.PlaceRelation.{PlaceRelatedAt, WidthParity}
 use Rattle.simulation.proofs.Places.{each-length, each_at, each_none, each-still, each_more}
 use Rattle.simulation.proofs.Sets.{set-has, set-lt, set_past, set_is, toggled-bit}
@@ -24,119 +24,117 @@ use Rattle.simulation.proofs.Place.{overdue-has, overdue-is}
 use Rattle.simulation.proofs.MachineRelated.{Ready, Columns}
 use Rattle.simulation.proofs.WidthParity.{WidthToggled, Paired, parity-due}
 use Rattle.simulation.specs.EventState.{PlaceRepresents, PlaceRepresentsAt, MachineRepresents}
-use Rattle.simulation.specs.Jump.{handled, releasesAt, handledAll}
+use Rattle.simulation.specs.Jump.{handled, releases_at, handled_all}
 use Rattle.simulation.proofs.Represents.{same-represents, represents-pass, represents-release, represents-event}
 
 -- PLACE BY PLACE
 
 -- no place is due
-pub handled-none : (t : ℕ) (f : ℕ → Bool) (C D T : List ℕ) (m : Machine) → m.claiming < 2 ^ 32 → ((p : ℕ) → f p ≡ false) → handledAll t f C D T m ≡ m
-unfolding handledAll
+pub handled-none : (t : ℕ) (f : ℕ → Bool) (C D T : List ℕ) (m : Machine) → m.claiming < 2 ^ 32 → ((p : ℕ) → f p ≡ false) → handled_all t f C D T m ≡ m
+unfolding handled_all
 handled-none t f C D T m h e = λ i. record { left = left i; event = event i; next = next i; claiming = claiming i }
   where
-    left : mapPlaces (λ p l. cond (releasesAt t f m p) (get_or C p 0) l) m.left ≡ m.left
-    left = each_none (λ p l. cond (releasesAt t f m p) (get_or C p 0) l) m.left (λ p x. rw (e p))
+    left : map_places (λ p l. cond (releases_at t f m p) (get_or C p 0) l) m.left ≡ m.left
+    left = each_none (λ p l. cond (releases_at t f m p) (get_or C p 0) l) m.left (λ p x. rw (e p))
 
-    event : mapPlaces (λ p x. cond (f p) (cond (eqb (get_or m.next p 0) t) (t + get_or D p 0) (get_or m.next p 0)) x) m.event ≡ m.event
+    event : map_places (λ p x. cond (f p) (cond (eqb (get_or m.next p 0) t) (t + get_or D p 0) (get_or m.next p 0)) x) m.event ≡ m.event
     event =
         each_none (λ p x. cond (f p) (cond (eqb (get_or m.next p 0) t) (t + get_or D p 0) (get_or m.next p 0)) x) m.event (λ p x. rw (e p))
 
-    next : mapPlaces (λ p x. cond (releasesAt t f m p) (t + get_or T p 0) x) m.next ≡ m.next
-    next = each_none (λ p x. cond (releasesAt t f m p) (t + get_or T p 0) x) m.next (λ p x. rw (e p))
+    next : map_places (λ p x. cond (releases_at t f m p) (t + get_or T p 0) x) m.next ≡ m.next
+    next = each_none (λ p x. cond (releases_at t f m p) (t + get_or T p 0) x) m.next (λ p x. rw (e p))
 
-    claiming : setWhere 32 (λ p. releasesAt t f m p || bit m.claiming p) ≡ m.claiming
-    claiming = sym (set_is 32 m.claiming (λ p. releasesAt t f m p || bit m.claiming p) h (λ i l. rw (e i)))
+    claiming : set_where 32 (λ p. releases_at t f m p || bit m.claiming p) ≡ m.claiming
+    claiming = sym (set_is 32 m.claiming (λ p. releases_at t f m p || bit m.claiming p) h (λ i l. rw (e i)))
 
 -- the same are
-pub handled-same : (t : ℕ) (f g : ℕ → Bool) (C D T : List ℕ) (m : Machine) → ((p : ℕ) → f p ≡ g p) → handledAll t f C D T m ≡ handledAll t g C D T m
-handled-same t f g C D T m e = ap (λ (h : ℕ → Bool). handledAll t h C D T m) (fun_ext e)
+pub handled-same : (t : ℕ) (f g : ℕ → Bool) (C D T : List ℕ) (m : Machine) → ((p : ℕ) → f p ≡ g p) → handled_all t f C D T m ≡ handled_all t g C D T m
+handled-same t f g C D T m e = ap (λ (h : ℕ → Bool). handled_all t h C D T m) (fun_ext e)
 
 -- of g are due those of f, and place p
 module _
     (t : ℕ) (f g : ℕ → Bool) (C D T : List ℕ) (m : Machine) (p : ℕ) (off : f p ≡ false) (on : g p ≡ true) (other : (q : ℕ) → (q ≡ p → ⊥) → g q ≡ f q)
   where
     abbrev before : Machine
-    before = handledAll t f C D T m
+    before = handled_all t f C D T m
 
     -- its next release is as it was
     still-next : get_or before.next p 0 ≡ get_or m.next p 0
-    unfolding handledAll
-    still-next = each-still (λ p x. cond (releasesAt t f m p) (t + get_or T p 0) x) m.next p (λ x. rw off)
+    unfolding handled_all
+    still-next = each-still (λ p x. cond (releases_at t f m p) (t + get_or T p 0) x) m.next p (λ x. rw off)
 
     abbrev waited : Machine
     waited = machine before.left (set before.event p (get_or before.next p 0)) before.next before.claiming
 
     event-more :
         (v : ℕ) → cond (eqb (get_or m.next p 0) t) (t + get_or D p 0) (get_or m.next p 0) ≡ v
-        → set before.event p v ≡ (handledAll t g C D T m).event
-    unfolding handledAll
+        → set before.event p v ≡ (handled_all t g C D T m).event
+    unfolding handled_all
     event-more v e =
         each_more (λ p x. cond (f p) (cond (eqb (get_or m.next p 0) t) (t + get_or D p 0) (get_or m.next p 0)) x)
         (λ p x. cond (g p) (cond (eqb (get_or m.next p 0) t) (t + get_or D p 0) (get_or m.next p 0)) x) m.event p v (rw on e)
         (λ q x n. rw (other q n))
 
     -- its next job is released
-    released-more : eqb (get_or m.next p 0) t ≡ true → p < 32 → withRelease p t (get_or C p 0) (get_or D p 0) (get_or T p 0) before ≡ handledAll t g C D T m
-    unfolding withRelease
+    released-more : eqb (get_or m.next p 0) t ≡ true → p < 32 → with_release p t (get_or C p 0) (get_or D p 0) (get_or T p 0) before ≡ handled_all t g C D T m
+    unfolding with_release
     released-more e h = λ i. record { left = left i; event = event-more (t + get_or D p 0) (rw e) i; next = next i; claiming = claims i }
       where
-        left : set before.left p (get_or C p 0) ≡ (handledAll t g C D T m).left
-        left = unfold handledAll in
-            each_more (λ p l. cond (releasesAt t f m p) (get_or C p 0) l) (λ p l. cond (releasesAt t g m p) (get_or C p 0) l) m.left p (get_or C p 0) (rw (on, e))
+        left : set before.left p (get_or C p 0) ≡ (handled_all t g C D T m).left
+        left = unfold handled_all in
+            each_more (λ p l. cond (releases_at t f m p) (get_or C p 0) l) (λ p l. cond (releases_at t g m p) (get_or C p 0) l) m.left p (get_or C p 0) (rw (on, e))
             (λ q x n. rw (other q n))
 
-        next : set before.next p (t + get_or T p 0) ≡ (handledAll t g C D T m).next
-        next = unfold handledAll in
-            each_more (λ p x. cond (releasesAt t f m p) (t + get_or T p 0) x) (λ p x. cond (releasesAt t g m p) (t + get_or T p 0) x) m.next p (t + get_or T p 0)
-            (rw (on, e))
+        next : set before.next p (t + get_or T p 0) ≡ (handled_all t g C D T m).next
+        next = unfold handled_all in
+            each_more (λ p x. cond (releases_at t f m p) (t + get_or T p 0) x) (λ p x. cond (releases_at t g m p) (t + get_or T p 0) x) m.next p (t + get_or T p 0) (rw (on, e))
             (λ q x n. rw (other q n))
 
         F : ℕ → Bool
-        F q = releasesAt t f m q || bit m.claiming q
+        F q = releases_at t f m q || bit m.claiming q
 
         G : ℕ → Bool
-        G q = releasesAt t g m q || bit m.claiming q
+        G q = releases_at t g m q || bit m.claiming q
 
-        bits : (q : ℕ) → q < 32 → (x : Bool) → eqb q p ≡ x → x || bit (setWhere 32 F) q ≡ G q
+        bits : (q : ℕ) → q < 32 → (x : Bool) → eqb q p ≡ x → x || bit (set_where 32 F) q ≡ G q
         bits q l true z = subst (λ (r : ℕ). true ≡ G r) (sym (eqb-true q p z)) (rw (on, e))
         bits q l false z = set-has 32 F q l ∙ ap (λ (b : Bool). b && eqb (get_or m.next q 0) t || bit m.claiming q) (sym (other q (eqb-false q p z)))
 
-        claims : setWhere 32 (λ q. eqb q p || bit before.claiming q) ≡ (handledAll t g C D T m).claiming
-        claims = unfold handledAll in
-            set_is 32 (setWhere 32 (λ q. eqb q p || bit (setWhere 32 F) q)) G (set-lt 32 (λ q. eqb q p || bit (setWhere 32 F) q))
-            (λ q l. set-has 32 (λ q. eqb q p || bit (setWhere 32 F) q) q l ∙ bits q l (eqb q p) refl)
+        claims : set_where 32 (λ q. eqb q p || bit before.claiming q) ≡ (handled_all t g C D T m).claiming
+        claims = unfold handled_all in
+            set_is 32 (set_where 32 (λ q. eqb q p || bit (set_where 32 F) q)) G (set-lt 32 (λ q. eqb q p || bit (set_where 32 F) q))
+            (λ q l. set-has 32 (λ q. eqb q p || bit (set_where 32 F) q) q l ∙ bits q l (eqb q p) refl)
 
     -- or it waits for its next release
-    waited-more : eqb (get_or m.next p 0) t ≡ false → waited ≡ handledAll t g C D T m
+    waited-more : eqb (get_or m.next p 0) t ≡ false → waited ≡ handled_all t g C D T m
     waited-more e = λ i. record { left = left i; event = event i; next = next i; claiming = claims i }
       where
-        same : (q : ℕ) (x : Bool) → eqb q p ≡ x → releasesAt t f m q ≡ releasesAt t g m q
-        same q true z = subst (λ (r : ℕ). releasesAt t f m r ≡ releasesAt t g m r) (sym (eqb-true q p z)) (rw (off, on) (sym e))
+        same : (q : ℕ) (x : Bool) → eqb q p ≡ x → releases_at t f m q ≡ releases_at t g m q
+        same q true z = subst (λ (r : ℕ). releases_at t f m r ≡ releases_at t g m r) (sym (eqb-true q p z)) (rw (off, on) (sym e))
         same q false z = ap (λ (b : Bool). b && eqb (get_or m.next q 0) t) (sym (other q (eqb-false q p z)))
 
-        all : releasesAt t f m ≡ releasesAt t g m
+        all : releases_at t f m ≡ releases_at t g m
         all = fun_ext (λ q. same q (eqb q p) refl)
 
-        left : before.left ≡ (handledAll t g C D T m).left
-        left = unfold handledAll in ap (λ (h : ℕ → Bool). mapPlaces (λ p l. cond (h p) (get_or C p 0) l) m.left) all
+        left : before.left ≡ (handled_all t g C D T m).left
+        left = unfold handled_all in ap (λ (h : ℕ → Bool). map_places (λ p l. cond (h p) (get_or C p 0) l) m.left) all
 
-        event : set before.event p (get_or before.next p 0) ≡ (handledAll t g C D T m).event
+        event : set before.event p (get_or before.next p 0) ≡ (handled_all t g C D T m).event
         event = ap (λ (v : ℕ). set before.event p v) still-next ∙ event-more (get_or m.next p 0) (rw e)
 
-        next : before.next ≡ (handledAll t g C D T m).next
-        next = unfold handledAll in ap (λ (h : ℕ → Bool). mapPlaces (λ p x. cond (h p) (t + get_or T p 0) x) m.next) all
+        next : before.next ≡ (handled_all t g C D T m).next
+        next = unfold handled_all in ap (λ (h : ℕ → Bool). map_places (λ p x. cond (h p) (t + get_or T p 0) x) m.next) all
 
-        claims : before.claiming ≡ (handledAll t g C D T m).claiming
-        claims = unfold handledAll in ap (λ (h : ℕ → Bool). setWhere 32 (λ p. h p || bit m.claiming p)) all
+        claims : before.claiming ≡ (handled_all t g C D T m).claiming
+        claims = unfold handled_all in ap (λ (h : ℕ → Bool). set_where 32 (λ p. h p || bit m.claiming p)) all
 
-    pub handled-more : p < 32 → handled p t (get_or C p 0) (get_or D p 0) (get_or T p 0) before ≡ handledAll t g C D T m
+    pub handled-more : p < 32 → handled p t (get_or C p 0) (get_or D p 0) (get_or T p 0) before ≡ handled_all t g C D T m
     unfolding handled
     handled-more h =
-        ap (λ (v : ℕ). cond (eqb v t) (withRelease p t (get_or C p 0) (get_or D p 0) (get_or T p 0) before) waited) still-next
+        ap (λ (v : ℕ). cond (eqb v t) (with_release p t (get_or C p 0) (get_or D p 0) (get_or T p 0) before) waited) still-next
         ∙ go (eqb (get_or m.next p 0) t) refl
       where
-        go :
-            (x : Bool) → eqb (get_or m.next p 0) t ≡ x → cond x (withRelease p t (get_or C p 0) (get_or D p 0) (get_or T p 0) before) waited ≡ handledAll t g C D T m
+        go : (x : Bool) → eqb (get_or m.next p 0) t ≡ x → cond x (with_release p t (get_or C p 0) (get_or D p 0) (get_or T p 0) before) waited ≡ handled_all t g C D T m
         go true e = released-more e h
         go false e = waited-more e
 
@@ -177,16 +175,16 @@ module _
         (past : (p : ℕ) → length s.tasks ≤ p → d p ≡ false) (met : (p : ℕ) → ¬ Missed s p t)
         (O v C D T : List ℕ) (of : Columns s O v C D T)
       where
-        abbrev afterHandling : Machine
-        afterHandling = handledAll t d C D T m
+        abbrev after_handling : Machine
+        after_handling = handled_all t d C D T m
 
-        sized : Sized afterHandling
-        unfolding handledAll
+        sized : Sized after_handling
+        unfolding handled_all
         sized = record {
-          left = each-length (λ p l. cond (releasesAt t d m p) (get_or C p 0) l) m.left ∙ h.sized.left;
+          left = each-length (λ p l. cond (releases_at t d m p) (get_or C p 0) l) m.left ∙ h.sized.left;
           event =
               each-length (λ p x. cond (d p) (cond (eqb (get_or m.next p 0) t) (t + get_or D p 0) (get_or m.next p 0)) x) m.event ∙ h.sized.event;
-          next = each-length (λ p x. cond (releasesAt t d m p) (t + get_or T p 0) x) m.next ∙ h.sized.next;
+          next = each-length (λ p x. cond (releases_at t d m p) (t + get_or T p 0) x) m.next ∙ h.sized.next;
         }
 
         module _ (p : ℕ) (l : p < length s.tasks) where
@@ -221,8 +219,7 @@ module _
               (cond (b && x) (t + get_or T p 0) N) (b && x || c)
           here true e true f =
               let at : M ≡ t = eqb-true M t (sym (exact p l) ∙ e) in
-              represents-release (task s p) (ok p l) t ((full s t).job p) L M N c (h.places p l) (eqb-true N t f) (none at) (get_or C p 0) (get_or D p 0)
-              (get_or T p 0)
+              represents-release (task s p) (ok p l) t ((full s t).job p) L M N c (h.places p l) (eqb-true N t f) (none at) (get_or C p 0) (get_or D p 0) (get_or T p 0)
               (of.lengths p l) (of.deadlines p l) (of.periods p l)
           here true e false f =
               let at : M ≡ t = eqb-true M t (sym (exact p l) ∙ e) in
@@ -230,35 +227,34 @@ module _
           here false e x f =
               represents-pass (task s p) t ((full s t).job p) L M N c (h.places p l) (eqb-false M t (sym (exact p l) ∙ e))
 
-          place : PlaceRepresentsAt s t (suc t) afterHandling p
-          unfolding handledAll
+          place : PlaceRepresentsAt s t (suc t) after_handling p
+          unfolding handled_all
           place =
               same-represents (task s p) (suc t) ((full s t).job p)
-              (get_or afterHandling.left p 0) (cond (releasesAt t d m p) (get_or C p 0) L)
-              (get_or afterHandling.event p 0) (cond (d p) (cond (eqb N t) (t + get_or D p 0) N) M)
-              (get_or afterHandling.next p 0) (cond (releasesAt t d m p) (t + get_or T p 0) N)
-              (bit afterHandling.claiming p) (releasesAt t d m p || c)
-              (each_at (λ p l. cond (releasesAt t d m p) (get_or C p 0) l) m.left p (omega (arith, h.sized.left, below)))
+              (get_or after_handling.left p 0) (cond (releases_at t d m p) (get_or C p 0) L)
+              (get_or after_handling.event p 0) (cond (d p) (cond (eqb N t) (t + get_or D p 0) N) M)
+              (get_or after_handling.next p 0) (cond (releases_at t d m p) (t + get_or T p 0) N)
+              (bit after_handling.claiming p) (releases_at t d m p || c)
+              (each_at (λ p l. cond (releases_at t d m p) (get_or C p 0) l) m.left p (omega (arith, h.sized.left, below)))
               (each_at (λ p x. cond (d p) (cond (eqb (get_or m.next p 0) t) (t + get_or D p 0) (get_or m.next p 0)) x) m.event p
               (omega (arith, h.sized.event, below)))
-              (each_at (λ p x. cond (releasesAt t d m p) (t + get_or T p 0) x) m.next p (omega (arith, h.sized.next, below)))
-              (set-has 32 (λ p. releasesAt t d m p || bit m.claiming p) p below)
+              (each_at (λ p x. cond (releases_at t d m p) (t + get_or T p 0) x) m.next p (omega (arith, h.sized.next, below)))
+              (set-has 32 (λ p. releases_at t d m p || bit m.claiming p) p below)
               (here (d p) refl (eqb N t) refl)
 
         -- the due places have been handled
-        pub handled-represents : MachineRepresents s t (suc t) afterHandling
+        pub handled-represents : MachineRepresents s t (suc t) after_handling
         handled-represents = record { sized = sized; places = place; beyond = λ p q. go p q (leb 32 p) refl }
           where
-            go : (p : ℕ) → length s.tasks ≤ p → (x : Bool) → leb 32 p ≡ x → bit afterHandling.claiming p ≡ false
-            go p q true x = unfold handledAll in set_past 32 (λ p. releasesAt t d m p || bit m.claiming p) p (leb-true 32 p x)
-            go p q false x = unfold handledAll in
-                set-has 32 (λ p. releasesAt t d m p || bit m.claiming p) p (leb-false 32 p x) ∙ rw (past p q) (h.beyond p q)
+            go : (p : ℕ) → length s.tasks ≤ p → (x : Bool) → leb 32 p ≡ x → bit after_handling.claiming p ≡ false
+            go p q true x = unfold handled_all in set_past 32 (λ p. releases_at t d m p || bit m.claiming p) p (leb-true 32 p x)
+            go p q false x = unfold handled_all in
+                set-has 32 (λ p. releases_at t d m p || bit m.claiming p) p (leb-false 32 p x) ∙ rw (past p q) (h.beyond p q)
 
 -- a place that is released is turned to its other width. q is the set of the places with two, e that of those at their second
 pub handled-parity :
-    (s : Table) → AllValid s → (t : ℕ) (m m' : Machine) (q e : ℕ) → MachineRepresents s t t m → MachineRepresents s t (suc t) m' → Paired s q
-    → WidthToggled s m e
-    → WidthToggled s m' (toggledBy q e m.claiming m'.claiming)
+    (s : Table) → AllValid s → (t : ℕ) (m m' : Machine) (q e : ℕ) → MachineRepresents s t t m → MachineRepresents s t (suc t) m' → Paired s q → WidthToggled s m e
+    → WidthToggled s m' (toggled_by q e m.claiming m'.claiming)
 handled-parity s ok t m m' q e h h' two turns p l =
     subst (WidthParity (task s p) (get_or m'.next p 0)) (sym (toggled-bit q e m.claiming m'.claiming p))
     (parity-due (task s p) (ok p l) t ((full s t).job p)
@@ -269,7 +265,7 @@ handled-parity s ok t m m' q e h h' two turns p l =
 -- THE MACHINE OF CRATE SIMULATION: a place that does not claim has its next release for its event
 
 abbrev pub plain : Machine → Machine
-plain m = machine m.left (mapPlaces (λ p d. cond (bit m.claiming p) d (get_or m.next p 0)) m.event) m.next m.claiming
+plain m = machine m.left (map_places (λ p d. cond (bit m.claiming p) d (get_or m.next p 0)) m.event) m.next m.claiming
 
 -- the run is related to the book as that machine is
 pub handled-ready : (s : Table) (t : ℕ) (m : Machine) → length s.tasks ≤ 32 → MachineRepresents s t (suc t) m → Ready s t (plain m)

@@ -11,7 +11,7 @@ use Rattle.simulation.specs.Places.{segment}
 use Rattle.simulation.specs.Machine.{Machine, machine, machine_of}
 use Rattle.simulation.proofs.Parts.{front_at, store-left}
 use Rattle.simulation.specs.Jump.{GrantedOwe, elapsed}
-use Rattle.model.proofs.SetWalk.{taken, lowest, digit, others, Off, off-turn}
+use Rattle.simulation.proofs.SetWalk.{taken, lowest, digit, others, Off, off-turn}
 use Rattle.simulation.proofs.Passing.{still-left, passed_on, passed-out}
 
 -- what is left of the lowest place once it has had its k ticks
@@ -38,47 +38,45 @@ module _
     abbrev before : ℕ → Bool
     before = taken granted rest
 
-    abbrev afterHandling : ℕ → Bool
-    afterHandling = taken granted (others rest)
+    abbrev after_handling : ℕ → Bool
+    after_handling = taken granted (others rest)
 
     have : (bit m.claiming (lowest rest) ≡ true) × (k ≤ get_or m.left (lowest rest) 0)
     have = owed (lowest rest) (subset (lowest rest) w.here)
 
     still : get_or (elapsed k before m).left (lowest rest) 0 ≡ get_or m.left (lowest rest) 0
-    still = still-left k before afterHandling m (lowest rest) w.off w.on w.same
+    still = still-left k before after_handling m (lowest rest) w.off w.on w.same
 
     pub turn : GrantStep k granted rest m (elapsed k before m)
     unfolding elapsed
     turn = record {
       owed = omega (arith, still, have.1);
       on = λ left.
-          subst (λ (x : ℕ). machine (set (elapsed k before m).left (lowest rest) (x - k)) m.event m.next (elapsed k before m).claiming
-          ≡ elapsed k afterHandling m)
+          subst (λ (x : ℕ). machine (set (elapsed k before m).left (lowest rest) (x - k)) m.event m.next (elapsed k before m).claiming ≡ elapsed k after_handling m)
           (sym still)
-          (passed_on k before afterHandling m (lowest rest) w.off w.on w.same
+          (passed_on k before after_handling m (lowest rest) w.off w.on w.same
           (ne_eqb (get_or m.left (lowest rest) 0) k (λ e. left (omega (arith, still)))));
       member = λ last. omega (arith, w.one, (finished last).0);
       out = λ last.
           subst
           (λ (x : ℕ).
           machine (set (elapsed k before m).left (lowest rest) (x - k)) m.event m.next ((elapsed k before m).claiming - digit rest)
-          ≡ elapsed k afterHandling m)
+          ≡ elapsed k after_handling m)
           (sym still)
           (subst
           (λ (b : ℕ).
           machine (set (elapsed k before m).left (lowest rest) (get_or m.left (lowest rest) 0 - k)) m.event m.next ((elapsed k before m).claiming - b)
-          ≡ elapsed k afterHandling m)
+          ≡ elapsed k after_handling m)
           (sym w.one) (finished last).1);
     }
       where
         finished :
             more k rest (elapsed k before m) ≡ 0
             → (2 ^ lowest rest ≤ (elapsed k before m).claiming)
-            × (machine (set (elapsed k before m).left (lowest rest) (get_or m.left (lowest rest) 0 - k)) m.event m.next
-            ((elapsed k before m).claiming - 2 ^ lowest rest)
-            ≡ elapsed k afterHandling m)
+            × (machine (set (elapsed k before m).left (lowest rest) (get_or m.left (lowest rest) 0 - k)) m.event m.next ((elapsed k before m).claiming - 2 ^ lowest rest)
+            ≡ elapsed k after_handling m)
         finished last =
-            passed-out k before afterHandling m (lowest rest) w.off w.on w.same w.below have.0
+            passed-out k before after_handling m (lowest rest) w.off w.on w.same w.below have.0
             (eq-eqb (get_or m.left (lowest rest) 0) k (omega (arith, still, have.1)))
 
 -- A step on a machine whose numbers are in one list

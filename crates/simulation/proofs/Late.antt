@@ -10,7 +10,7 @@ use borrow.Author.Tests.{eqb-true, eq-eqb, ltb-true, lt-ltb}
 use Rattle.model.specs.Search.{any, least, bit}
 use Rattle.model.specs.Task.{Table, task, AllValid}
 use Rattle.model.specs.Lists.{full, Missed}
-use Rattle.model.specs.Verdict.{missedAt, missedIn}
+use Rattle.model.specs.Verdict.{missed_at, missed_in}
 use Rattle.model.proofs.Bools.{and_left, and_right, and_both, same_test, not-true-false}
 use Rattle.model.proofs.Search.{any_some, any_of, least-any, least-lowest}
 use Rattle.simulation.specs.Machine.{Machine, overdue}
@@ -38,9 +38,9 @@ module _ (s : Table) (ok : AllValid s) where
         (h.waiting p l b) t x.0 (omega arith) (x.1 ∙ full-tick s t) x.2
 
     -- the same of the tests
-    pub late-exact : (p : ℕ) → p < length s.tasks → i ≤ p → overdue t m p ≡ missedAt s t p
+    pub late-exact : (p : ℕ) → p < length s.tasks → i ≤ p → overdue t m p ≡ missed_at s t p
     late-exact p l b =
-        same_test (overdue t m p) (missedAt s t p)
+        same_test (overdue t m p) (missed_at s t p)
         (λ e.
         (missed-exact s ok t p l).1
         (late-missed p l b
@@ -57,39 +57,37 @@ module _ (s : Table) (ok : AllValid s) where
         (h.done p l b) t x.0 (omega arith) (x.1 ∙ full-tick s t) x.2 in
         absurd (omega (arith, ahead (bit m.claiming p) (h.done p l b), y.0))
       where
-        ahead :
-            (c : Bool) → PlaceRelatedAt (task s p) (suc t) ((full s t).job p) (get_or m.left p 0) (get_or m.event p 0) (get_or m.next p 0) c
-            → t < get_or m.event p 0
+        ahead : (c : Bool) → PlaceRelatedAt (task s p) (suc t) ((full s t).job p) (get_or m.left p 0) (get_or m.event p 0) (get_or m.next p 0) c → t < get_or m.event p 0
         ahead true w = w.ahead_of
         ahead false w = w.ahead_of
 
-    pub passed_none : (p : ℕ) → p < length s.tasks → p < i → missedAt s t p ≡ false
-    passed_none p l b = not-true-false (missedAt s t p) (λ e. passed-met p b ((missed-exact s ok t p l).0 e))
+    pub passed_none : (p : ℕ) → p < length s.tasks → p < i → missed_at s t p ≡ false
+    passed_none p l b = not-true-false (missed_at s t p) (λ e. passed-met p b ((missed-exact s ok t p l).0 e))
 
     -- where the walk finds a place late, it is the first that misses at t
-    pub late-first : i < length s.tasks → overdue t m i ≡ true → (missedIn s t ≡ true) × (least (length s.tasks) (missedAt s t) ≡ i)
-    unfolding missedIn
-    late-first l e = (any_of (length s.tasks) (missedAt s t) i l hit, le_antisymm no-later no-earlier)
+    pub late-first : i < length s.tasks → overdue t m i ≡ true → (missed_in s t ≡ true) × (least (length s.tasks) (missed_at s t) ≡ i)
+    unfolding missed_in
+    late-first l e = (any_of (length s.tasks) (missed_at s t) i l hit, le_antisymm no-later no-earlier)
       where
-        hit : missedAt s t i ≡ true
+        hit : missed_at s t i ≡ true
         hit = sym (late-exact i l (omega arith)) ∙ e
 
-        no-later : least (length s.tasks) (missedAt s t) ≤ i
-        no-later = not-less (λ q. true≢false (sym hit ∙ least-lowest (length s.tasks) (missedAt s t) i q))
+        no-later : least (length s.tasks) (missed_at s t) ≤ i
+        no-later = not-less (λ q. true≢false (sym hit ∙ least-lowest (length s.tasks) (missed_at s t) i q))
 
-        found : missedAt s t (least (length s.tasks) (missedAt s t)) ≡ true
-        found = least-any (length s.tasks) (missedAt s t) (any_of (length s.tasks) (missedAt s t) i l hit)
+        found : missed_at s t (least (length s.tasks) (missed_at s t)) ≡ true
+        found = least-any (length s.tasks) (missed_at s t) (any_of (length s.tasks) (missed_at s t) i l hit)
 
-        no-earlier : i ≤ least (length s.tasks) (missedAt s t)
+        no-earlier : i ≤ least (length s.tasks) (missed_at s t)
         no-earlier =
             not-less
-            (λ q. true≢false (sym found ∙ passed_none (least (length s.tasks) (missedAt s t)) (omega (arith, no-later)) q))
+            (λ q. true≢false (sym found ∙ passed_none (least (length s.tasks) (missed_at s t)) (omega (arith, no-later)) q))
 
   -- a tick that is ready has no miss
-  pub ready-none : (t : ℕ) (m : Machine) → Ready s t m → missedIn s t ≡ false
-  unfolding missedIn
+  pub ready-none : (t : ℕ) (m : Machine) → Ready s t m → missed_in s t ≡ false
+  unfolding missed_in
   ready-none t m h =
-      not-true-false (any (length s.tasks) (missedAt s t))
+      not-true-false (any (length s.tasks) (missed_at s t))
       (λ e.
-      let x = any_some (length s.tasks) (missedAt s t) e in
+      let x = any_some (length s.tasks) (missed_at s t) e in
       true≢false (sym x.2 ∙ passed_none t (length s.tasks) m h x.0 x.1 x.1))

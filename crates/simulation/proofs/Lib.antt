@@ -24,6 +24,7 @@ pub mod Upcoming
 pub mod Represents
 pub mod Between
 pub mod BetweenEvents
+pub mod SetWalk
 pub mod Passing
 pub mod JumpStep
 pub mod Shortest

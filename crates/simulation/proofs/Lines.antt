@@ -10,15 +10,13 @@ use Rattle.model.specs.Advance.{work}
 use Rattle.model.proofs.Jobs.{mk}
 
 -- a line after a tick in which its task had cores or not, with no report
-abbrev pub lineOn : Rule → Task → ℕ → Bool → (ℕ → Job) → ℕ → Job
-lineOn r τ t w js i = cond (claims r τ i t (js i) && w) (work τ.length false (js i)) (js i)
+abbrev pub line_on : Rule → Task → ℕ → Bool → (ℕ → Job) → ℕ → Job
+line_on r τ t w js i = cond (claims r τ i t (js i) && w) (work τ.length false (js i)) (js i)
 
-pub line-off : (r : Rule) (τ : Task) (t : ℕ) (w : Bool) (js : ℕ → Job) (i : ℕ) → claims r τ i t (js i) ≡ false → lineOn r τ t w js i ≡ js i
+pub line-off : (r : Rule) (τ : Task) (t : ℕ) (w : Bool) (js : ℕ → Job) (i : ℕ) → claims r τ i t (js i) ≡ false → line_on r τ t w js i ≡ js i
 line-off r τ t w js i e = rw e
 
-pub line-own :
-    (r : Rule) (τ : Task) (t : ℕ) (w : Bool) (js : ℕ → Job) (i : ℕ) → claims r τ i t (js i) ≡ true
-    → lineOn r τ t w js i ≡ cond w (work τ.length false (js i)) (js i)
+pub line-own : (r : Rule) (τ : Task) (t : ℕ) (w : Bool) (js : ℕ → Job) (i : ℕ) → claims r τ i t (js i) ≡ true → line_on r τ t w js i ≡ cond w (work τ.length false (js i)) (js i)
 line-own r τ t w js i e = rw e
 
 -- an open job that is served has had one tick more, and ends at C

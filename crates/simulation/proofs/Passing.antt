@@ -9,7 +9,7 @@ use lib.Dec.{eqb}
 use borrow.Author.Tests.{eqb-true, eqb-false}
 use Rattle.model.specs.Search.{bit}
 use Rattle.model.proofs.Digits.{BitCleared, clear-bit}
-use Rattle.simulation.specs.Places.{mapPlaces, setWhere}
+use Rattle.simulation.specs.Places.{map_places, set_where}
 use Rattle.simulation.specs.Machine.{Machine, machine, Sized}
 use Rattle.simulation.proofs.Places.{each-length, each_at, each_none, each-still, each_more}
 use Rattle.simulation.proofs.Sets.{set-has, set-lt, set_past, set_is}
@@ -41,13 +41,12 @@ pub passed_none : (k : ℕ) (f : ℕ → Bool) (m : Machine) → m.claiming < 2 
 unfolding elapsed
 passed_none k f m h e = λ i. record { left = left i; event = m.event; next = m.next; claiming = claiming i }
   where
-    left : mapPlaces (λ p l. cond (f p) (l - k) l) m.left ≡ m.left
+    left : map_places (λ p l. cond (f p) (l - k) l) m.left ≡ m.left
     left = each_none (λ p l. cond (f p) (l - k) l) m.left (λ p x. rw (e p))
 
-    claiming : setWhere 32 (λ p. bit m.claiming p && not (f p && eqb (get_or m.left p 0) k)) ≡ m.claiming
+    claiming : set_where 32 (λ p. bit m.claiming p && not (f p && eqb (get_or m.left p 0) k)) ≡ m.claiming
     claiming =
-        sym (set_is 32 m.claiming (λ p. bit m.claiming p && not (f p && eqb (get_or m.left p 0) k)) h
-        (λ i l. rw (e i) (sym (and-true (bit m.claiming i)))))
+        sym (set_is 32 m.claiming (λ p. bit m.claiming p && not (f p && eqb (get_or m.left p 0) k)) h (λ i l. rw (e i) (sym (and-true (bit m.claiming i)))))
 
 -- the same are
 pub passed-same : (k : ℕ) (f g : ℕ → Bool) (m : Machine) → ((p : ℕ) → f p ≡ g p) → elapsed k f m ≡ elapsed k g m
@@ -82,7 +81,7 @@ module _ (k : ℕ) (f g : ℕ → Bool) (m : Machine) (p : ℕ) (off : f p ≡ f
     left = left-more i;
     event = m.event;
     next = m.next;
-    claiming = ap (λ (e : ℕ → Bool). setWhere 32 (λ p. bit m.claiming p && not (e p))) (fun_ext same) i;
+    claiming = ap (λ (e : ℕ → Bool). set_where 32 (λ p. bit m.claiming p && not (e p))) (fun_ext same) i;
   }
     where
       same : (q : ℕ) → (f q && eqb (get_or m.left q 0) k) ≡ (g q && eqb (get_or m.left q 0) k)
@@ -108,10 +107,10 @@ module _ (k : ℕ) (f g : ℕ → Bool) (m : Machine) (p : ℕ) (off : f p ≡ f
       G : ℕ → Bool
       G q = bit m.claiming q && not (g q && eqb (get_or m.left q 0) k)
 
-      out : BitCleared (setWhere 32 F) p
-      out = clear-bit (setWhere 32 F) p (set-has 32 F p h ∙ rw (c, off))
+      out : BitCleared (set_where 32 F) p
+      out = clear-bit (set_where 32 F) p (set-has 32 F p h ∙ rw (c, off))
 
-      bits : (q : ℕ) → q < 32 → bit (setWhere 32 F - 2 ^ p) q ≡ G q
+      bits : (q : ℕ) → q < 32 → bit (set_where 32 F - 2 ^ p) q ≡ G q
       bits q l =
           out.others q
           ∙ (ap (λ (b : Bool). b && not (eqb q p)) (set-has 32 F q l)
@@ -119,5 +118,5 @@ module _ (k : ℕ) (f g : ℕ → Bool) (m : Machine) (p : ℕ) (off : f p ≡ f
           (λ e. subst (λ (r : ℕ). F r && false ≡ G r) (sym e) (rw (c, off, on, last)))
           (λ n. and-true (F q) ∙ ap (λ (b : Bool). bit m.claiming q && not (b && eqb (get_or m.left q 0) k)) (sym (other q n))))
 
-      fewer : setWhere 32 F - 2 ^ p ≡ setWhere 32 G
-      fewer = set_is 32 (setWhere 32 F - 2 ^ p) G (omega (arith, set-lt 32 F)) bits
+      fewer : set_where 32 F - 2 ^ p ≡ set_where 32 G
+      fewer = set_is 32 (set_where 32 F - 2 ^ p) G (omega (arith, set-lt 32 F)) bits

@@ -13,12 +13,12 @@ use Rattle.model.specs.Claims.{claims}
 use Rattle.model.proofs.Jobs.{mk, claims-if, newest-is, others, done-off}
 use Rattle.model.proofs.Faithful.{no-claim-before}
 use Rattle.simulation.specs.PlaceRelation.{PlaceWorks, PlaceRests, PlaceRelatedAt}
-use Rattle.simulation.proofs.Lines.{lineOn, line-off, line-own, work-open}
+use Rattle.simulation.proofs.Lines.{line_on, line-off, line-own, work-open}
 
 -- a place that claims is owed ticks, and a place that is owed ticks claims
-pub claims-owed : (τ : Task) (handledTo : ℕ) (js : ℕ → Job) (l m n : ℕ) (c : Bool) → PlaceRelatedAt τ handledTo js l m n c → c ≡ ltb 0 l
-claims-owed τ handledTo js l m n true h = sym (lt-ltb 0 l h.owed)
-claims-owed τ handledTo js l m n false h = rw h.none
+pub claims-owed : (τ : Task) (handled_to : ℕ) (js : ℕ → Job) (l m n : ℕ) (c : Bool) → PlaceRelatedAt τ handled_to js l m n c → c ≡ ltb 0 l
+claims-owed τ handled_to js l m n true h = sym (lt-ltb 0 l h.owed)
+claims-owed τ handled_to js l m n false h = rw h.none
 
 -- THE START: the first release is at the offset, and every job is fresh
 pub start-related : (τ : Task) (O : ℕ) → O ≡ τ.offset → PlaceRelatedAt τ 0 (λ k. fresh) 0 O O false
@@ -63,8 +63,8 @@ pass-related τ t js l m n false h away = record {
 pub release-related :
     (τ : Task) → ValidTask τ → (t : ℕ) (js : ℕ → Job) (l m n : ℕ) (c : Bool) → PlaceRelatedAt τ t js l m n c → m ≡ t → l ≡ 0
     → (C D T : ℕ) → C ≡ τ.length → D ≡ τ.deadline → T ≡ τ.period → PlaceRelatedAt τ (suc t) js C (t + D) (t + T) true
-release-related τ ok t js l m n true h at none C D T eC eD eT = absurd (omega (arith, h.owed))
-release-related τ ok t js l m n false h at none C D T eC eD eT = record {
+release-related τ ok t js l m n true h at none C D T e_c e_d e_t = absurd (omega (arith, h.owed))
+release-related τ ok t js l m n false h at none C D T e_c e_d e_t = record {
   number = h.number;
   had = 0;
   owed = omega (arith, ok.length-pos);
@@ -91,9 +91,9 @@ overdue-has τ t js l m n false h at some = absurd (omega (arith, h.none))
 
 -- a job due at a tick from `handledTo` back that has not ended is the one the place works on, at the tick `handledTo`
 pub overdue-is :
-    (τ : Task) → ValidTask τ → (handledTo : ℕ) (js : ℕ → Job) (l m n : ℕ) (c : Bool) → PlaceRelatedAt τ handledTo js l m n c
-    → (t k : ℕ) → t ≤ handledTo → due τ k ≡ t → (js k).ended ≡ false → (m ≡ t) × (0 < l)
-overdue-is τ ok handledTo js l m n true h t k before d o = go (leb k h.number) refl
+    (τ : Task) → ValidTask τ → (handled_to : ℕ) (js : ℕ → Job) (l m n : ℕ) (c : Bool) → PlaceRelatedAt τ handled_to js l m n c
+    → (t k : ℕ) → t ≤ handled_to → due τ k ≡ t → (js k).ended ≡ false → (m ≡ t) × (0 < l)
+overdue-is τ ok handled_to js l m n true h t k before d o = go (leb k h.number) refl
   where
     go : (x : Bool) → leb k h.number ≡ x → (m ≡ t) × (0 < l)
     go true e =
@@ -104,7 +104,7 @@ overdue-is τ ok handledTo js l m n true h t k before d o = go (leb k h.number) 
     go false e =
         absurd
         (omega (arith, release-order τ (suc h.number) k (leb-false k h.number e), ok.deadline-pos, ok.constrained, h.deadline, h.ahead_of))
-overdue-is τ ok handledTo js l m n false h t k before d o = go (leb h.number k) refl
+overdue-is τ ok handled_to js l m n false h t k before d o = go (leb h.number k) refl
   where
     go : (x : Bool) → leb h.number k ≡ x → (m ≡ t) × (0 < l)
     go true e =
@@ -142,20 +142,20 @@ module _ (r : Rule) (τ : Task) (ok : ValidTask τ) (t : ℕ) (js : ℕ → Job)
 
   -- A TICK, in which the place has cores or not
 
-  pub other-line : (w : Bool) (h : PlaceWorks τ (suc t) js l m n) (i : ℕ) → (i ≡ h.number → ⊥) → lineOn r τ t w js i ≡ js i
+  pub other-line : (w : Bool) (h : PlaceWorks τ (suc t) js l m n) (i : ℕ) → (i ≡ h.number → ⊥) → line_on r τ t w js i ≡ js i
   other-line w h i ne = line-off r τ t w js i (others r τ h.number t i (js i) ok.constrained (works-newest h) ne)
 
-  past-line : (w : Bool) (h : PlaceWorks τ (suc t) js l m n) (i : ℕ) → i < h.number → (lineOn r τ t w js i).ended ≡ true
+  past-line : (w : Bool) (h : PlaceWorks τ (suc t) js l m n) (i : ℕ) → i < h.number → (line_on r τ t w js i).ended ≡ true
   past-line w h i q = ap (λ (j : Job). j.ended) (other-line w h i (omega arith)) ∙ h.past i q
 
-  later-line : (w : Bool) (h : PlaceWorks τ (suc t) js l m n) (i : ℕ) → h.number < i → lineOn r τ t w js i ≡ fresh
+  later-line : (w : Bool) (h : PlaceWorks τ (suc t) js l m n) (i : ℕ) → h.number < i → line_on r τ t w js i ≡ fresh
   later-line w h i q = other-line w h i (omega arith) ∙ h.later i q
 
-  pub served-line : (h : PlaceWorks τ (suc t) js l m n) → lineOn r τ t true js h.number ≡ mk (suc h.had) (suc h.had) (leb τ.length (suc h.had))
+  pub served-line : (h : PlaceWorks τ (suc t) js l m n) → line_on r τ t true js h.number ≡ mk (suc h.had) (suc h.had) (leb τ.length (suc h.had))
   served-line h = line-own r τ t true js h.number (works-claims h) ∙ work-open τ.length h.had (js h.number) h.line
 
   -- with cores, and more than one tick left
-  served-more : (h : PlaceWorks τ (suc t) js l m n) → (l ≡ 1 → ⊥) → PlaceWorks τ (suc t) (lineOn r τ t true js) (l - 1) m n
+  served-more : (h : PlaceWorks τ (suc t) js l m n) → (l ≡ 1 → ⊥) → PlaceWorks τ (suc t) (line_on r τ t true js) (l - 1) m n
   served-more h more = record {
     number = h.number;
     had = suc h.had;
@@ -171,7 +171,7 @@ module _ (r : Rule) (τ : Task) (ok : ValidTask τ) (t : ℕ) (js : ℕ → Job)
   }
 
   -- with cores, and its last tick
-  served-last : (h : PlaceWorks τ (suc t) js l m n) → l ≡ 1 → PlaceRests τ (suc t) (lineOn r τ t true js) (l - 1) n n
+  served-last : (h : PlaceWorks τ (suc t) js l m n) → l ≡ 1 → PlaceRests τ (suc t) (line_on r τ t true js) (l - 1) n n
   served-last h last = record {
     number = suc h.number;
     none = omega arith;
@@ -179,17 +179,17 @@ module _ (r : Rule) (τ : Task) (ok : ValidTask τ) (t : ℕ) (js : ℕ → Job)
     ahead_of = omega (arith, h.deadline, h.ahead_of, h.following, ok.constrained);
     following = h.following;
     past = λ i q. ⊎_elim
-        (λ (e : i ≡ h.number). subst (λ (k : ℕ). (lineOn r τ t true js k).ended ≡ true) (sym e) over)
+        (λ (e : i ≡ h.number). subst (λ (k : ℕ). (line_on r τ t true js k).ended ≡ true) (sym e) over)
         (λ (e : i < h.number). past-line true h i e)
         (eq-or-lt_of_le (le_of_suc-le-suc q));
     later = later-line true h;
   }
     where
-      over : (lineOn r τ t true js h.number).ended ≡ true
+      over : (line_on r τ t true js h.number).ended ≡ true
       over = ap (λ (j : Job). j.ended) (served-line h) ∙ le-leb τ.length (suc h.had) (omega (arith, h.whole))
 
   -- without cores
-  unserved : (h : PlaceWorks τ (suc t) js l m n) → PlaceWorks τ (suc t) (lineOn r τ t false js) l m n
+  unserved : (h : PlaceWorks τ (suc t) js l m n) → PlaceWorks τ (suc t) (line_on r τ t false js) l m n
   unserved h = record {
     number = h.number;
     had = h.had;
@@ -204,7 +204,7 @@ module _ (r : Rule) (τ : Task) (ok : ValidTask τ) (t : ℕ) (js : ℕ → Job)
     later = later-line false h;
   }
 
-  rests-on : (w : Bool) → PlaceRests τ (suc t) js l m n → PlaceRests τ (suc t) (lineOn r τ t w js) l m n
+  rests-on : (w : Bool) → PlaceRests τ (suc t) js l m n → PlaceRests τ (suc t) (line_on r τ t w js) l m n
   rests-on w h = record {
     number = h.number;
     none = h.none;
@@ -217,21 +217,21 @@ module _ (r : Rule) (τ : Task) (ok : ValidTask τ) (t : ℕ) (js : ℕ → Job)
 
   pub tick-related :
       (c w : Bool) → PlaceRelatedAt τ (suc t) js l m n c
-      → PlaceRelatedAt τ (suc t) (lineOn r τ t w js) (cond w (l - 1) l) (cond (w && eqb l 1) n m) n (c && not (w && eqb l 1))
+      → PlaceRelatedAt τ (suc t) (line_on r τ t w js) (cond w (l - 1) l) (cond (w && eqb l 1) n m) n (c && not (w && eqb l 1))
   tick-related true false h = unserved h
   tick-related true true h = go (eqb l 1) refl
     where
-      go : (x : Bool) → eqb l 1 ≡ x → PlaceRelatedAt τ (suc t) (lineOn r τ t true js) (l - 1) (cond x n m) n (not x)
+      go : (x : Bool) → eqb l 1 ≡ x → PlaceRelatedAt τ (suc t) (line_on r τ t true js) (l - 1) (cond x n m) n (not x)
       go true e = served-last h (eqb-true l 1 e)
       go false e = served-more h (eqb-false l 1 e)
   tick-related false false h = rests-on false h
   tick-related false true h = go (l - 1) (omega (arith, h.none)) (eqb l 1) (ap (λ (x : ℕ). eqb x 1) h.none)
     where
-      go : (l' : ℕ) → l' ≡ l → (x : Bool) → x ≡ false → PlaceRests τ (suc t) (lineOn r τ t true js) l' (cond x n m) n
+      go : (l' : ℕ) → l' ≡ l → (x : Bool) → x ≡ false → PlaceRests τ (suc t) (line_on r τ t true js) l' (cond x n m) n
       go l' e true q = absurd (true≢false q)
-      go l' e false q = subst (λ (y : ℕ). PlaceRests τ (suc t) (lineOn r τ t true js) y m n) (sym e) (rests-on true h)
+      go l' e false q = subst (λ (y : ℕ). PlaceRests τ (suc t) (line_on r τ t true js) y m n) (sym e) (rests-on true h)
 
 -- THE NEXT EVENT: the event of a place is never after its next release
-pub event-first : (τ : Task) → ValidTask τ → (handledTo : ℕ) (js : ℕ → Job) (l m n : ℕ) (c : Bool) → PlaceRelatedAt τ handledTo js l m n c → m ≤ n
-event-first τ ok handledTo js l m n true h = omega (arith, h.deadline, h.following, ok.constrained)
-event-first τ ok handledTo js l m n false h = omega (arith, h.event, h.following)
+pub event-first : (τ : Task) → ValidTask τ → (handled_to : ℕ) (js : ℕ → Job) (l m n : ℕ) (c : Bool) → PlaceRelatedAt τ handled_to js l m n c → m ≤ n
+event-first τ ok handled_to js l m n true h = omega (arith, h.deadline, h.following, ok.constrained)
+event-first τ ok handled_to js l m n false h = omega (arith, h.event, h.following)

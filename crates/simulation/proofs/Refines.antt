@@ -4,14 +4,14 @@ use mathlib.Core.List.{List, []}
 use Prim.Native.Nat.{ℕ, zero, suc, ◌≤◌, ◌<◌}
 use native.Mathlib.Omega.{arith}
 use lib.ListN.{length, get_or}
-use Rattle.model.specs.Fence.{unfencedCores}
+use Rattle.model.specs.Fence.{unfenced_cores}
 use Rattle.model.specs.Search.{bit}
 use Rattle.model.specs.Task.{Table, AllValid}
 use Rattle.model.specs.Grants.{claimants, grants, some}
 use Rattle.model.specs.Lists.{Missed}
-use Rattle.rule.specs.Widths.{widthsIn}
-use Rattle.simulation.specs.Machine.{Machine, started, releasedDue, workedTick}
-use Rattle.simulation.specs.TickState.{toggledBy}
+use Rattle.rule.specs.Widths.{widths_in}
+use Rattle.simulation.specs.Machine.{Machine, started, released_due, worked_tick}
+use Rattle.simulation.specs.TickState.{toggled_by}
 use Rattle.simulation.proofs.MachineRelated.{MachineRelated, Ready, Columns, related-start, tick-keeps}
 use Rattle.simulation.proofs.WidthParity.{WidthToggled, Paired, toggled-start, toggled-due, toggled-tick}
 use Rattle.simulation.proofs.Walk.{due-walked}
@@ -24,19 +24,19 @@ pub record Run : Type 0 where
 
 -- the places that the rule gives cores, from the machine's claimants and their widths
 abbrev pub granted : Table → List ℕ → Machine → ℕ → ℕ → Bool
-granted s v m even p = some (get_or (grants s.rule (claimants (widthsIn even v) (bit m.claiming)) (unfencedCores s)) p [])
+granted s v m even p = some (get_or (grants s.rule (claimants (widths_in even v) (bit m.claiming)) (unfenced_cores s)) p [])
 
 -- the due events of tick t: the machine after them, and the places at their second width then; q is the set of the places with two
 abbrev pub events-handled : Table → List ℕ → List ℕ → List ℕ → ℕ → Run → Machine
-events-handled s C D T t r = releasedDue t C D T (length s.tasks) r.machine
+events-handled s C D T t r = released_due t C D T (length s.tasks) r.machine
 
 abbrev pub width-toggled : Table → ℕ → List ℕ → List ℕ → List ℕ → ℕ → Run → ℕ
-width-toggled s q C D T t r = toggledBy q r.even r.machine.claiming (events-handled s C D T t r).claiming
+width-toggled s q C D T t r = toggled_by q r.even r.machine.claiming (events-handled s C D T t r).claiming
 
 -- tick t, from the run before it: its due events, then the tick of the places that are granted cores
 abbrev pub stepped : Table → ℕ → List ℕ → List ℕ → List ℕ → List ℕ → ℕ → Run → Run
 stepped s q v C D T t r = record {
-  machine = workedTick (granted s v (events-handled s C D T t r) (width-toggled s q C D T t r)) (events-handled s C D T t r);
+  machine = worked_tick (granted s v (events-handled s C D T t r) (width-toggled s q C D T t r)) (events-handled s C D T t r);
   even = width-toggled s q C D T t r;
 }
 
@@ -67,7 +67,7 @@ module _
         let e = width-toggled s q C D T t r in
         let a = all-agree s ok few t m e (ready t r h met) (turns t r h met) O v C D T of in
         record {
-          related = tick-keeps s ok few t m (ready t r h met) (granted s v m e) (λ p l. row-places s ok t m (ready t r h met) (widthsIn e v) a p);
+          related = tick-keeps s ok few t m (ready t r h met) (granted s v m e) (λ p l. row-places s ok t m (ready t r h met) (widths_in e v) a p);
           toggles = toggled-tick s ok m e (granted s v m e) (turns t r h met);
         }
 

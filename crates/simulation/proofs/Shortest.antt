@@ -10,7 +10,7 @@ use lib.Dec.{eqb, leb}
 use lib.ListN.{get_or}
 use borrow.Author.Tests.{eqb-true, eqb-false, leb-true, leb-false, le-leb, lt-leb}
 use Rattle.model.proofs.Bools.{same_test}
-use Rattle.simulation.specs.Jump.{leastLeft}
+use Rattle.simulation.specs.Jump.{least_left}
 
 -- k is the least of `most` and of what is left at the granted places
 pub record Shortest (granted : ℕ → Bool) (most : ℕ) (left : List ℕ) (k : ℕ) : Type 0 where
@@ -49,8 +49,7 @@ shortest-more f g most left p k k' on other e h = record {
     go : (x : Bool) → leb k (get_or left p 0) ≡ x → (k' ≡ most) ⊎ ((q : ℕ) × (g q ≡ true) × (k' ≡ get_or left q 0))
     go true x =
         let z : k' ≡ k = omega (arith, leb-true k (get_or left p 0) x) in
-        ⊎_elim (λ (y : k ≡ most). inl (z ∙ y)) (λ (y : (q : ℕ) × (f q ≡ true) × (k ≡ get_or left q 0)). inr
-        (y.0, kept y.0 y.1 (eqb y.0 p) refl, z ∙ y.2)) h.reached
+        ⊎_elim (λ (y : k ≡ most). inl (z ∙ y)) (λ (y : (q : ℕ) × (f q ≡ true) × (k ≡ get_or left q 0)). inr (y.0, kept y.0 y.1 (eqb y.0 p) refl, z ∙ y.2)) h.reached
     go false x = inr (p, on, omega (arith, leb-false k (get_or left p 0) x))
 
 -- where each is owed a tick, it is at least one
@@ -75,8 +74,8 @@ shortest-one f most left k k' h h' = le_antisymm (least-low f most left k k' h h
 abbrev up_to : ℕ → (ℕ → Bool) → ℕ → Bool
 up_to n f p = f p && leb (suc p) n
 
-upto_is : (n : ℕ) (f : ℕ → Bool) (most : ℕ) (left : List ℕ) → Shortest (up_to n f) most left (leastLeft n f most left)
-unfolding leastLeft
+upto_is : (n : ℕ) (f : ℕ → Bool) (most : ℕ) (left : List ℕ) → Shortest (up_to n f) most left (least_left n f most left)
+unfolding least_left
 upto_is zero f most left = shortest-none (up_to 0 f) most left (λ p. none (f p) (leb (suc p) 0) (lt-leb (suc p) 0 (omega arith)))
   where
     none : (a b : Bool) → b ≡ false → a && b ≡ false
@@ -96,13 +95,10 @@ upto_is (suc n) f most left = go (upto_is n f most left) (f n) refl
         on true = refl
         on false = refl
 
-    go :
-        Shortest (up_to n f) most left (leastLeft n f most left) → (b : Bool) → f n ≡ b
-        → Shortest (up_to (suc n) f) most left (cond b (min (leastLeft n f most left) (get_or left n 0)) (leastLeft n f most left))
+    go : Shortest (up_to n f) most left (least_left n f most left) → (b : Bool) → f n ≡ b → Shortest (up_to (suc n) f) most left (cond b (min (least_left n f most left) (get_or left n 0)) (least_left n f most left))
     go h true e =
-        shortest-more (up_to n f) (up_to (suc n) f) most left n (leastLeft n f most left) (min (leastLeft n f most left) (get_or left n 0)) (here true e) away refl
-        h
-    go h false e = shortest-same (up_to n f) (up_to (suc n) f) most left (leastLeft n f most left) (λ q. sym (alike q (eqb q n) refl)) h
+        shortest-more (up_to n f) (up_to (suc n) f) most left n (least_left n f most left) (min (least_left n f most left) (get_or left n 0)) (here true e) away refl h
+    go h false e = shortest-same (up_to n f) (up_to (suc n) f) most left (least_left n f most left) (λ q. sym (alike q (eqb q n) refl)) h
       where
         past : up_to n f n ≡ false
         past = ap (λ (x : Bool). x && leb (suc n) n) e
@@ -112,9 +108,9 @@ upto_is (suc n) f most left = go (upto_is n f most left) (f n) refl
         alike q false z = away q (eqb-false q n z)
 
 -- where only the first n places are granted cores
-pub least-left-is : (n : ℕ) (f : ℕ → Bool) (most : ℕ) (left : List ℕ) → ((p : ℕ) → f p ≡ true → p < n) → Shortest f most left (leastLeft n f most left)
+pub least-left-is : (n : ℕ) (f : ℕ → Bool) (most : ℕ) (left : List ℕ) → ((p : ℕ) → f p ≡ true → p < n) → Shortest f most left (least_left n f most left)
 least-left-is n f most left inside =
-    shortest-same (up_to n f) f most left (leastLeft n f most left) (λ p. within p (f p) refl) (upto_is n f most left)
+    shortest-same (up_to n f) f most left (least_left n f most left) (λ p. within p (f p) refl) (upto_is n f most left)
   where
     within : (p : ℕ) (b : Bool) → f p ≡ b → up_to n f p ≡ f p
     within p true e = ap (λ (y : Bool). y && leb (suc p) n) e ∙ (le-leb (suc p) n (inside p e) ∙ sym e)

@@ -28,8 +28,8 @@ upcoming-start τ O e = record {
 }
 
 -- over ticks up to the event
-pub upcoming-later : (τ : Task) (handledTo seen' m n : ℕ) → UpcomingEvent τ handledTo m n → handledTo ≤ seen' → seen' ≤ m → UpcomingEvent τ seen' m n
-upcoming-later τ handledTo seen' m n h a b = record {
+pub upcoming-later : (τ : Task) (handled_to seen' m n : ℕ) → UpcomingEvent τ handled_to m n → handled_to ≤ seen' → seen' ≤ m → UpcomingEvent τ seen' m n
+upcoming-later τ handled_to seen' m n h a b = record {
   from = b;
   marked = h.marked;
   first = λ u c x. h.first u (omega arith) x;
@@ -39,22 +39,22 @@ upcoming-later τ handledTo seen' m n h a b = record {
 module _ (τ : Task) (ok : ValidTask τ) where
   -- a job released at t
   pub upcoming-release : (t k D T : ℕ) → t ≡ release τ k → D ≡ τ.deadline → T ≡ τ.period → UpcomingEvent τ (suc t) (t + D) (t + T)
-  upcoming-release t k D T e eD eT = record {
+  upcoming-release t k D T e e_d e_t = record {
     from = omega (arith, ok.deadline-pos);
     marked = (k, inr (omega arith));
     first = λ u h x. ⊎_elim (releases u h x.0) (dues u h x.0) x.1;
-    next = λ j h. afterHandling j h;
+    next = λ j h. after_handling j h;
   }
     where
-      afterHandling : (j : ℕ) → suc t ≤ release τ j → t + T ≤ release τ j
-      afterHandling j h =
+      after_handling : (j : ℕ) → suc t ≤ release τ j → t + T ≤ release τ j
+      after_handling j h =
           ⊎_elim
           (λ (i : j ≤ k). absurd (omega (arith, release-order τ j k i)))
           (λ (i : suc k ≤ j). omega (arith, release-order τ (suc k) j i))
           (either j k)
 
       releases : (u : ℕ) → suc t ≤ u → (j : ℕ) → release τ j ≡ u → t + D ≤ u
-      releases u h j y = omega (arith, afterHandling j (omega arith), ok.constrained)
+      releases u h j y = omega (arith, after_handling j (omega arith), ok.constrained)
 
       dues : (u : ℕ) → suc t ≤ u → (j : ℕ) → due τ j ≡ u → t + D ≤ u
       dues u h j y =

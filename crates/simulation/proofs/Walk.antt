@@ -12,7 +12,7 @@ use lib.Dec.{eqb}
 use borrow.Author.Tests.{eq-eqb, ne_eqb, eqb-true, eqb-false}
 use Rattle.model.specs.Task.{Table, AllValid}
 use Rattle.model.specs.Lists.{Missed}
-use Rattle.simulation.specs.Machine.{Machine, withRelease, releasedDue, earliest}
+use Rattle.simulation.specs.Machine.{Machine, with_release, released_due, earliest}
 use Rattle.simulation.proofs.MachineRelated.{Walked, MachineRelated, Columns, walk-pass, walk-release}
 use Rattle.simulation.proofs.NextEvent.{NextEventBound, next-event-more}
 use Rattle.simulation.proofs.Late.{late-missed}
@@ -24,28 +24,26 @@ earliest-set zero ms i v h = refl
 earliest-set (suc n) ms i v h = rw (earliest-set n ms i v (omega arith), get_or-set_other ms i n v 0 (omega arith))
 
 -- what the walk does at place n
-abbrev handledAt : ℕ → List ℕ → List ℕ → List ℕ → ℕ → Machine → Machine
-handledAt t C D T n m = cond (eqb (get_or m.event n 0) t) (withRelease n t (get_or C n 0) (get_or D n 0) (get_or T n 0) m) m
+abbrev handled_at : ℕ → List ℕ → List ℕ → List ℕ → ℕ → Machine → Machine
+handled_at t C D T n m = cond (eqb (get_or m.event n 0) t) (with_release n t (get_or C n 0) (get_or D n 0) (get_or T n 0) m) m
 
 -- the machine once place n has been handled, and the earliest of the first n events, which is as it was
 pub record EventsHandled (t : ℕ) (C D T : List ℕ) (n : ℕ) (start before after : Machine) : Type 0 where
-  pub machines : after ≡ releasedDue t C D T (suc n) start
+  pub machines : after ≡ released_due t C D T (suc n) start
   pub same : earliest n after.event ≡ earliest n before.event
 
-module _ (t : ℕ) (C D T : List ℕ) (n : ℕ) (start before : Machine) (so_far : before ≡ releasedDue t C D T n start) (after : Machine) where
-  one_more : handledAt t C D T n before ≡ releasedDue t C D T (suc n) start
-  unfolding releasedDue
-  one_more = ap (handledAt t C D T n) so_far
+module _ (t : ℕ) (C D T : List ℕ) (n : ℕ) (start before : Machine) (so_far : before ≡ released_due t C D T n start) (after : Machine) where
+  one_more : handled_at t C D T n before ≡ released_due t C D T (suc n) start
+  unfolding released_due
+  one_more = ap (handled_at t C D T n) so_far
 
-  chosen :
-      (b : Bool) → eqb (get_or before.event n 0) t ≡ b
-      → cond b (withRelease n t (get_or C n 0) (get_or D n 0) (get_or T n 0) before) before ≡ releasedDue t C D T (suc n) start
-  chosen b e = ap (λ (x : Bool). cond x (withRelease n t (get_or C n 0) (get_or D n 0) (get_or T n 0) before) before) (sym e) ∙ one_more
+  chosen : (b : Bool) → eqb (get_or before.event n 0) t ≡ b → cond b (with_release n t (get_or C n 0) (get_or D n 0) (get_or T n 0) before) before ≡ released_due t C D T (suc n) start
+  chosen b e = ap (λ (x : Bool). cond x (with_release n t (get_or C n 0) (get_or D n 0) (get_or T n 0) before) before) (sym e) ∙ one_more
 
   -- place n is due
   pub due-release :
-      get_or before.event n 0 ≡ t → after ≡ withRelease n t (get_or C n 0) (get_or D n 0) (get_or T n 0) before → EventsHandled t C D T n start before after
-  unfolding withRelease
+      get_or before.event n 0 ≡ t → after ≡ with_release n t (get_or C n 0) (get_or D n 0) (get_or T n 0) before → EventsHandled t C D T n start before after
+  unfolding with_release
   due-release e a = record {
     machines = a ∙ chosen true (eq-eqb (get_or before.event n 0) t e);
     same = ap (λ (m : Machine). earliest n m.event) a ∙ earliest-set n before.event n (t + get_or D n 0) (omega arith);
@@ -74,13 +72,13 @@ module _ (s : Table) (ok : AllValid s) (few : length s.tasks ≤ 32) (O v C D T 
   -- where no deadline is missed at t, the walk has passed the first n places
   pub due-walked :
       (t : ℕ) (m : Machine) → MachineRelated s t m → ((p : ℕ) → ¬ Missed s p t)
-      → (n : ℕ) → n ≤ length s.tasks → Walked s t n (releasedDue t C D T n m)
-  unfolding releasedDue
+      → (n : ℕ) → n ≤ length s.tasks → Walked s t n (released_due t C D T n m)
+  unfolding released_due
   due-walked t m h met zero l = h
-  due-walked t m h met (suc n) l = go (releasedDue t C D T n m) (due-walked t m h met n (omega arith)) (eqb (get_or (releasedDue t C D T n m).event n 0) t) refl
+  due-walked t m h met (suc n) l = go (released_due t C D T n m) (due-walked t m h met n (omega arith)) (eqb (get_or (released_due t C D T n m).event n 0) t) refl
     where
       go : (x : Machine) → Walked s t n x → (b : Bool) → eqb (get_or x.event n 0) t ≡ b
-          → Walked s t (suc n) (cond b (withRelease n t (get_or C n 0) (get_or D n 0) (get_or T n 0) x) x)
+          → Walked s t (suc n) (cond b (with_release n t (get_or C n 0) (get_or D n 0) (get_or T n 0) x) x)
       go x w true e =
           walk-release s ok few t n x w l (eqb-true (get_or x.event n 0) t e)
           (⊎_elim

@@ -1,7 +1,7 @@
 -- The events of the full-length run (request 103): the ticks at which a job is released, ends or is due, ended or not.
 use Rattle.std.specs.Prelude.{◌≡◌, true, false, ◌⊎◌, ℕ, ◌-◌, ◌<◌, length}
 use Rattle.model.specs.Task.{Table, task, release, due}
-use Rattle.model.specs.Claims.{grantsOf, bookRow}
+use Rattle.model.specs.Claims.{grants_of, book_row}
 use Rattle.model.specs.Lists.{full}
 
 -- job k of place p ends at tick t: it has ended at t, and had not one tick before. Its last tick is t − 1
@@ -28,5 +28,5 @@ pub record NextEvent (s : Table) (t u : ℕ) : Type 0 where
 
 -- the cores of each task at tick u, and the row's bytes, are those of tick t
 pub record SameAllocation (s : Table) (t u : ℕ) : Type 0 where
-  pub grants : grantsOf s (full s u) ≡ grantsOf s (full s t)
-  pub row : bookRow s (full s u) ≡ bookRow s (full s t)
+  pub grants : grants_of s (full s u) ≡ grants_of s (full s t)
+  pub row : book_row s (full s u) ≡ book_row s (full s t)

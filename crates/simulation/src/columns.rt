@@ -1,6 +1,6 @@
 // The table's numbers, place by place, as the machine is stepped with them.
 ghost use Rattle.std.specs.Prelude.{◌≡◌};
-ghost use Rattle.simulation.specs.TickState.{numbersBy, loadedNumbers, pairedIn};
+ghost use Rattle.simulation.specs.TickState.{numbers_by, loaded_numbers, paired_in};
 
 use crate::TRIPLE;
 use model::MOST_TASKS;
@@ -27,8 +27,8 @@ pub struct Columns {
 }
 
 // The set of the places whose two widths differ.
-pub(crate) fn paired_in(tasks: [Task; MOST_TASKS]) -> u32
-    ensures { result ≡ pairedIn tasks }
+pub fn paired_in(tasks: [Task; MOST_TASKS]) -> u32
+    ensures { result ≡ paired_in tasks }
 {
     let mut paired: u32 = 0;
     let mut i: usize = 0;
@@ -44,7 +44,7 @@ pub(crate) fn paired_in(tasks: [Task; MOST_TASKS]) -> u32
 
 // The numbers of a table, place by place.
 pub fn columns_of(table: Loaded) -> Columns
-    ensures { numbersBy result.setting result.widths result.times ≡ loadedNumbers table }
+    ensures { numbers_by result.setting result.widths result.times ≡ loaded_numbers table }
 {
     let tasks = table.tasks;
     let mut widths = [0u32; PAIR];

@@ -1,17 +1,17 @@
 // The places whose event a tick is, and the earliest event.
 ghost use Rattle.std.specs.Prelude.{◌≡◌, true, cond, ℕ, ◌+◌, ◌<◌, ◌≤◌, ◌^◌, eqb, get_or};
 ghost use Rattle.model.specs.Search.{bit};
-ghost use Rattle.model.specs.Sizes.{mostTasks};
+ghost use Rattle.model.specs.Sizes.{most_tasks};
 ghost use Rattle.simulation.specs.Places.{segment, second, third};
 ghost use Rattle.simulation.specs.Machine.{machine_of};
-ghost use Rattle.simulation.specs.EventState.{due_at, earliestOf};
-ghost use Rattle.simulation.specs.Jump.{handled, handledAll};
+ghost use Rattle.simulation.specs.EventState.{due_at, earliest_of};
+ghost use Rattle.simulation.specs.Jump.{handled, handled_all};
 
 use crate::{EVENT, NEXT, TRIPLE};
 
 // The set of those of the first `count` places whose event is this tick.
 pub(crate) fn due_places(tick: u32, count: usize, places: &[u32; TRIPLE]) -> u32
-    requires { count ≤ mostTasks }
+    requires { count ≤ most_tasks }
     ensures { result ≡ due_at tick count (segment second places.now) }
 {
     let mut set: u32 = 0;
@@ -27,7 +27,7 @@ pub(crate) fn due_places(tick: u32, count: usize, places: &[u32; TRIPLE]) -> u32
 
 // The same where the next event, the earliest event, is known: before it no place is due.
 pub(crate) fn due_by(tick: u32, event: u32, count: usize, places: &[u32; TRIPLE]) -> u32
-    requires { count ≤ mostTasks }
+    requires { count ≤ most_tasks }
     ensures { result ≡ cond (eqb tick event) (due_at tick count (segment second places.now)) 0 }
 {
     if tick == event {
@@ -38,13 +38,13 @@ pub(crate) fn due_by(tick: u32, event: u32, count: usize, places: &[u32; TRIPLE]
 
 // The earliest event of the first `count` places.
 pub(crate) fn earliest(count: usize, places: &[u32; TRIPLE]) -> u32
-    requires { count ≤ mostTasks }
-    ensures { result ≡ earliestOf count (segment second places.now) }
+    requires { count ≤ most_tasks }
+    ensures { result ≡ earliest_of count (segment second places.now) }
 {
     let mut event = places[EVENT];
     let mut i: usize = 0;
     while i < count {
-        event = model::extremes::smaller(event, places[EVENT + i]);
+        event = crate::earlier(event, places[EVENT + i]);
         i += 1;
     }
     event
@@ -58,8 +58,7 @@ pub(crate) fn handle_event(
     times: &[u32; TRIPLE],
     places: &mut [u32; TRIPLE],
 ) -> u32
-    requires { (place < mostTasks) × (tick + get_or (segment second times.now) place 0 < 2 ^ 32)
-        × (tick + get_or (segment third times.now) place 0 < 2 ^ 32) }
+    requires { (place < most_tasks) × (tick + get_or (segment second times.now) place 0 < 2 ^ 32) × (tick + get_or (segment third times.now) place 0 < 2 ^ 32) }
     ensures { machine_of places.new result ≡ handled place tick (get_or (segment 0 times.now) place 0)
         (get_or (segment second times.now) place 0) (get_or (segment third times.now) place 0) (machine_of places.old claiming) }
 {
@@ -78,9 +77,8 @@ pub(crate) fn handle_due(
     times: &[u32; TRIPLE],
     places: &mut [u32; TRIPLE],
 ) -> u32
-    requires { (p : ℕ) → bit due p ≡ true → (tick + get_or (segment second times.now) p 0 < 2 ^ 32)
-        × (tick + get_or (segment third times.now) p 0 < 2 ^ 32) }
-    ensures { machine_of places.new result ≡ handledAll tick (bit due) (segment 0 times.now)
+    requires { (p : ℕ) → bit due p ≡ true → (tick + get_or (segment second times.now) p 0 < 2 ^ 32) × (tick + get_or (segment third times.now) p 0 < 2 ^ 32) }
+    ensures { machine_of places.new result ≡ handled_all tick (bit due) (segment 0 times.now)
         (segment second times.now) (segment third times.now) (machine_of places.old claiming) }
 {
     let mut rest = due;

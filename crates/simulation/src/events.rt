@@ -2,14 +2,14 @@
 // and the deadline counts whether the job has ended or not.
 ghost use Rattle.std.specs.Prelude.{◌≡◌};
 ghost use Rattle.model.specs.Search.{bit};
-ghost use Rattle.model.specs.Sizes.{mostTasks};
+ghost use Rattle.model.specs.Sizes.{most_tasks};
 ghost use Rattle.table.specs.Fit.{Fit};
 ghost use Rattle.table.specs.declared.Loaded.{Loaded};
 ghost use Rattle.simulation.specs.Places.{segment};
 ghost use Rattle.simulation.specs.Machine.{machine_of};
-ghost use Rattle.simulation.specs.TickState.{numbersBy};
-ghost use Rattle.simulation.specs.EventState.{eventStateOf, initialEventState};
-ghost use Rattle.simulation.specs.Jump.{leastLeft, GrantedOwe, elapsed, JumpStarts, JumpOf};
+ghost use Rattle.simulation.specs.TickState.{numbers_by};
+ghost use Rattle.simulation.specs.EventState.{event_state_of, initial_event_state};
+ghost use Rattle.simulation.specs.Jump.{least_left, GrantedOwe, elapsed, JumpStarts, JumpOf};
 
 use crate::TRIPLE;
 use crate::columns::Setting;
@@ -39,7 +39,7 @@ pub struct Machine {
 // The run before tick 0: no place claims or is granted cores, and each task waits for its first release, which turns it to its first width.
 pub fn start(table: Loaded) -> Machine
     requires { Fit table }
-    ensures { eventStateOf result.registers result.places ≡ initialEventState table }
+    ensures { event_state_of result.registers result.places ≡ initial_event_state table }
 {
     let machine = crate::machine::start(table);
     let even = machine.registers.even;
@@ -63,14 +63,14 @@ pub fn start(table: Loaded) -> Machine
 
 // The least of `most` and of the ticks left of the granted places.
 fn shortest(granted: u32, most: u32, places: &[u32; TRIPLE]) -> u32
-    ensures { result ≡ leastLeft mostTasks (bit granted) most (segment 0 places.now) }
+    ensures { result ≡ least_left most_tasks (bit granted) most (segment 0 places.now) }
 {
     let mut rest = granted;
     let mut ticks = most;
     while 0 < rest {
         let place = u32::trailing_zeros(rest);
         rest &= rest - 1;
-        ticks = model::extremes::smaller(ticks, places[place as usize]);
+        ticks = crate::earlier(ticks, places[place as usize]);
     }
     ticks
 }
@@ -104,9 +104,9 @@ pub fn jump(
     registers: Registers,
     places: &mut [u32; TRIPLE],
 ) -> Registers
-    requires { (t : Loaded) × JumpStarts t (numbersBy setting widths.now times.now) (eventStateOf registers places.old) }
-    ensures { JumpOf (numbersBy setting widths.now times.now)
-        (eventStateOf registers places.old) (eventStateOf result places.new) }
+    requires { (t : Loaded) × JumpStarts t (numbers_by setting widths.now times.now) (event_state_of registers places.old) }
+    ensures { JumpOf (numbers_by setting widths.now times.now)
+        (event_state_of registers places.old) (event_state_of result places.new) }
 {
     let tick = registers.tick;
     let mut claiming = registers.claiming;

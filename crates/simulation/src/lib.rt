@@ -1,9 +1,9 @@
 // The full-length run as a fast machine: one array with three numbers for each of 32 places, lent, and registers by value.
 // It is stepped tick by tick (`ticks`) or from event to event (`events`).
-ghost use Rattle.std.specs.Prelude.{◌≡◌, ◌+◌, ◌<◌, ◌^◌, get_or};
-ghost use Rattle.model.specs.Sizes.{mostTasks};
+ghost use Rattle.std.specs.Prelude.{◌≡◌, ◌+◌, ◌<◌, ◌^◌, min, get_or};
+ghost use Rattle.model.specs.Sizes.{most_tasks};
 ghost use Rattle.simulation.specs.Places.{segment, second, third};
-ghost use Rattle.simulation.specs.Machine.{machine_of, withRelease};
+ghost use Rattle.simulation.specs.Machine.{machine_of, with_release};
 
 use model::MOST_TASKS;
 
@@ -19,7 +19,7 @@ pub const EVENT: usize = MOST_TASKS;
 pub const NEXT: usize = 2 * MOST_TASKS;
 
 // The array of times has the length of each place first, then its deadline, then its period.
-const DEADLINE: usize = MOST_TASKS;
+pub const DEADLINE: usize = MOST_TASKS;
 
 pub const PERIOD: usize = 2 * MOST_TASKS;
 
@@ -27,16 +27,15 @@ pub const PERIOD: usize = 2 * MOST_TASKS;
 pub const TRIPLE: usize = 3 * MOST_TASKS;
 
 // Releases a job of a place at this tick, and returns the set of claimants with the place in it.
-fn release(
+pub fn release(
     place: usize,
     tick: u32,
     claiming: u32,
     times: &[u32; TRIPLE],
     places: &mut [u32; TRIPLE],
 ) -> u32
-    requires { (place < mostTasks) × (tick + get_or (segment second times.now) place 0 < 2 ^ 32)
-        × (tick + get_or (segment third times.now) place 0 < 2 ^ 32) }
-    ensures { machine_of places.new result ≡ withRelease place tick (get_or (segment 0 times.now) place 0)
+    requires { (place < most_tasks) × (tick + get_or (segment second times.now) place 0 < 2 ^ 32) × (tick + get_or (segment third times.now) place 0 < 2 ^ 32) }
+    ensures { machine_of places.new result ≡ with_release place tick (get_or (segment 0 times.now) place 0)
         (get_or (segment second times.now) place 0) (get_or (segment third times.now) place 0) (machine_of places.old claiming) }
 {
     let deadline = times[DEADLINE + place];
@@ -45,4 +44,11 @@ fn release(
     places[EVENT + place] = tick + deadline;
     places[NEXT + place] = tick + period;
     claiming | (1u32 << place)
+}
+
+// The earlier of two ticks.
+pub fn earlier(a: u32, b: u32) -> u32
+    ensures { result ≡ min a b }
+{
+    if a < b { a } else { b }
 }

@@ -1,6 +1,6 @@
 // The machine that runs a table at full length, and its state before tick 0.
 ghost use Rattle.std.specs.Prelude.{◌≡◌, length};
-ghost use Rattle.simulation.specs.TickState.{tickStateOf, initialTickState};
+ghost use Rattle.simulation.specs.TickState.{tick_state_of, initial_tick_state};
 ghost use Rattle.simulation.specs.Places.{triple};
 
 use crate::TRIPLE;
@@ -28,7 +28,7 @@ pub struct Machine {
 
 // The machine before tick 0: no place claims or is granted cores, and each task waits for its first release, which turns it to its first width.
 pub fn start(table: Loaded) -> Machine
-    ensures { (tickStateOf result.registers result.places ≡ initialTickState table) × (length result.places ≡ triple) }
+    ensures { (tick_state_of result.registers result.places ≡ initial_tick_state table) × (length result.places ≡ triple) }
 {
     let tasks = table.tasks;
     let mut places = [0u32; TRIPLE];

@@ -1,10 +1,10 @@
 // The machine tick by tick: the due events, the choice, the work.
 ghost use Rattle.std.specs.Prelude.{◌≡◌, ℕ, ◌+◌, ◌≤◌, ◌<◌, ◌^◌, get_or};
 ghost use Rattle.model.specs.Search.{bit};
-ghost use Rattle.model.specs.Sizes.{mostTasks};
+ghost use Rattle.model.specs.Sizes.{most_tasks};
 ghost use Rattle.simulation.specs.Places.{segment, second, third};
-ghost use Rattle.simulation.specs.Machine.{machine_of, DueEvents, GrantedOwed, workedTick};
-ghost use Rattle.simulation.specs.TickState.{numbersBy, tickStateOf, Steppable, nextTickState};
+ghost use Rattle.simulation.specs.Machine.{machine_of, DueEvents, GrantedOwed, worked_tick};
+ghost use Rattle.simulation.specs.TickState.{numbers_by, tick_state_of, Steppable, next_tick_state};
 
 use crate::columns::Setting;
 use crate::machine::Registers;
@@ -19,15 +19,14 @@ pub struct Due {
 }
 
 // Releases a job at each of the first `count` places whose event is this tick, for runs in which no job is late.
-fn release_due(
+pub fn release_due(
     tick: u32,
     count: usize,
     claiming: u32,
     times: &[u32; TRIPLE],
     places: &mut [u32; TRIPLE],
 ) -> Due
-    requires { (count ≤ mostTasks) × ((p : ℕ) → p < count → (tick + get_or (segment second times.now) p 0 < 2 ^ 32)
-        × (tick + get_or (segment third times.now) p 0 < 2 ^ 32)) }
+    requires { (count ≤ most_tasks) × ((p : ℕ) → p < count → (tick + get_or (segment second times.now) p 0 < 2 ^ 32) × (tick + get_or (segment third times.now) p 0 < 2 ^ 32)) }
     ensures { DueEvents tick count (segment 0 times.now) (segment second times.now)
         (segment third times.now) (machine_of places.old claiming) (machine_of places.new result.claiming) result.event }
 {
@@ -38,7 +37,7 @@ fn release_due(
         if places[EVENT + i] == tick {
             set = crate::release(i, tick, set, times, places);
         }
-        event = model::extremes::smaller(event, places[EVENT + i]);
+        event = crate::earlier(event, places[EVENT + i]);
         i += 1;
     }
     Due {
@@ -48,19 +47,21 @@ fn release_due(
 }
 
 // A tick of the places that are granted cores; returns the set of those that still claim after it.
-fn work(granted: u32, claiming: u32, places: &mut [u32; TRIPLE]) -> u32
+pub fn work(granted: u32, claiming: u32, places: &mut [u32; TRIPLE]) -> u32
     requires { GrantedOwed (bit granted) (machine_of places.old claiming) }
-    ensures { machine_of places.new result ≡ workedTick (bit granted) (machine_of places.old claiming) }
+    ensures { machine_of places.new result ≡ worked_tick (bit granted) (machine_of places.old claiming) }
 {
     let mut rest = granted;
     let mut set = claiming;
     while 0 < rest {
-        let at = u32::trailing_zeros(rest) as usize;
-        rest &= rest - 1;
+        let place = u32::trailing_zeros(rest);
+        let member = 1u32 << place;
+        rest -= member;
+        let at = place as usize;
         let ticks = places[at] - 1;
         places[at] = ticks;
         if ticks == 0 {
-            set -= 1u32 << at;
+            set -= member;
             places[EVENT + at] = places[NEXT + at];
         }
     }
@@ -76,9 +77,8 @@ pub fn step(
     registers: Registers,
     places: &mut [u32; TRIPLE],
 ) -> Registers
-    requires { Steppable (numbersBy setting widths.now times.now) (tickStateOf registers places.old) }
-    ensures { tickStateOf result places.new ≡ nextTickState (numbersBy setting widths.now times.now)
-        (tickStateOf registers places.old) }
+    requires { Steppable (numbers_by setting widths.now times.now) (tick_state_of registers places.old) }
+    ensures { tick_state_of result places.new ≡ next_tick_state (numbers_by setting widths.now times.now) (tick_state_of registers places.old) }
 {
     let tick = registers.tick;
     let mut claiming = registers.claiming;

@@ -16,10 +16,10 @@ use Rattle.model.proofs.Jobs.{claims-if, mk, newest-is, next, next-ended}
 use Rattle.model.proofs.Runs.{full-next, full-tick, bounds-full}
 use Rattle.model.proofs.Search.{least-found, least-most}
 use Rattle.model.specs.Jobs.{Job}
-use Rattle.model.specs.Claims.{in_row, jobClaims, served, taskClaims}
+use Rattle.model.specs.Claims.{in_row, job_claims, served, task_claims}
 use Rattle.model.specs.Advance.{work}
 use Rattle.model.specs.Lists.{NeverMissed, full}
-use Rattle.model.specs.Fence.{unfencedCores, unfencedCount}
+use Rattle.model.specs.Fence.{unfenced_cores, unfenced_count}
 use Rattle.model.specs.Grants.{claimants, grants}
 use Rattle.model.specs.Search.{filtered, least, up_from}
 use Rattle.model.specs.Task.{AllValid, Rule, ValidTask, Table, Task, due, limited, newest, release, width_of}
@@ -37,7 +37,7 @@ unfolding work
 next-had C h c true o = absurd (true≢false o)
 next-had C h c false o = refl
 
-module _ (m f : ℕ) (r : Rule) (τ : Task) (ok : ValidTask τ) (fits : (k : ℕ) → width_of τ k ≤ unfencedCount f m) where
+module _ (m f : ℕ) (r : Rule) (τ : Task) (ok : ValidTask τ) (fits : (k : ℕ) → width_of τ k ≤ unfenced_count f m) where
   abbrev s : Table
   s = single m f r τ
 
@@ -48,7 +48,7 @@ module _ (m f : ℕ) (r : Rule) (τ : Task) (ok : ValidTask τ) (fits : (k : ℕ
   wide : (k : ℕ) → 1 ≤ width_of τ k
   wide k = go (eqb (k % 2) 0)
     where
-      go : (b : Bool) → 1 ≤ cond b τ.oddWidth τ.evenWidth
+      go : (b : Bool) → 1 ≤ cond b τ.odd_width τ.even_width
       go true = ok.odd_pos
       go false = ok.even-pos
 
@@ -56,15 +56,15 @@ module _ (m f : ℕ) (r : Rule) (τ : Task) (ok : ValidTask τ) (fits : (k : ℕ
   runs-there : (n k : ℕ) → release τ k ≤ n → n < due τ k → ((full s n).job 0 k).ended ≡ false → served s (full s n) 0 k ≡ true
   unfolding served grants claimants
   runs-there n k a b o =
-      and_both (jobClaims s (full s n) 0 k) (in_row s (full s n) 0) claims-now
-      (runs-if (record { claims = taskClaims s (full s n) 0; width = width_of τ (newest τ (full s n).tick) }) (unfencedCores s)
+      and_both (job_claims s (full s n) 0 k) (in_row s (full s n) 0) claims-now
+      (runs-if (record { claims = task_claims s (full s n) 0; width = width_of τ (newest τ (full s n).tick) }) (unfenced_cores s)
       (record {
-        claiming = subst (λ (i : ℕ). jobClaims s (full s n) 0 i ≡ true) (sym new) claims-now;
+        claiming = subst (λ (i : ℕ). job_claims s (full s n) 0 i ≡ true) (sym new) claims-now;
         wide = wide (newest τ (full s n).tick);
         room = fits (newest τ (full s n).tick);
       }))
     where
-      claims-now : jobClaims s (full s n) 0 k ≡ true
+      claims-now : job_claims s (full s n) 0 k ≡ true
       claims-now = rw (full-tick s n) (claims-if r τ k n ((full s n).job 0 k) a b (rw o))
 
       new : newest τ (full s n).tick ≡ k
@@ -104,7 +104,7 @@ module _ (m f : ℕ) (r : Rule) (τ : Task) (ok : ValidTask τ) (fits : (k : ℕ
 
 -- THE THEOREM
 pub alone-slack :
-    (m f : ℕ) (r : Rule) (τ : Task) → ValidTask τ → ((k : ℕ) → width_of τ k ≤ unfencedCount f m) → τ.length ≤ τ.deadline
+    (m f : ℕ) (r : Rule) (τ : Task) → ValidTask τ → ((k : ℕ) → width_of τ k ≤ unfenced_count f m) → τ.length ≤ τ.deadline
     → slack (single m f r τ) 0 ≡ τ.deadline - τ.length
 unfolding slack
 alone-slack m f r τ ok fits short = go (ltb g room) refl
@@ -142,7 +142,7 @@ alone-slack m f r τ ok fits short = go (ltb g room) refl
 million : (d : ℕ) → 1 ≤ d → d ≤ 1000000 → ValidTask (t 0 1 999997 d 1000000)
 million d a b = record { odd_pos = omega arith; even-pos = omega arith; length-pos = omega arith; deadline-pos = a; constrained = b }
 
-narrow : (d k : ℕ) → width_of (t 0 1 999997 d 1000000) k ≤ unfencedCount 0 1
+narrow : (d k : ℕ) → width_of (t 0 1 999997 d 1000000) k ≤ unfenced_count 0 1
 unfolding filtered up_from
 narrow d k = go (eqb (k % 2) 0)
   where

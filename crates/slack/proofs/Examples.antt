@@ -6,20 +6,20 @@ use mathlib.Core.Path.{refl, ◌≡◌}
 use Prim.Native.Nat.{ℕ, suc, zero, ◌-◌}
 use native.Mathlib.Omega.{arith}
 use lib.ListN.{drop, length, replicate}
-use Rattle.model.proofs.Computing.{Computes, computing}
+use Rattle.model.proofs.Computing.{computing}
 use Rattle.model.proofs.Examples.{on, t}
 use Rattle.model.proofs.Verdict.{verdict-exact}
 use Rattle.model.specs.Lists.{NeverMissed}
-use Rattle.model.specs.Sizes.{mostTasks}
+use Rattle.model.specs.Sizes.{most_tasks}
 use Rattle.model.specs.Task.{AllValid, Rule, Table, greedy, idling, lending}
 use Rattle.model.specs.Verdict.{Firm, Full, Miss, Verdict, verdict}
 use Rattle.table.proofs.Examples.{chained}
-use Rattle.table.specs.Answer.{answer_of, byHorizon, byTasks, byWalk, endingOf, firstOut, headerNumber, lastStep}
+use Rattle.table.specs.Answer.{answer_of, by_horizon, by_tasks, by_walk, ending_of, first_out, header_number, last_step}
 use Rattle.table.specs.Words.{chain, count, visited, table_of}
-use Rattle.table.specs.declared.FigureAnswer.{FigureAnswer}
-use Rattle.slack.specs.Answer.{slackIn, hasSlack, slackOf, noSlack}
+use Rattle.slack.specs.declared.SlackAnswer.{SlackAnswer}
+use Rattle.slack.specs.Answer.{slack_in, has_slack, slack_of, no_slack}
 use Rattle.slack.specs.Answer as answers
-use Rattle.slack.specs.GrownWords.{grownWords}
+use Rattle.slack.specs.GrownWords.{grown_words}
 use Rattle.slack.specs.Longer.{TableLengthened, grown}
 use Rattle.slack.specs.Ordered.{ordered}
 use Rattle.slack.specs.Slack.{misses, slack}
@@ -32,24 +32,21 @@ abbrev pub B1 : Rule → Table
 B1 r = on 2 r (t 0 1 1 3 4 ∷ t 0 2 1 4 4 ∷ t 0 1 2 2 4 ∷ [])
 
 -- the verdicts with no growth of its first task, with one tick more, and with two
-abbrev threeOf : Rule → List Verdict
-threeOf r = map (λ g. verdict (grown (B1 r) 0 g)) (0 ∷ 1 ∷ 2 ∷ [])
+abbrev three_of : Rule → List Verdict
+three_of r = map (λ g. verdict (grown (B1 r) 0 g)) (0 ∷ 1 ∷ 2 ∷ [])
 
 -- with length 1 it misses, with 2 and 3 it is accepted: under rules 3 and 4, and under rule 1, where its widths are out of order
-pub longer-fits : Computes threeOf (
-    (idling, Miss 2 3 ∷ Firm 0 4 ∷ Firm 0 4 ∷ [])
-    ∷ (lending, Miss 2 3 ∷ Firm 0 4 ∷ Firm 0 4 ∷ [])
-    ∷ (greedy, Miss 2 3 ∷ Full 0 4 ∷ Full 0 4 ∷ [])
-    ∷ [])
+pub longer-fits :
+    (three_of idling ≡ Miss 2 3 ∷ Firm 0 4 ∷ Firm 0 4 ∷ [])
+    × (three_of lending ≡ Miss 2 3 ∷ Firm 0 4 ∷ Firm 0 4 ∷ [])
+    × (three_of greedy ≡ Miss 2 3 ∷ Full 0 4 ∷ Full 0 4 ∷ [])
 unfolding computing
-longer-fits = refl
+longer-fits = (refl, refl, refl)
 
 valid-B1 : (r : Rule) → AllValid (B1 r)
 valid-B1 r zero l = record { odd_pos = omega arith; even-pos = omega arith; length-pos = omega arith; deadline-pos = omega arith; constrained = omega arith }
-valid-B1 r (suc zero) l =
-    record { odd_pos = omega arith; even-pos = omega arith; length-pos = omega arith; deadline-pos = omega arith; constrained = omega arith }
-valid-B1 r (suc (suc zero)) l =
-    record { odd_pos = omega arith; even-pos = omega arith; length-pos = omega arith; deadline-pos = omega arith; constrained = omega arith }
+valid-B1 r (suc zero) l = record { odd_pos = omega arith; even-pos = omega arith; length-pos = omega arith; deadline-pos = omega arith; constrained = omega arith }
+valid-B1 r (suc (suc zero)) l = record { odd_pos = omega arith; even-pos = omega arith; length-pos = omega arith; deadline-pos = omega arith; constrained = omega arith }
 valid-B1 r (suc (suc (suc p))) l = absurd (omega arith)
 
 -- so `longer-misses` does not hold of a rule, whatever its widths
@@ -83,18 +80,18 @@ not-out-of-order = not-under greedy refl (inr refl)
 
 pub record Line : Type 0 where
   pub words : List ℕ
-  pub result : FigureAnswer
+  pub result : SlackAnswer
 
 -- the value by the definitions of a line's words
 abbrev pub worked : Line → Line
-worked l = record { words = l.words; result = slackOf l.words }
+worked l = record { words = l.words; result = slack_of l.words }
 
 -- these numbers are given, with zeros past them; the words are turned down by a number, with its position
-abbrev givenLine : List ℕ → List ℕ → Line
-givenLine ws xs = record { words = ws; result = answers.givenSlack (xs ++ replicate (mostTasks - length xs) 0) }
+abbrev given_line : List ℕ → List ℕ → Line
+given_line ws xs = record { words = ws; result = answers.given_slack (xs ++ replicate (most_tasks - length xs) 0) }
 
 abbrev refuses : List ℕ → ℕ → ℕ → Line
-refuses ws n p = record { words = ws; result = noSlack n p }
+refuses ws n p = record { words = ws; result = no_slack n p }
 
 -- a header with an empty fence, and a record's seven words, with widths v and w and with both widths v
 abbrev header : ℕ → ℕ → ℕ → List ℕ
@@ -107,23 +104,23 @@ abbrev entry : ℕ → ℕ → ℕ → ℕ → ℕ → ℕ → List ℕ
 entry n o v c d p = entry₂ n o v v c d p
 
 -- A, B, C and C2 under a rule; E; F with length c
-abbrev ruledA : ℕ → List ℕ
-ruledA r = header 1 3 r ++ entry 2 0 2 2 5 5 ++ entry 3 0 2 3 5 5 ++ entry 0 0 1 4 5 5
+abbrev ruled_a : ℕ → List ℕ
+ruled_a r = header 1 3 r ++ entry 2 0 2 2 5 5 ++ entry 3 0 2 3 5 5 ++ entry 0 0 1 4 5 5
 
-abbrev ruledB : ℕ → List ℕ
-ruledB r = header 1 2 r ++ entry 2 0 1 3 3 4 ++ entry 3 0 2 1 4 4 ++ entry 0 0 1 2 2 4
+abbrev ruled_b : ℕ → List ℕ
+ruled_b r = header 1 2 r ++ entry 2 0 1 3 3 4 ++ entry 3 0 2 1 4 4 ++ entry 0 0 1 2 2 4
 
-abbrev ruledC : ℕ → List ℕ
-ruledC r = header 1 2 r ++ entry 2 0 1 2 4 4 ++ entry 3 0 2 2 4 4 ++ entry 0 0 1 1 4 4
+abbrev ruled_c : ℕ → List ℕ
+ruled_c r = header 1 2 r ++ entry 2 0 1 2 4 4 ++ entry 3 0 2 2 4 4 ++ entry 0 0 1 1 4 4
 
-abbrev ruledC2 : ℕ → List ℕ
-ruledC2 r = header 1 2 r ++ entry 2 0 1 2 4 4 ++ entry 3 0 1 1 4 4 ++ entry 0 0 2 2 4 4
+abbrev ruled_c2 : ℕ → List ℕ
+ruled_c2 r = header 1 2 r ++ entry 2 0 1 2 4 4 ++ entry 3 0 1 1 4 4 ++ entry 0 0 2 2 4 4
 
-abbrev wordsE : List ℕ
-wordsE = header 1 1 2 ++ entry 2 1 1 1 1 2 ++ entry 0 0 1 1 2 3
+abbrev words_e : List ℕ
+words_e = header 1 1 2 ++ entry 2 1 1 1 1 2 ++ entry 0 0 1 1 2 3
 
-abbrev wordsF : ℕ → ℕ → List ℕ
-wordsF r c = header 1 1 r ++ entry 0 0 1 c 1 2
+abbrev words_f : ℕ → ℕ → List ℕ
+words_f r c = header 1 1 r ++ entry 0 0 1 c 1 2
 
 -- one core, rule 2: the tasks of `reordered` in other places: the chain 2, 3, 1 and a fourth record that is not on it
 abbrev reordered : List ℕ
@@ -146,32 +143,31 @@ six-at-once = header 1 1 1 ++ chained 7 1 (8 ∷ 27 ∷ 125 ∷ 7 ∷ 11 ∷ 13 
 abbrev pub lines : List Line
 lines =
     -- one task alone may grow to its deadline: it has no slack, or two of them with D below T
-    givenLine (header 1 1 2 ++ entry 0 0 1 2 2 2) (0 ∷ []) ∷ givenLine (header 1 1 2 ++ entry 0 0 1 1 3 5) (2 ∷ [])
+    given_line (header 1 1 2 ++ entry 0 0 1 2 2 2) (0 ∷ []) ∷ given_line (header 1 1 2 ++ entry 0 0 1 1 3 5) (2 ∷ [])
     -- two tasks share two ticks, each alone may have them; one is bounded by the other's deadline
-    ∷ givenLine (header 1 1 2 ++ entry 2 0 1 1 4 4 ++ entry 0 0 1 1 4 4) (2 ∷ 2 ∷ [])
-    ∷ givenLine (header 1 1 2 ++ entry 2 0 1 1 4 4 ++ entry 0 0 1 1 3 4) (1 ∷ 1 ∷ [])
+    ∷ given_line (header 1 1 2 ++ entry 2 0 1 1 4 4 ++ entry 0 0 1 1 4 4) (2 ∷ 2 ∷ [])
+    ∷ given_line (header 1 1 2 ++ entry 2 0 1 1 4 4 ++ entry 0 0 1 1 3 4) (1 ∷ 1 ∷ [])
     -- the second has no space, and so the first none, but the third; with the records in other places
-    ∷ givenLine reordered (0 ∷ 0 ∷ 3 ∷ []) ∷ givenLine permuted (0 ∷ 0 ∷ 3 ∷ [])
+    ∷ given_line reordered (0 ∷ 0 ∷ 3 ∷ []) ∷ given_line permuted (0 ∷ 0 ∷ 3 ∷ [])
     -- C2, in the width order, under rules 1 and 2; not under 3 and 4, though it is accepted
-    ∷ givenLine (ruledC2 1) (0 ∷ 1 ∷ 0 ∷ []) ∷ givenLine (ruledC2 2) (0 ∷ 1 ∷ 0 ∷ []) ∷ refuses (ruledC2 3) 23 0 ∷ refuses (ruledC2 4) 23 0
+    ∷ given_line (ruled_c2 1) (0 ∷ 1 ∷ 0 ∷ []) ∷ given_line (ruled_c2 2) (0 ∷ 1 ∷ 0 ∷ []) ∷ refuses (ruled_c2 3) 23 0 ∷ refuses (ruled_c2 4) 23 0
     -- E, whose first job is released late
-    ∷ givenLine wordsE (0 ∷ 0 ∷ [])
+    ∷ given_line words_e (0 ∷ 0 ∷ [])
     -- two widths: rule 2 needs no order, rule 1 needs the larger of each to be at most the smaller of the next
-    ∷ givenLine (alternating 2) (1 ∷ 1 ∷ []) ∷ refuses (alternating 1) 23 0 ∷ givenLine (alternating-second 1) (1 ∷ 1 ∷ [])
-    ∷ givenLine (alternating-second 2) (1 ∷ 1 ∷ [])
+    ∷ given_line (alternating 2) (1 ∷ 1 ∷ []) ∷ refuses (alternating 1) 23 0 ∷ given_line (alternating-second 1) (1 ∷ 1 ∷ []) ∷ given_line (alternating-second 2) (1 ∷ 1 ∷ [])
     -- on the one core that the fence leaves of two, and on both
-    ∷ givenLine (1 ∷ 2 ∷ 2 ∷ 2 ∷ 0 ∷ entry 2 0 1 1 2 3 ++ entry 0 0 1 1 3 3) (1 ∷ 1 ∷ [])
-    ∷ givenLine (header 1 2 2 ++ entry 2 0 1 1 2 3 ++ entry 0 0 1 1 3 3) (1 ∷ 2 ∷ [])
+    ∷ given_line (1 ∷ 2 ∷ 2 ∷ 2 ∷ 0 ∷ entry 2 0 1 1 2 3 ++ entry 0 0 1 1 3 3) (1 ∷ 1 ∷ [])
+    ∷ given_line (header 1 2 2 ++ entry 2 0 1 1 2 3 ++ entry 0 0 1 1 3 3) (1 ∷ 2 ∷ [])
     -- out of the width order under rule 1: A, B and C, which are Full
-    ∷ refuses (ruledA 1) 23 0 ∷ refuses (ruledB 1) 23 0 ∷ refuses (ruledC 1) 23 0
+    ∷ refuses (ruled_a 1) 23 0 ∷ refuses (ruled_b 1) 23 0 ∷ refuses (ruled_c 1) 23 0
     -- a miss under rule 2: A2, B2 and C; and under rule 1 in the width order: F
-    ∷ refuses (ruledA 2) 23 0 ∷ refuses (ruledB 2) 23 0 ∷ refuses (ruledC 2) 23 0 ∷ refuses (wordsF 1 2) 23 0 ∷ givenLine (wordsF 1 1) (0 ∷ [])
+    ∷ refuses (ruled_a 2) 23 0 ∷ refuses (ruled_b 2) 23 0 ∷ refuses (ruled_c 2) 23 0 ∷ refuses (words_f 1 2) 23 0 ∷ given_line (words_f 1 1) (0 ∷ [])
     -- rules 3 and 4: A and B, which are Firm
-    ∷ refuses (ruledA 3) 23 0 ∷ refuses (ruledA 4) 23 0 ∷ refuses (ruledB 3) 23 0 ∷ refuses (ruledB 4) 23 0
+    ∷ refuses (ruled_a 3) 23 0 ∷ refuses (ruled_a 4) 23 0 ∷ refuses (ruled_b 3) 23 0 ∷ refuses (ruled_b 4) 23 0
     -- 32 places, which have 32 numbers
-    ∷ givenLine (header 1 32 1 ++ chained 0 1 (replicate 32 1)) (replicate 32 0)
+    ∷ given_line (header 1 32 1 ++ chained 0 1 (replicate 32 1)) (replicate 32 0)
     -- C of 1,000,000 and one more: 23 and 8
-    ∷ refuses (wordsF 2 1000000) 23 0 ∷ refuses (wordsF 2 1000001) 8 1
+    ∷ refuses (words_f 2 1000000) 23 0 ∷ refuses (words_f 2 1000001) 8 1
     -- 1, 2 before 23, 4, 7 with its position, and 9 before 23
     ∷ refuses (drop 1 (header 1 1 1)) 1 0 ∷ refuses (header 1 0 3 ++ entry 0 0 1 1 2 2) 2 0 ∷ refuses (header 0 1 3 ++ entry 0 0 1 1 2 2) 4 0
     ∷ refuses (header 1 1 3 ++ entry 2 0 1 1 2 2 ++ entry 0 0 2 1 1 1) 7 2 ∷ refuses six-at-once 9 0
@@ -179,11 +175,11 @@ lines =
 
 -- every line is its value by the definitions
 pub examples : map worked lines ≡ lines
-unfolding slackOf slackIn hasSlack ordered slack misses chained answer_of byWalk byTasks byHorizon firstOut endingOf lastStep headerNumber table_of chain count
+unfolding slack_of slack_in has_slack ordered slack misses chained answer_of by_walk by_tasks by_horizon first_out ending_of last_step header_number table_of chain count
     visited computing
 examples = refl
 
 -- the words with the third task of `permuted`, its first record, longer by 3
-pub grown-words : grownWords permuted 2 3 ≡ header 2 1 2 ++ entry 0 0 1 4 6 6 ++ entry 3 0 1 1 6 6 ++ entry 1 0 1 1 2 6 ++ entry 9 0 0 0 0 0
-unfolding grownWords visited computing
+pub grown-words : grown_words permuted 2 3 ≡ header 2 1 2 ++ entry 0 0 1 4 6 6 ++ entry 3 0 1 1 6 6 ++ entry 1 0 1 1 2 6 ++ entry 9 0 0 0 0 0
+unfolding grown_words visited computing
 grown-words = refl

@@ -13,7 +13,7 @@ use Rattle.model.proofs.Search.{least-found, least-lowest, least-most}
 use Rattle.model.specs.Lists.{Missed, NeverMissed}
 use Rattle.model.specs.Search.{least}
 use Rattle.model.specs.Task.{AllValid, Table, Task, task}
-use Rattle.table.specs.Limits.{mostTime}
+use Rattle.table.specs.Limits.{most_time}
 use Rattle.slack.specs.Longer.{grown}
 use Rattle.slack.specs.Ordered.{Ordered}
 use Rattle.slack.specs.Slack.{Slack, misses, slack}
@@ -24,7 +24,7 @@ use Rattle.slack.proofs.Misses.{misses-never, misses-some, never-misses, within-
 slack-below : (s : Table) (p g h : ℕ) → Slack s p g → Slack s p h → ¬ (g < h)
 slack-below s p g h x y l = go x.no_more
   where
-    go : ((q t : ℕ) × Missed (grown s p (suc g)) q t) ⊎ (mostTime < (task s p).length + suc g) → ⊥
+    go : ((q t : ℕ) × Missed (grown s p (suc g)) q t) ⊎ (most_time < (task s p).length + suc g) → ⊥
     go (inl m) = y.accepted (suc g) l m.0 m.1 m.2
     go (inr m) = omega (arith, y.within)
 
@@ -43,7 +43,7 @@ module _ (s : Table) (ok : AllValid s) (p : ℕ) (l : p < length s.tasks) where
       not-false-true (misses (grown s p g))
       (λ e. omega (arith, grown-within g (misses-never (grown s p g) (valid-grown s ok p g) e)))
 
-  module _ (nm : NeverMissed s) (short : (task s p).deadline ≤ mostTime) where
+  module _ (nm : NeverMissed s) (short : (task s p).deadline ≤ most_time) where
     -- no growth is accepted where the table is
     pub none-fits : misses (grown s p 0) ≡ false
     none-fits = never-misses (grown s p 0) (valid-grown s ok p 0) (subst NeverMissed (sym (grown-none s p)) nm)
@@ -95,7 +95,7 @@ module _ (s : Table) (ok : AllValid s) (p : ℕ) (l : p < length s.tasks) where
         not-past : ¬ (g < h)
         not-past i = go x.no_more
           where
-            go : ((q t : ℕ) × Missed (grown s p (suc g)) q t) ⊎ (mostTime < (task s p).length + suc g) → ⊥
+            go : ((q t : ℕ) × Missed (grown s p (suc g)) q t) ⊎ (most_time < (task s p).length + suc g) → ⊥
             go (inl m) = smaller-growth s ok o p h (suc g) i fits m.0 m.1 m.2
             go (inr m) = omega (arith, grown-within h fits)
 

@@ -10,24 +10,24 @@ use lib.ListN.{get_or, length, length-set, set}
 use lib.Seq.{get_or-set_same, set-get_or}
 use Rattle.model.specs.Lists.{NeverMissed}
 use Rattle.model.specs.Firm.{ParallelismMonotonic}
-use Rattle.model.specs.Horizon.{S, horizon, hyperperiod, lastS}
-use Rattle.model.specs.Task.{AllValid, ValidTask, Table, Task, absentTask, task}
+use Rattle.model.specs.Horizon.{S, horizon, hyperperiod, last_s}
+use Rattle.model.specs.Task.{AllValid, ValidTask, Table, Task, absent_task, task}
 use Rattle.slack.specs.Longer.{TableLengthened, TaskLengthened, grown, lengthen}
 use Rattle.slack.specs.Ordered.{Ordered}
 use Rattle.slack.proofs.Longer.{longer-misses}
 
 -- a task is itself with the same length
 lengthened-same : (τ : Task) → TaskLengthened τ τ
-lengthened-same τ = record { offset = refl; oddWidth = refl; longer = le_refl τ.length; deadline = refl; period = refl; evenWidth = refl }
+lengthened-same τ = record { offset = refl; odd_width = refl; longer = le_refl τ.length; deadline = refl; period = refl; even_width = refl }
 
 -- one task of a list grown by g, and by h
 lengthened-set :
     (τs : List Task) (p : ℕ) (τ : Task) (g h q : ℕ) → g ≤ h
-    → TaskLengthened (get_or (set τs p (lengthen g τ)) q absentTask) (get_or (set τs p (lengthen h τ)) q absentTask)
-lengthened-set [] p τ g h q l = lengthened-same absentTask
+    → TaskLengthened (get_or (set τs p (lengthen g τ)) q absent_task) (get_or (set τs p (lengthen h τ)) q absent_task)
+lengthened-set [] p τ g h q l = lengthened-same absent_task
 lengthened-set (σ ∷ τs) zero τ g h zero l =
-    record { offset = refl; oddWidth = refl; longer = omega arith; deadline = refl; period = refl; evenWidth = refl }
-lengthened-set (σ ∷ τs) zero τ g h (suc q) l = lengthened-same (get_or τs q absentTask)
+    record { offset = refl; odd_width = refl; longer = omega arith; deadline = refl; period = refl; even_width = refl }
+lengthened-set (σ ∷ τs) zero τ g h (suc q) l = lengthened-same (get_or τs q absent_task)
 lengthened-set (σ ∷ τs) (suc p) τ g h zero l = lengthened-same σ
 lengthened-set (σ ∷ τs) (suc p) τ g h (suc q) l = lengthened-set τs p τ g h q l
 
@@ -45,7 +45,7 @@ pub grown-none : (s : Table) (p : ℕ) → grown s p 0 ≡ s
 grown-none s p =
     let e : τ ≡ task s p = rw (add-zero (task s p).length) in
     ap (λ (τs : List Task). record { tasks = τs; cores = s.cores; fence = s.fence; rule = s.rule })
-    (ap (set s.tasks p) e ∙ set-get_or s.tasks p absentTask)
+    (ap (set s.tasks p) e ∙ set-get_or s.tasks p absent_task)
   where
     τ : Task
     τ = lengthen 0 (task s p)
@@ -58,14 +58,14 @@ pub grown-count : (s : Table) (p g : ℕ) → length (grown s p g).tasks ≡ len
 grown-count s p g = length-set s.tasks p (lengthen g (task s p))
 
 pub grown-task : (s : Table) (p g : ℕ) → p < length s.tasks → task (grown s p g) p ≡ lengthen g (task s p)
-grown-task s p g l = get_or-set_same s.tasks p (lengthen g (task s p)) absentTask l
+grown-task s p g l = get_or-set_same s.tasks p (lengthen g (task s p)) absent_task l
 
 -- WHAT STAYS
 
 valid-lengthened : {τ τ' : Task} → TaskLengthened τ τ' → ValidTask τ → ValidTask τ'
 valid-lengthened x ok = record {
-  odd_pos = subst (λ (n : ℕ). 1 ≤ n) x.oddWidth ok.odd_pos;
-  even-pos = subst (λ (n : ℕ). 1 ≤ n) x.evenWidth ok.even-pos;
+  odd_pos = subst (λ (n : ℕ). 1 ≤ n) x.odd_width ok.odd_pos;
+  even-pos = subst (λ (n : ℕ). 1 ≤ n) x.even_width ok.even-pos;
   length-pos = le_trans ok.length-pos x.longer;
   deadline-pos = subst (λ (n : ℕ). 1 ≤ n) x.deadline ok.deadline-pos;
   constrained = rw (← x.deadline, ← x.period) ok.constrained;
@@ -80,26 +80,25 @@ ordered-longer s s' x (inr (e, h)) = inr (sym x.rules ∙ e, monotonic-grown)
   where
     monotonic-grown : ParallelismMonotonic s'.tasks
     monotonic-grown p l =
-        rw (← (x.places p).oddWidth, ← (x.places p).evenWidth, ← (x.places (suc p)).oddWidth, ← (x.places (suc p)).evenWidth)
+        rw (← (x.places p).odd_width, ← (x.places p).even_width, ← (x.places (suc p)).odd_width, ← (x.places (suc p)).even_width)
         (h p (subst (λ (n : ℕ). suc p < n) (sym x.count) l))
 
 -- S and P stay, and so does the horizon: 9 does not come up
-same-S : (τs τs' : List Task) → ((q : ℕ) → TaskLengthened (get_or τs q absentTask) (get_or τs' q absentTask)) → (p : ℕ) → S τs p ≡ S τs' p
+same-S : (τs τs' : List Task) → ((q : ℕ) → TaskLengthened (get_or τs q absent_task) (get_or τs' q absent_task)) → (p : ℕ) → S τs p ≡ S τs' p
 unfolding S
 same-S τs τs' x zero = (x 0).offset
 same-S τs τs' x (suc p) = rw ((x (suc p)).offset, (x (suc p)).period, same-S τs τs' x p)
 
-pub start-longer : (s s' : Table) → TableLengthened s s' → lastS s.tasks ≡ lastS s'.tasks
+pub start-longer : (s s' : Table) → TableLengthened s s' → last_s s.tasks ≡ last_s s'.tasks
 start-longer s s' x =
     ap (λ (n : ℕ). S s.tasks (n - 1)) x.count ∙ same-S s.tasks s'.tasks x.places (length s'.tasks - 1)
 
-same-P :
-    (τs τs' : List Task) → length τs ≡ length τs' → ((q : ℕ) → TaskLengthened (get_or τs q absentTask) (get_or τs' q absentTask)) → hyperperiod τs ≡ hyperperiod τs'
+same-P : (τs τs' : List Task) → length τs ≡ length τs' → ((q : ℕ) → TaskLengthened (get_or τs q absent_task) (get_or τs' q absent_task)) → hyperperiod τs ≡ hyperperiod τs'
 unfolding hyperperiod
 same-P [] [] e x = refl
 same-P [] (τ' ∷ τs') e x = absurd (suc-ne-zero _ (sym e))
 same-P (τ ∷ τs) [] e x = absurd (suc-ne-zero _ e)
-same-P (τ ∷ τs) (τ' ∷ τs') e x = rw ((x 0).period, (x 0).oddWidth, (x 0).evenWidth, same-P τs τs' (suc_inj e) (λ q. x (suc q)))
+same-P (τ ∷ τs) (τ' ∷ τs') e x = rw ((x 0).period, (x 0).odd_width, (x 0).even_width, same-P τs τs' (suc_inj e) (λ q. x (suc q)))
 
 pub period-longer : (s s' : Table) → TableLengthened s s' → hyperperiod s.tasks ≡ hyperperiod s'.tasks
 period-longer s s' x = same-P s.tasks s'.tasks x.count x.places

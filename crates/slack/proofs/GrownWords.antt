@@ -10,25 +10,25 @@ use lib.Dec.{eqb, ltb}
 use lib.ListN.{get_or, length, length-set, set}
 use lib.Seq.{ext_get_or, get_or-set_other, get_or-set_same}
 use borrow.Author.Tests.{eqb-false, eqb-true, ltb-false, ltb-true}
-use Rattle.model.specs.Fence.{unfencedCount}
+use Rattle.model.specs.Fence.{unfenced_count}
 use Rattle.model.specs.Horizon.{horizon}
 use Rattle.model.specs.Search.{least}
-use Rattle.model.specs.Sizes.{mostTasks}
-use Rattle.model.specs.Task.{Task, absentTask, ruleOf, task}
+use Rattle.model.specs.Sizes.{most_tasks}
+use Rattle.model.specs.Task.{Task, absent_task, rule_of, task}
 use Rattle.table.proofs.Passed.{passed-horizon, passed-inside, passed-reached}
 use Rattle.table.proofs.Tasks.{table_at, table-length}
-use Rattle.table.specs.Limits.{CoresOut, FenceOut, RuleOut, TimesOut, WidthOut, mostTime}
+use Rattle.table.specs.Limits.{CoresOut, FenceOut, RuleOut, TimesOut, WidthOut, most_time}
 use Rattle.table.specs.Numbers.{NoneApplies, Position, Reaches}
 use Rattle.table.specs.Numbers.{eight, five, four, nine, nineteen, one, seven, six, three, two}
-use Rattle.table.specs.Words.{coreCount, count, fence, fenceOf, field, headerWords, visited, next, recordWords, records}
-use Rattle.table.specs.Words.{table_of, taskAt, taskOfRecord, word}
-use Rattle.slack.specs.GrownWords.{grownWords, length_at}
+use Rattle.table.specs.Words.{core_count, count, fence, fence_of, field, header_words, visited, next, record_words, records}
+use Rattle.table.specs.Words.{table_of, task_at, task_of_record, word}
+use Rattle.slack.specs.GrownWords.{grown_words, length_at}
 use Rattle.slack.specs.Longer.{grown, lengthen}
 use Rattle.slack.proofs.Grown.{grown-longer, horizon-longer}
 
 module _ (ws : List ℕ) (none : NoneApplies ws) (p : ℕ) (l : p < length (table_of ws).tasks) (g : ℕ) where
   abbrev us : List ℕ
-  us = grownWords ws p g
+  us = grown_words ws p g
 
   -- the record that changes, and which word
   abbrev own : ℕ
@@ -38,22 +38,22 @@ module _ (ws : List ℕ) (none : NoneApplies ws) (p : ℕ) (l : p < length (tabl
   at = length_at own
 
   same_length : length us ≡ length ws
-  unfolding grownWords
+  unfolding grown_words
   same_length = length-set ws at (word ws at + g)
 
   same-records : records us ≡ records ws
-  same-records = ap (λ (n : ℕ). (n - headerWords) / recordWords) same_length
+  same-records = ap (λ (n : ℕ). (n - header_words) / record_words) same_length
 
   same_word : (i : ℕ) → (i ≡ at → ⊥) → word us i ≡ word ws i
-  unfolding grownWords
+  unfolding grown_words
   same_word i d = get_or-set_other ws at i (word ws at + g) 0 d
 
-  same-header : (i : ℕ) → i < headerWords → word us i ≡ word ws i
+  same-header : (i : ℕ) → i < header_words → word us i ≡ word ws i
   same-header i a = same_word i (λ e. omega arith)
 
   -- the walk meets the same records
   same_next : (n : ℕ) → next us n ≡ next ws n
-  same_next n = same_word (headerWords + (n - 1) * recordWords + 0) (λ e. omega arith)
+  same_next n = same_word (header_words + (n - 1) * record_words + 0) (λ e. omega arith)
 
   same-visited : (k : ℕ) → visited us k ≡ visited ws k
   unfolding visited
@@ -65,8 +65,8 @@ module _ (ws : List ℕ) (none : NoneApplies ws) (p : ℕ) (l : p < length (tabl
   same_count = ap₂ (λ (n : ℕ) (f : ℕ → ℕ). least (suc n) (λ k. eqb (f k) 0)) same-records (fun_ext same-visited)
 
   -- every word but the one of the record at place p
-  same-field : (n j : ℕ) → j < recordWords → (j ≡ 3 → ⊥) → field us n j ≡ field ws n j
-  same-field n j a d = same_word (headerWords + (n - 1) * recordWords + j) (λ e. omega arith)
+  same-field : (n j : ℕ) → j < record_words → (j ≡ 3 → ⊥) → field us n j ≡ field ws n j
+  same-field n j a d = same_word (header_words + (n - 1) * record_words + j) (λ e. omega arith)
 
   l' : p < count ws
   l' = omega (arith, l, table-length ws)
@@ -85,48 +85,48 @@ module _ (ws : List ℕ) (none : NoneApplies ws) (p : ℕ) (l : p < length (tabl
       go true h = (passed-reached ws none p l').2 (q, ltb-true q p h, e)
       go false h = (passed-reached ws none q m).2 (p, omega (arith, ltb-false q p h, d), sym e)
 
-  other-record : (n : ℕ) → 1 ≤ n → (n ≡ own → ⊥) → taskOfRecord us n ≡ taskOfRecord ws n
+  other-record : (n : ℕ) → 1 ≤ n → (n ≡ own → ⊥) → task_of_record us n ≡ task_of_record ws n
   other-record n a d =
-      let f : (j : ℕ) → j < recordWords → field us n j ≡ field ws n j =
-      λ j b. same_word (headerWords + (n - 1) * recordWords + j) (λ e. d (omega (arith, own_in))) in
+      let f : (j : ℕ) → j < record_words → field us n j ≡ field ws n j =
+      λ j b. same_word (header_words + (n - 1) * record_words + j) (λ e. d (omega (arith, own_in))) in
       let one = f 1 (omega arith) in
       let two = f 2 (omega arith) in
       let three = f 3 (omega arith) in
       let four = f 4 (omega arith) in
       let five = f 5 (omega arith) in
       let six = f 6 (omega arith) in
-      λ i. record { offset = one i; oddWidth = two i; length = three i; deadline = four i; period = five i; evenWidth = six i }
+      λ i. record { offset = one i; odd_width = two i; length = three i; deadline = four i; period = five i; even_width = six i }
 
-  own-record : taskOfRecord us own ≡ lengthen g (taskOfRecord ws own)
+  own-record : task_of_record us own ≡ lengthen g (task_of_record ws own)
   own-record =
-      let f : (j : ℕ) → j < recordWords → (j ≡ 3 → ⊥) → field us own j ≡ field ws own j = same-field own in
+      let f : (j : ℕ) → j < record_words → (j ≡ 3 → ⊥) → field us own j ≡ field ws own j = same-field own in
       let one = f 1 (omega arith) (λ e. omega arith) in
       let two = f 2 (omega arith) (λ e. omega arith) in
-      let three : field us own 3 ≡ field ws own 3 + g = unfold grownWords in get_or-set_same ws at (word ws at + g) 0 (omega (arith, own_in)) in
+      let three : field us own 3 ≡ field ws own 3 + g = unfold grown_words in get_or-set_same ws at (word ws at + g) 0 (omega (arith, own_in)) in
       let four = f 4 (omega arith) (λ e. omega arith) in
       let five = f 5 (omega arith) (λ e. omega arith) in
       let six = f 6 (omega arith) (λ e. omega arith) in
-      λ i. record { offset = one i; oddWidth = two i; length = three i; deadline = four i; period = five i; evenWidth = six i }
+      λ i. record { offset = one i; odd_width = two i; length = three i; deadline = four i; period = five i; even_width = six i }
 
   -- the task at each place
-  task-grown : (q : ℕ) → q < count ws → taskOfRecord us (visited us q) ≡ get_or (grown (table_of ws) p g).tasks q absentTask
-  task-grown q m = ap (taskOfRecord us) (same-visited q) ∙ go (eqb q p) refl
+  task-grown : (q : ℕ) → q < count ws → task_of_record us (visited us q) ≡ get_or (grown (table_of ws) p g).tasks q absent_task
+  task-grown q m = ap (task_of_record us) (same-visited q) ∙ go (eqb q p) refl
     where
-      go : (t : Bool) → eqb q p ≡ t → taskOfRecord us (visited ws q) ≡ get_or (set (table_of ws).tasks p (lengthen g (task (table_of ws) p))) q absentTask
+      go : (t : Bool) → eqb q p ≡ t → task_of_record us (visited ws q) ≡ get_or (set (table_of ws).tasks p (lengthen g (task (table_of ws) p))) q absent_task
       go true e =
           let i : q ≡ p = eqb-true q p e in
-          subst (λ (n : ℕ). taskOfRecord us (visited ws n) ≡ get_or (set (table_of ws).tasks p (lengthen g (task (table_of ws) p))) n absentTask) (sym i)
+          subst (λ (n : ℕ). task_of_record us (visited ws n) ≡ get_or (set (table_of ws).tasks p (lengthen g (task (table_of ws) p))) n absent_task) (sym i)
           (own-record
-          ∙ (ap (lengthen g) (sym (table_at ws p l')) ∙ sym (get_or-set_same (table_of ws).tasks p (lengthen g (task (table_of ws) p)) absentTask l)))
+          ∙ (ap (lengthen g) (sym (table_at ws p l')) ∙ sym (get_or-set_same (table_of ws).tasks p (lengthen g (task (table_of ws) p)) absent_task l)))
       go false e =
           let d : ¬ (q ≡ p) = eqb-false q p e in
           let a : ¬ (visited ws q ≡ 0) = (passed-reached ws none q m).0 in
           other-record (visited ws q) (omega arith) (own-only q m d)
-          ∙ (sym (table_at ws q m) ∙ sym (get_or-set_other (table_of ws).tasks p q (lengthen g (task (table_of ws) p)) absentTask d))
+          ∙ (sym (table_at ws q m) ∙ sym (get_or-set_other (table_of ws).tasks p q (lengthen g (task (table_of ws) p)) absent_task d))
 
   tasks-grown : (table_of us).tasks ≡ (grown (table_of ws) p g).tasks
   tasks-grown =
-      ext_get_or absentTask (table_of us).tasks (grown (table_of ws) p g).tasks
+      ext_get_or absent_task (table_of us).tasks (grown (table_of ws) p g).tasks
       (table-length us ∙ (same_count ∙ (sym (table-length ws) ∙ sym (length-set (table_of ws).tasks p (lengthen g (task (table_of ws) p))))))
       (λ q m.
       let k : q < count us = omega (arith, table-length us) in
@@ -141,15 +141,15 @@ module _ (ws : List ℕ) (none : NoneApplies ws) (p : ℕ) (l : p < length (tabl
       let r = same-header 2 (omega arith) in
       let low = same-header 3 (omega arith) in
       let high = same-header 4 (omega arith) in
-      λ i. record { tasks = τs i; cores = m i; fence = fenceOf (low i) (high i); rule = ruleOf (r i) }
+      λ i. record { tasks = τs i; cores = m i; fence = fence_of (low i) (high i); rule = rule_of (r i) }
 
   -- ---- no number turns them down
 
-  same-cores : coreCount us ≡ coreCount ws
+  same-cores : core_count us ≡ core_count ws
   same-cores = same-header 1 (omega arith)
 
   same-fence : fence us ≡ fence ws
-  same-fence = ap₂ fenceOf (same-header 3 (omega arith)) (same-header 4 (omega arith))
+  same-fence = ap₂ fence_of (same-header 3 (omega arith)) (same-header 4 (omega arith))
 
   reaches-back : (k : ℕ) → Reaches us k → Reaches ws k
   reaches-back k c j m = (
@@ -163,18 +163,18 @@ module _ (ws : List ℕ) (none : NoneApplies ws) (p : ℕ) (l : p < length (tabl
 
   -- a task is as it was, or is the one that has grown
   abbrev Kept : ℕ → Type 0
-  Kept q = (taskAt us q ≡ taskAt ws q) ⊎ ((q ≡ suc p) × (taskAt us q ≡ lengthen g (taskAt ws q)))
+  Kept q = (task_at us q ≡ task_at ws q) ⊎ ((q ≡ suc p) × (task_at us q ≡ lengthen g (task_at ws q)))
 
   task-kept : (q : ℕ) → Position ws q → Kept q
   task-kept q (a, b) = go (eqb (q - 1) p) refl
     where
-      same : taskAt us q ≡ taskOfRecord us (visited ws (q - 1))
-      same = ap (taskOfRecord us) (same-visited (q - 1))
+      same : task_at us q ≡ task_of_record us (visited ws (q - 1))
+      same = ap (task_of_record us) (same-visited (q - 1))
 
       go : (t : Bool) → eqb (q - 1) p ≡ t → Kept q
       go true e =
           let i : q - 1 ≡ p = eqb-true (q - 1) p e in
-          inr (omega arith, same ∙ subst (λ (n : ℕ). taskOfRecord us (visited ws n) ≡ lengthen g (taskOfRecord ws (visited ws n))) (sym i) own-record)
+          inr (omega arith, same ∙ subst (λ (n : ℕ). task_of_record us (visited ws n) ≡ lengthen g (task_of_record ws (visited ws n))) (sym i) own-record)
       go false e =
           let d : ¬ (q - 1 ≡ p) = eqb-false (q - 1) p e in
           let m : q - 1 < count ws = omega arith in
@@ -182,40 +182,40 @@ module _ (ws : List ℕ) (none : NoneApplies ws) (p : ℕ) (l : p < length (tabl
           inl (same ∙ other-record (visited ws (q - 1)) (omega arith) (own-only (q - 1) m d))
 
   abbrev wide : List ℕ → ℕ
-  wide vs = unfencedCount (fence vs) (coreCount vs)
+  wide vs = unfenced_count (fence vs) (core_count vs)
 
   same-width-limit : wide us ≡ wide ws
-  same-width-limit = ap₂ unfencedCount same-fence same-cores
+  same-width-limit = ap₂ unfenced_count same-fence same-cores
 
-  module _ (most : (task (table_of ws) p).length + g ≤ mostTime) where
+  module _ (most : (task (table_of ws) p).length + g ≤ most_time) where
     -- 7 reads no length, and 8 has it within its limit
-    never-wide : (q : ℕ) → Kept q → WidthOut (wide us) (taskAt us q) → WidthOut (wide ws) (taskAt ws q)
-    never-wide q (inl e) h = subst (λ (m : ℕ). WidthOut m (taskAt ws q)) same-width-limit (subst (WidthOut (wide us)) e h)
-    never-wide q (inr (i, e)) h = subst (λ (m : ℕ). WidthOut m (taskAt ws q)) same-width-limit (subst (WidthOut (wide us)) e h)
+    never-wide : (q : ℕ) → Kept q → WidthOut (wide us) (task_at us q) → WidthOut (wide ws) (task_at ws q)
+    never-wide q (inl e) h = subst (λ (m : ℕ). WidthOut m (task_at ws q)) same-width-limit (subst (WidthOut (wide us)) e h)
+    never-wide q (inr (i, e)) h = subst (λ (m : ℕ). WidthOut m (task_at ws q)) same-width-limit (subst (WidthOut (wide us)) e h)
 
-    grown-times : (τ : Task) → 1 ≤ τ.length → τ.length + g ≤ mostTime → TimesOut (lengthen g τ) → TimesOut τ
+    grown-times : (τ : Task) → 1 ≤ τ.length → τ.length + g ≤ most_time → TimesOut (lengthen g τ) → TimesOut τ
     grown-times τ a b (inl h) = inl h
     grown-times τ a b (inr (inl h)) = absurd (h (omega arith))
     grown-times τ a b (inr (inr h)) = inr (inr h)
 
-    never-times : (q : ℕ) → Kept q → TimesOut (taskAt us q) → TimesOut (taskAt ws q)
+    never-times : (q : ℕ) → Kept q → TimesOut (task_at us q) → TimesOut (task_at ws q)
     never-times q (inl e) h = subst TimesOut e h
     never-times q (inr (i, e)) h =
-        let here : task (table_of ws) p ≡ taskAt ws q = table_at ws p l' ∙ ap (λ (n : ℕ). taskOfRecord ws (visited ws n)) (omega arith) in
-        grown-times (taskAt ws q)
+        let here : task (table_of ws) p ≡ task_at ws q = table_at ws p l' ∙ ap (λ (n : ℕ). task_of_record ws (visited ws n)) (omega arith) in
+        grown-times (task_at ws q)
         (subst (λ (τ : Task). 1 ≤ τ.length) here (passed-inside ws none p l).length_from.0)
-        (subst (λ (τ : Task). τ.length + g ≤ mostTime) here most)
+        (subst (λ (τ : Task). τ.length + g ≤ most_time) here most)
         (subst TimesOut e h)
 
     pub grown-passes : NoneApplies us
     grown-passes n q (one h) =
         none 1 0
         (one
-        (subst (λ (k : ℕ). (k < headerWords) ⊎ (((k - headerWords) % recordWords ≡ 0 → ⊥) ⊎ (mostTasks < (k - headerWords) / recordWords))) same_length h))
+        (subst (λ (k : ℕ). (k < header_words) ⊎ (((k - header_words) % record_words ≡ 0 → ⊥) ⊎ (most_tasks < (k - header_words) / record_words))) same_length h))
     grown-passes n q (two h) = none 2 0 (two (subst CoresOut same-cores h))
     grown-passes n q (three h) = none 3 0 (three (subst RuleOut (same-header 2 (omega arith)) h))
     grown-passes n q (nineteen h) =
-        none 19 0 (nineteen (subst (FenceOut (coreCount ws)) same-fence (subst (λ (m : ℕ). FenceOut m (fence us)) same-cores h)))
+        none 19 0 (nineteen (subst (FenceOut (core_count ws)) same-fence (subst (λ (m : ℕ). FenceOut m (fence us)) same-cores h)))
     grown-passes n q (four h) = none 4 0 (four (sym (same-header 0 (omega arith)) ∙ h))
     grown-passes n q (five k c h) = none 5 0 (five k (reaches-back k c) (omega (arith, h, same-visited k, same-records)))
     grown-passes n q (six k c h) = none 6 0 (six k (reaches-back k c) (h.0, h.1, sym (same-visited h.0) ∙ (h.2 ∙ same-visited k)))
@@ -226,6 +226,6 @@ module _ (ws : List ℕ) (none : NoneApplies ws) (p : ℕ) (l : p < length (tabl
 
 -- THE THEOREM: a table that passes passes with one C grown within its limit, and is then the table that has grown
 pub every-growth :
-    (ws : List ℕ) → NoneApplies ws → (p : ℕ) → p < length (table_of ws).tasks → (g : ℕ) → (task (table_of ws) p).length + g ≤ mostTime
-    → NoneApplies (grownWords ws p g) × (table_of (grownWords ws p g) ≡ grown (table_of ws) p g)
+    (ws : List ℕ) → NoneApplies ws → (p : ℕ) → p < length (table_of ws).tasks → (g : ℕ) → (task (table_of ws) p).length + g ≤ most_time
+    → NoneApplies (grown_words ws p g) × (table_of (grown_words ws p g) ≡ grown (table_of ws) p g)
 every-growth ws none p l g most = (grown-passes ws none p l g most, grown-table ws none p l g)

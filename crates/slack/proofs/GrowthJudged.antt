@@ -12,20 +12,20 @@ use borrow.Author.Tests.{leb-false, leb-true}
 use Rattle.model.proofs.Verdict.{verdict-exact}
 use Rattle.model.specs.Lists.{Missed, NeverMissed}
 use Rattle.model.specs.Firm.{FirmRule}
-use Rattle.model.specs.Horizon.{hyperperiod, lastS}
+use Rattle.model.specs.Horizon.{hyperperiod, last_s}
 use Rattle.model.specs.Task.{AllValid, Table, task}
 use Rattle.model.specs.Verdict as model
 use Rattle.model.specs.Verdict.{verdict}
 use Rattle.table.proofs.Exact.{passed-exact}
 use Rattle.table.proofs.Passed.{passed-valid}
-use Rattle.table.specs.Limits.{mostTime}
+use Rattle.table.specs.Limits.{most_time}
 use Rattle.table.specs.Numbers.{NoneApplies}
 use Rattle.table.specs.Words.{table_of}
 use Rattle.judge.proofs.Contract.{passed_is}
 use Rattle.judge.specs.declared.Verdict.TheVariants.{Firm, Miss}
-use Rattle.judge.specs.Judged.{verdictOf}
-use Rattle.judge.specs.JudgeAnswer.{verdictCase, judged}
-use Rattle.slack.specs.GrownWords.{grownWords}
+use Rattle.judge.specs.Judged.{verdict_of}
+use Rattle.judge.specs.JudgeAnswer.{verdict_case, judged}
+use Rattle.slack.specs.GrownWords.{grown_words}
 use Rattle.slack.specs.Longer.{grown}
 use Rattle.slack.specs.Ordered.{Ordered}
 use Rattle.slack.specs.Slack.{Slack}
@@ -45,23 +45,23 @@ module _ (ws : List ℕ) (none : NoneApplies ws) (o : Ordered (table_of ws)) (p 
   ok = passed-valid ws none
 
   -- the words with a growth have the verdict of the table that has grown
-  verdict-grown : (h : ℕ) → (task s p).length + h ≤ mostTime → verdictOf (grownWords ws p h) ≡ verdictCase (judged (verdict (grown s p h)))
+  verdict-grown : (h : ℕ) → (task s p).length + h ≤ most_time → verdict_of (grown_words ws p h) ≡ verdict_case (judged (verdict (grown s p h)))
   verdict-grown h most =
       let x = every-growth ws none p l h most in
-      passed_is (grownWords ws p h) ((passed-exact (grownWords ws p h)).1 x.0) ∙ ap (λ (w : Table). verdictCase (judged (verdict w))) x.1
+      passed_is (grown_words ws p h) ((passed-exact (grown_words ws p h)).1 x.0) ∙ ap (λ (w : Table). verdict_case (judged (verdict w))) x.1
 
   -- where it never misses that is Firm, with the table's own S and P
-  firm-grown : (h : ℕ) → NeverMissed (grown s p h) → verdict (grown s p h) ≡ model.Firm (lastS s.tasks) (hyperperiod s.tasks)
+  firm-grown : (h : ℕ) → NeverMissed (grown s p h) → verdict (grown s p h) ≡ model.Firm (last_s s.tasks) (hyperperiod s.tasks)
   firm-grown h nm =
       let x = grown-longer s p h in
-      ((verdict-exact (grown s p h) (valid-grown s ok p h)).firm (lastS s.tasks) (hyperperiod s.tasks)).1
+      ((verdict-exact (grown s p h) (valid-grown s ok p h)).firm (last_s s.tasks) (hyperperiod s.tasks)).1
       (nm, firm-ordered (grown s p h) (ordered-longer s (grown s p h) x o), start-longer s (grown s p h) x, period-longer s (grown s p h) x)
 
-  firm-own : NeverMissed s → verdictOf ws ≡ Firm (lastS s.tasks) (hyperperiod s.tasks)
+  firm-own : NeverMissed s → verdict_of ws ≡ Firm (last_s s.tasks) (hyperperiod s.tasks)
   firm-own nm =
       passed_is ws ((passed-exact ws).1 none)
-      ∙ ap (λ (v : model.Verdict). verdictCase (judged v))
-      (((verdict-exact s ok).firm (lastS s.tasks) (hyperperiod s.tasks)).1 (nm, firm-ordered s o, refl, refl))
+      ∙ ap (λ (v : model.Verdict). verdict_case (judged v))
+      (((verdict-exact s ok).firm (last_s s.tasks) (hyperperiod s.tasks)).1 (nm, firm-ordered s o, refl, refl))
 
   -- where it misses, a miss
   miss-grown : (h q t : ℕ) → Missed (grown s p h) q t → (u i : ℕ) × (verdict (grown s p h) ≡ model.Miss u i)
@@ -75,20 +75,20 @@ module _ (ws : List ℕ) (none : NoneApplies ws) (o : Ordered (table_of ws)) (p 
   -- THE THEOREM
   pub growth-judged :
       NeverMissed s → (g : ℕ) → Slack s p g
-      → ((h : ℕ) → h ≤ g → verdictOf (grownWords ws p h) ≡ verdictOf ws)
-      × (((t q : ℕ) × (verdictOf (grownWords ws p (suc g)) ≡ Miss t q)) ⊎ (mostTime < (task s p).length + suc g))
-  growth-judged nm g x = (same, more (leb ((task s p).length + suc g) mostTime) refl x.no_more)
+      → ((h : ℕ) → h ≤ g → verdict_of (grown_words ws p h) ≡ verdict_of ws)
+      × (((t q : ℕ) × (verdict_of (grown_words ws p (suc g)) ≡ Miss t q)) ⊎ (most_time < (task s p).length + suc g))
+  growth-judged nm g x = (same, more (leb ((task s p).length + suc g) most_time) refl x.no_more)
     where
-      same : (h : ℕ) → h ≤ g → verdictOf (grownWords ws p h) ≡ verdictOf ws
+      same : (h : ℕ) → h ≤ g → verdict_of (grown_words ws p h) ≡ verdict_of ws
       same h i =
           verdict-grown h (omega (arith, x.within))
-          ∙ (ap (λ (v : model.Verdict). verdictCase (judged v)) (firm-grown h (x.accepted h i)) ∙ sym (firm-own nm))
+          ∙ (ap (λ (v : model.Verdict). verdict_case (judged v)) (firm-grown h (x.accepted h i)) ∙ sym (firm-own nm))
 
-      more : (b : Bool) → leb ((task s p).length + suc g) mostTime ≡ b
-          → ((q t : ℕ) × Missed (grown s p (suc g)) q t) ⊎ (mostTime < (task s p).length + suc g)
-          → ((t q : ℕ) × (verdictOf (grownWords ws p (suc g)) ≡ Miss t q)) ⊎ (mostTime < (task s p).length + suc g)
-      more false e y = inr (leb-false ((task s p).length + suc g) mostTime e)
+      more : (b : Bool) → leb ((task s p).length + suc g) most_time ≡ b
+          → ((q t : ℕ) × Missed (grown s p (suc g)) q t) ⊎ (most_time < (task s p).length + suc g)
+          → ((t q : ℕ) × (verdict_of (grown_words ws p (suc g)) ≡ Miss t q)) ⊎ (most_time < (task s p).length + suc g)
+      more false e y = inr (leb-false ((task s p).length + suc g) most_time e)
       more true e (inr y) = inr y
       more true e (inl y) =
           let m = miss-grown (suc g) y.0 y.1 y.2 in
-          inl (m.0, m.1, verdict-grown (suc g) (leb-true ((task s p).length + suc g) mostTime e) ∙ ap (λ (v : model.Verdict). verdictCase (judged v)) m.2)
+          inl (m.0, m.1, verdict-grown (suc g) (leb-true ((task s p).length + suc g) most_time e) ∙ ap (λ (v : model.Verdict). verdict_case (judged v)) m.2)

@@ -8,40 +8,40 @@ use lib.Dec.{eqb}
 use borrow.Author.Tests.{ne_eqb}
 use Rattle.model.specs.Firm.{firm}
 use Rattle.model.specs.Horizon.{horizon}
-use Rattle.model.specs.Task.{Task, greedy, limited, ruleOf}
+use Rattle.model.specs.Task.{Task, greedy, limited, rule_of}
 use Rattle.table.specs.declared.Loaded.{Loaded}
 use Rattle.judge.proofs.FirstMiss.{never-found, one_found}
 use Rattle.judge.specs.declared.Missed.{Missed}
 use Rattle.judge.specs.declared.Missed.TheVariants.{Never, At}
-use Rattle.judge.specs.FirstMiss.{missedBefore}
-use Rattle.table.specs.Fit.{Fit, loadedTable}
+use Rattle.judge.specs.FirstMiss.{missed_before}
+use Rattle.table.specs.Fit.{Fit, loaded_table}
 use Rattle.slack.specs.Ordered.{ordered}
 use Rattle.slack.specs.Slack.{misses}
 
 -- a miss is found
-abbrev pub isFound : Missed → Bool
-isFound Never = false
-isFound (At t p) = true
+abbrev pub is_found : Missed → Bool
+is_found Never = false
+is_found (At t p) = true
 
 -- what is found before the tick after the horizon decides whether the table misses
-pub found-misses : (t : Loaded) → Fit t → (m u : Missed) → m ≡ missedBefore (loadedTable t) (t.horizon + 1) → m ≡ u → isFound u ≡ misses (loadedTable t)
+pub found-misses : (t : Loaded) → Fit t → (m u : Missed) → m ≡ missed_before (loaded_table t) (t.horizon + 1) → m ≡ u → is_found u ≡ misses (loaded_table t)
 unfolding misses
-found-misses t fit m u v e = go u (subst (λ (b : ℕ). missedBefore (loadedTable t) b ≡ u) (omega (arith, fit.horizon)) (sym v ∙ e))
+found-misses t fit m u v e = go u (subst (λ (b : ℕ). missed_before (loaded_table t) b ≡ u) (omega (arith, fit.horizon)) (sym v ∙ e))
   where
-    go : (u : Missed) → missedBefore (loadedTable t) (suc (horizon (loadedTable t))) ≡ u → isFound u ≡ misses (loadedTable t)
-    go Never q = sym (never-found (loadedTable t) (suc (horizon (loadedTable t))) q)
-    go (At a b) q = sym (one_found (loadedTable t) (suc (horizon (loadedTable t))) a b q)
+    go : (u : Missed) → missed_before (loaded_table t) (suc (horizon (loaded_table t))) ≡ u → is_found u ≡ misses (loaded_table t)
+    go Never q = sym (never-found (loaded_table t) (suc (horizon (loaded_table t))) q)
+    go (At a b) q = sym (one_found (loaded_table t) (suc (horizon (loaded_table t))) a b q)
 
 -- by the rule's number: not for 3 and 4, and for any other where it is firm
-pub ordered-three : (τs : List Task) → ordered (ruleOf 3) τs ≡ false
+pub ordered-three : (τs : List Task) → ordered (rule_of 3) τs ≡ false
 unfolding ordered
 ordered-three τs = refl
 
-pub ordered-four : (τs : List Task) → ordered (ruleOf 4) τs ≡ false
+pub ordered-four : (τs : List Task) → ordered (rule_of 4) τs ≡ false
 unfolding ordered
 ordered-four τs = refl
 
-pub ordered-firm : (n : ℕ) (τs : List Task) → ¬ (n ≡ 3) → ¬ (n ≡ 4) → ordered (ruleOf n) τs ≡ firm (ruleOf n) τs
+pub ordered-firm : (n : ℕ) (τs : List Task) → ¬ (n ≡ 3) → ¬ (n ≡ 4) → ordered (rule_of n) τs ≡ firm (rule_of n) τs
 unfolding ordered firm
 ordered-firm n τs x y = rw (ne_eqb n 3 x, ne_eqb n 4 y) (go (eqb n 2))
   where

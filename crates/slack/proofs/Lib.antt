@@ -4,16 +4,13 @@ pub mod Longer
 pub mod Misses
 pub mod Grown
 pub mod Ordered
-pub mod Prefix
 pub mod Figure
 pub mod GrownWords
 pub mod GrowthJudged
 pub mod Alone
 pub mod Judging
 pub mod LongerIn
-pub mod AtMiss
 pub mod Bisection
-pub mod Trials
 pub mod Listed
 pub mod Contract
 pub mod OffChain

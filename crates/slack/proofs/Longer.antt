@@ -15,12 +15,12 @@ use Rattle.model.proofs.Lists.{map_at}
 use Rattle.model.proofs.Runs.{full-next, full-tick, missed-at}
 use Rattle.model.proofs.Sustain.{GrantsMono, mono-greedy, mono-limited, monotonic-widths}
 use Rattle.model.specs.Jobs.{Job}
-use Rattle.model.specs.Claims.{claims, holds, in_row, jobClaims, served, taskClaims, widths}
+use Rattle.model.specs.Claims.{claims, holds, in_row, job_claims, served, task_claims, widths}
 use Rattle.model.specs.Advance.{work}
 use Rattle.model.specs.Lists.{NeverMissed, full}
-use Rattle.model.specs.Fence.{unfencedCores, unfenced}
+use Rattle.model.specs.Fence.{unfenced_cores, unfenced}
 use Rattle.model.specs.Grants.{claimants, grants, some}
-use Rattle.model.specs.Task.{AllValid, Rule, Table, Task, due, newest, absentTask, release, task, width_of}
+use Rattle.model.specs.Task.{AllValid, Rule, Table, Task, due, newest, absent_task, release, task, width_of}
 use Rattle.slack.specs.Longer.{TableLengthened, TaskLengthened}
 use Rattle.slack.specs.Ordered.{Ordered}
 
@@ -40,17 +40,17 @@ yields s (inr (e, h)) = record {
 }
 
 -- a stretched task has the same releases, deadlines and widths
-pub same-release : {τ τ' : Task} → TaskLengthened τ τ' → (k : ℕ) → release τ k ≡ release τ' k
+same-release : {τ τ' : Task} → TaskLengthened τ τ' → (k : ℕ) → release τ k ≡ release τ' k
 same-release x k = rw (x.offset, x.period)
 
-pub same-due : {τ τ' : Task} → TaskLengthened τ τ' → (k : ℕ) → due τ k ≡ due τ' k
+same-due : {τ τ' : Task} → TaskLengthened τ τ' → (k : ℕ) → due τ k ≡ due τ' k
 same-due x k = rw (x.offset, x.period, x.deadline)
 
-pub same-newest : {τ τ' : Task} → TaskLengthened τ τ' → (t : ℕ) → newest τ t ≡ newest τ' t
+same-newest : {τ τ' : Task} → TaskLengthened τ τ' → (t : ℕ) → newest τ t ≡ newest τ' t
 same-newest x t = rw (x.offset, x.period)
 
 same_width : {τ τ' : Task} → TaskLengthened τ τ' → (t : ℕ) → width_of τ (newest τ t) ≡ width_of τ' (newest τ' t)
-same_width x t = rw (x.offset, x.period, x.oddWidth, x.evenWidth)
+same_width x t = rw (x.offset, x.period, x.odd_width, x.even_width)
 
 -- a job's line in the shorter run beside its line in the longer one: while the first has not ended neither has the second, which has had no more ticks
 pub record LongerBehind (a b : Job) : Type 0 where
@@ -87,7 +87,7 @@ claims-both r r' {τ} {τ'} x q k t a b ab e =
     (rw (ab.opened o))
 
 -- and one of the longer run that has not ended in the shorter one claims there
-pub claims-back :
+claims-back :
     (r r' : Rule) {τ τ' : Task} → TaskLengthened τ τ' → (k t : ℕ) (a b : Job) → a.ended ≡ false
     → claims r' τ' k t b ≡ true → claims r τ k t a ≡ true
 claims-back r r' {τ} {τ'} x k t a b o e =
@@ -97,15 +97,15 @@ claims-back r r' {τ} {τ'} x k t a b o e =
     (rw o)
 
 -- the same widths in every tick, and the same cores
-pub same-widths : (s s' : Table) → TableLengthened s s' → (t : ℕ) → widths s t ≡ widths s' t
+same-widths : (s s' : Table) → TableLengthened s s' → (t : ℕ) → widths s t ≡ widths s' t
 same-widths s s' x t =
     let w : Task → ℕ = λ τ. width_of τ (newest τ t) in
     ext_get_or 0 (widths s t) (widths s' t) (length-map s.tasks w ∙ (x.count ∙ sym (length-map s'.tasks w)))
     (λ i l.
     let m : i < length s.tasks = omega (arith, length-map s.tasks w) in
-    map_at w s.tasks i 0 absentTask m ∙ (same_width (x.places i) t ∙ sym (map_at w s'.tasks i 0 absentTask (omega (arith, x.count)))))
+    map_at w s.tasks i 0 absent_task m ∙ (same_width (x.places i) t ∙ sym (map_at w s'.tasks i 0 absent_task (omega (arith, x.count)))))
 
-pub same-cores : (s s' : Table) → TableLengthened s s' → unfencedCores s ≡ unfencedCores s'
+same-cores : (s s' : Table) → TableLengthened s s' → unfenced_cores s ≡ unfenced_cores s'
 same-cores s s' x = ap₂ unfenced x.fences x.cores
 
 -- so the same row for the same claims
@@ -119,7 +119,7 @@ module _ (s s' : Table) (ok : AllValid s) (x : TableLengthened s s') (y : Yields
   Leads n = (p k : ℕ) → p < length s.tasks → LongerBehind ((full s n).job p k) ((full s' n).job p k)
 
   -- a place that claims in the shorter run claims in the longer one
-  subset : (n : ℕ) → Leads n → (q : ℕ) → q < length (widths s (full s n).tick) → taskClaims s (full s n) q ≡ true → taskClaims s' (full s' n) q ≡ true
+  subset : (n : ℕ) → Leads n → (q : ℕ) → q < length (widths s (full s n).tick) → task_claims s (full s n) q ≡ true → task_claims s' (full s' n) q ≡ true
   subset n ab q l e =
       let k : ℕ = newest (task s q) n in
       let here : claims s.rule (task s q) k n ((full s n).job q k) ≡ true = rw (full-tick s n) at e in
@@ -133,25 +133,24 @@ module _ (s s' : Table) (ok : AllValid s) (x : TableLengthened s s') (y : Yields
       → served s' (full s' n) p k ≡ true → served s (full s n) p k ≡ true
   unfolding served
   follow n ab p k l o e =
-      and_both (jobClaims s (full s n) p k) (in_row s (full s n) p) ca
-      (y.mono (full s n).tick (taskClaims s (full s n)) (taskClaims s' (full s' n)) (unfencedCores s) (subset n ab) p
-      (subst (λ (m : ℕ). jobClaims s (full s n) p m ≡ true) (sym new) ca) rb)
+      and_both (job_claims s (full s n) p k) (in_row s (full s n) p) ca
+      (y.mono (full s n).tick (task_claims s (full s n)) (task_claims s' (full s' n)) (unfenced_cores s) (subset n ab) p
+      (subst (λ (m : ℕ). job_claims s (full s n) p m ≡ true) (sym new) ca) rb)
     where
       cb : claims s'.rule (task s' p) k n ((full s' n).job p k) ≡ true
-      cb = rw (full-tick s' n) at (and_left (jobClaims s' (full s' n) p k) (in_row s' (full s' n) p) e)
+      cb = rw (full-tick s' n) at (and_left (job_claims s' (full s' n) p k) (in_row s' (full s' n) p) e)
 
       -- the longer run's row, by the widths, the cores and the rule of the shorter
-      rb : some (get_or (grants s.rule (claimants (widths s (full s n).tick) (taskClaims s' (full s' n))) (unfencedCores s)) p []) ≡ true
+      rb : some (get_or (grants s.rule (claimants (widths s (full s n).tick) (task_claims s' (full s' n))) (unfenced_cores s)) p []) ≡ true
       rb =
-          same_row s.rule s'.rule (widths s (full s n).tick) (widths s' (full s' n).tick) (unfencedCores s) (unfencedCores s')
-          (taskClaims s' (full s' n)) p
+          same_row s.rule s'.rule (widths s (full s n).tick) (widths s' (full s' n).tick) (unfenced_cores s) (unfenced_cores s') (task_claims s' (full s' n)) p
           x.rules (ap (widths s) (full-tick s n) ∙ (same-widths s s' x n ∙ sym (ap (widths s') (full-tick s' n)))) (same-cores s s' x)
-          (and_right (jobClaims s' (full s' n) p k) (in_row s' (full s' n) p) e)
+          (and_right (job_claims s' (full s' n) p k) (in_row s' (full s' n) p) e)
 
       ca₀ : claims s.rule (task s p) k n ((full s n).job p k) ≡ true
       ca₀ = claims-back s.rule s'.rule (x.places p) k n ((full s n).job p k) ((full s' n).job p k) o cb
 
-      ca : jobClaims s (full s n) p k ≡ true
+      ca : job_claims s (full s n) p k ≡ true
       ca = rw (full-tick s n) ca₀
 
       new : newest (task s p) (full s n).tick ≡ k

@@ -13,7 +13,7 @@ use Rattle.model.proofs.Search.{any_of, any_some}
 use Rattle.model.specs.Lists.{Missed, NeverMissed}
 use Rattle.model.specs.Horizon.{horizon}
 use Rattle.model.specs.Task.{AllValid, Table, due, task}
-use Rattle.model.specs.Verdict.{missedIn}
+use Rattle.model.specs.Verdict.{missed_in}
 use Rattle.slack.specs.Slack.{misses}
 
 module _ (s : Table) (ok : AllValid s) where
@@ -22,12 +22,12 @@ module _ (s : Table) (ok : AllValid s) where
   unfolding misses
   misses-never e =
       horizon-enough s ok (λ p t h m.
-      true≢false (sym (any_of (suc (horizon s)) (missedIn s) t (suc-le-suc h) ((missed-in-exact s ok t).1 (p, m))) ∙ e))
+      true≢false (sym (any_of (suc (horizon s)) (missed_in s) t (suc-le-suc h) ((missed-in-exact s ok t).1 (p, m))) ∙ e))
 
   pub misses-some : misses s ≡ true → (p t : ℕ) × Missed s p t
   unfolding misses
   misses-some e =
-      let x = any_some (suc (horizon s)) (missedIn s) e in
+      let x = any_some (suc (horizon s)) (missed_in s) e in
       let y = (missed-in-exact s ok x.0).0 x.2 in
       (y.0, x.0, y.1)
 

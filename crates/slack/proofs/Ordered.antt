@@ -9,11 +9,11 @@ use borrow.Author.Tests.{not-true}
 use Rattle.model.proofs.Bools.{and_both, and_left, and_right}
 use Rattle.model.proofs.Verdict.{monotonic-exact}
 use Rattle.model.specs.Lists.{NeverMissed}
-use Rattle.model.specs.Task.{AllValid, Rule, Table, greedy, idling, lending, limited, ruleOf}
+use Rattle.model.specs.Task.{AllValid, Rule, Table, greedy, idling, lending, limited, rule_of}
 use Rattle.table.proofs.Passed.{passed-rule}
 use Rattle.table.specs.Numbers.{NoneApplies}
 use Rattle.table.specs.Words.{rule, table_of}
-use Rattle.slack.specs.Answer.{hasSlack}
+use Rattle.slack.specs.Answer.{has_slack}
 use Rattle.slack.specs.Ordered.{Ordered, OrderedWords, ordered}
 use Rattle.slack.specs.Slack.{misses}
 use Rattle.slack.proofs.Misses.{misses-never, never-misses}
@@ -34,8 +34,8 @@ ordered-exact s = (found s.rule refl, back)
     back (inr (e, h)) = subst (λ (r : Rule). ordered r s.tasks ≡ true) (sym e) ((monotonic-exact s.tasks).1 h)
 
 -- slack is given exactly for the accepted tables among them
-pub gives-exact : (s : Table) → AllValid s → (hasSlack s ≡ true) ↔ (NeverMissed s × Ordered s)
-unfolding hasSlack
+pub gives-exact : (s : Table) → AllValid s → (has_slack s ≡ true) ↔ (NeverMissed s × Ordered s)
+unfolding has_slack
 gives-exact s ok = (
   λ e. (
     misses-never s ok (not-true (misses s) (and_right (ordered s.rule s.tasks) (not (misses s)) e)),
@@ -45,25 +45,25 @@ gives-exact s ok = (
 )
 
 -- by the two tests
-pub gives-accepted : (s : Table) → ordered s.rule s.tasks ≡ true → not (misses s) ≡ hasSlack s
-unfolding hasSlack
+pub gives-accepted : (s : Table) → ordered s.rule s.tasks ≡ true → not (misses s) ≡ has_slack s
+unfolding has_slack
 gives-accepted s e = rw e
 
-pub gives-never : (s : Table) → ordered s.rule s.tasks ≡ false → false ≡ hasSlack s
-unfolding hasSlack
+pub gives-never : (s : Table) → ordered s.rule s.tasks ≡ false → false ≡ has_slack s
+unfolding has_slack
 gives-never s e = rw e
 
 -- BY THE RULE'S NUMBER
 
-rule-of : (ws : List ℕ) (n : ℕ) → rule ws ≡ n → (table_of ws).rule ≡ ruleOf n
+rule-of : (ws : List ℕ) (n : ℕ) → rule ws ≡ n → (table_of ws).rule ≡ rule_of n
 unfolding table_of
-rule-of ws n e = ap ruleOf e
+rule-of ws n e = ap rule_of e
 
 pub ordered_words : (ws : List ℕ) → NoneApplies ws → Ordered (table_of ws) ↔ OrderedWords ws
 ordered_words ws none = (by_number (rule ws) refl (passed-rule ws none).0 (passed-rule ws none).1, found)
   where
     -- a rule is none of the others
-    apart : {r : Rule} (n : ℕ) → rule ws ≡ n → (table_of ws).rule ≡ r → ruleOf n ≡ r
+    apart : {r : Rule} (n : ℕ) → rule ws ≡ n → (table_of ws).rule ≡ r → rule_of n ≡ r
     apart n q e = sym (rule-of ws n q) ∙ e
 
     one : rule ws ≡ 1 → Ordered (table_of ws) → OrderedWords ws

@@ -2,8 +2,6 @@
 pub mod Longer
 pub mod Ordered
 pub mod Slack
-pub mod LateOf
-pub mod Tried
 pub mod GrownWords
 pub mod Numbers
 pub mod Answer

@@ -5,11 +5,11 @@ use Rattle.model.specs.Task.{Table, Task, task}
 -- the second task is the first with the same length or a longer one
 pub record TaskLengthened (τ τ' : Task) : Type 0 where
   pub offset : τ.offset ≡ τ'.offset
-  pub oddWidth : τ.oddWidth ≡ τ'.oddWidth
+  pub odd_width : τ.odd_width ≡ τ'.odd_width
   pub longer : τ.length ≤ τ'.length
   pub deadline : τ.deadline ≡ τ'.deadline
   pub period : τ.period ≡ τ'.period
-  pub evenWidth : τ.evenWidth ≡ τ'.evenWidth
+  pub even_width : τ.even_width ≡ τ'.even_width
 
 -- the second table is the first with the same lengths or longer ones
 pub record TableLengthened (s s' : Table) : Type 0 where
@@ -23,11 +23,11 @@ pub record TableLengthened (s s' : Table) : Type 0 where
 abbrev pub lengthen : ℕ → Task → Task
 lengthen g τ = record {
   offset = τ.offset;
-  oddWidth = τ.oddWidth;
+  odd_width = τ.odd_width;
   length = τ.length + g;
   deadline = τ.deadline;
   period = τ.period;
-  evenWidth = τ.evenWidth;
+  even_width = τ.even_width;
 }
 
 -- the table with the C of place p alone grown by g ticks

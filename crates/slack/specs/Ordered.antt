@@ -1,6 +1,6 @@
 -- The rules and widths that slack is given for (request 111): rule 2, and rule 1 in the width order.
 use Rattle.std.specs.Prelude.{Bool, true, false, List, ◌⊎◌, ◌≡◌, ℕ}
-use Rattle.model.specs.Firm.{ParallelismMonotonic, parallelismMonotonic}
+use Rattle.model.specs.Firm.{ParallelismMonotonic, parallelism_monotonic}
 use Rattle.model.specs.Task.{Rule, Table, Task, greedy, idling, lending, limited}
 use Rattle.table.specs.Words.{rule, table_of}
 
@@ -10,7 +10,7 @@ Ordered s = (s.rule ≡ limited) ⊎ ((s.rule ≡ greedy) × ParallelismMonotoni
 
 -- .. as a test (`ordered-exact`)
 unfoldable pub ordered : Rule → List Task → Bool
-ordered greedy τs = parallelismMonotonic τs
+ordered greedy τs = parallelism_monotonic τs
 ordered limited τs = true
 ordered idling τs = false
 ordered lending τs = false

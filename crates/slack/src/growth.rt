@@ -1,21 +1,23 @@
-// A table that passed: whether it misses, whether slack is given for it, and the slack of each task.
-ghost use Rattle.std.specs.Prelude.{true, ◌≡◌, ◌≤◌};
-ghost use Rattle.model.specs.Sizes.{mostTasks};
-ghost use Rattle.model.specs.Task.{ruleOf};
-ghost use Rattle.table.specs.Task.{tasksOf};
-ghost use Rattle.table.specs.Fit.{loadedTable, Fit};
-ghost use Rattle.slack.specs.Answer.{slackIn, hasSlack};
+// A table that passed, with the C of one task grown: whether it misses, and how far one task may grow.
+ghost use Rattle.std.specs.Prelude.{true, ◌≡◌, ◌+◌, ◌≤◌, ◌<◌};
+ghost use Rattle.model.specs.Sizes.{most_tasks};
+ghost use Rattle.model.specs.Task.{rule_of, task};
+ghost use Rattle.table.specs.Limits.{most_time};
+ghost use Rattle.table.specs.Task.{tasks_of};
+ghost use Rattle.table.specs.Fit.{loaded_table, Fit};
+ghost use Rattle.slack.specs.Answer.{slack_in, has_slack};
+ghost use Rattle.slack.specs.Longer.{grown};
 ghost use Rattle.slack.specs.Ordered.{ordered};
-ghost use Rattle.slack.specs.Slack.{misses};
+ghost use Rattle.slack.specs.Slack.{misses, slack};
 
 use judge::Missed;
 use model::MOST_TASKS;
 use table::{Loaded, Task};
 
 // Whether a deadline is missed.
-pub(crate) fn misses(table: Loaded) -> bool
+fn misses(table: Loaded) -> bool
     requires { Fit table }
-    ensures { result ≡ misses (loadedTable table) }
+    ensures { result ≡ misses (loaded_table table) }
 {
     let missed = judge::fastest::first_miss(table, table.horizon + 1);
     match missed {
@@ -24,15 +26,25 @@ pub(crate) fn misses(table: Loaded) -> bool
     }
 }
 
+// Whether a deadline is missed with the task at a place longer by `growth` ticks.
+fn misses_longer(table: Loaded, place: usize, growth: u32) -> bool
+    requires { Fit table × (place < table.count) × ((task (loaded_table table) place).length + growth ≤ most_time) }
+    ensures { result ≡ misses (grown (loaded_table table) place growth) }
+{
+    let mut longer = table;
+    longer.tasks[place].length += growth;
+    misses(longer)
+}
+
 // Whether the rule and the widths are those that slack is given for.
 fn is_ordered(rule: u32, tasks: [Task; MOST_TASKS], count: usize) -> bool
-    requires { count ≤ mostTasks }
-    ensures { result ≡ ordered (ruleOf rule) (tasksOf tasks count) }
+    requires { count ≤ most_tasks }
+    ensures { result ≡ ordered (rule_of rule) (tasks_of tasks count) }
 {
-    if rule == model::rules::IDLING {
+    if rule == 3 {
         return false;
     }
-    if rule == model::rules::LENDING {
+    if rule == 4 {
         return false;
     }
     judge::is_firm(rule, tasks, count)
@@ -41,7 +53,7 @@ fn is_ordered(rule: u32, tasks: [Task; MOST_TASKS], count: usize) -> bool
 // Whether slack is given for a table: it is so ordered, and accepted.
 pub(crate) fn is_given(table: Loaded) -> bool
     requires { Fit table }
-    ensures { result ≡ hasSlack (loadedTable table) }
+    ensures { result ≡ has_slack (loaded_table table) }
 {
     let tasks = table.tasks;
     if is_ordered(table.rule, tasks, table.count) {
@@ -50,16 +62,34 @@ pub(crate) fn is_given(table: Loaded) -> bool
     false
 }
 
+// The slack of the task at a place: bisection between a growth that fits and one that misses, from none and from one past the deadline.
+fn slack_at(table: Loaded, place: usize) -> u32
+    requires { Fit table × (place < table.count) × (has_slack (loaded_table table) ≡ true) }
+    ensures { result ≡ slack (loaded_table table) place }
+{
+    let task = table.tasks[place];
+    let mut fits: u32 = 0;
+    let mut late = task.deadline - task.length + 1;
+    while fits + 1 < late {
+        let middle = (fits + late) / 2;
+        if misses_longer(table, place, middle) {
+            late = middle;
+        } else {
+            fits = middle;
+        }
+    }
+    fits
+}
+
 // The slack of each task, and zeros past the count.
 pub(crate) fn figures(table: Loaded) -> [u32; MOST_TASKS]
-    requires { Fit table × (hasSlack (loadedTable table) ≡ true) }
-    ensures { result ≡ slackIn (loadedTable table) }
+    requires { Fit table × (has_slack (loaded_table table) ≡ true) }
+    ensures { result ≡ slack_in (loaded_table table) }
 {
-    let tested = interference::test(table);
     let mut figures = [0u32; MOST_TASKS];
     let mut place: usize = 0;
     while place < table.count {
-        figures[place] = crate::search::slack_at(table, place, tested.met);
+        figures[place] = slack_at(table, place);
         place += 1;
     }
     figures

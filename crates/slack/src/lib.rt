@@ -1,50 +1,55 @@
 // Slack: by how many ticks each task of a table alone may become longer.
 ghost use Rattle.std.specs.Prelude.{◌≡◌};
-ghost use Rattle.table.specs.Fit.{loadedTable, Fit};
-ghost use Rattle.slack.specs.Answer.{slackIn, hasSlack, slackAnswer, noSlack, SlackOf};
+ghost use Rattle.table.specs.Fit.{loaded_table, Fit};
+ghost use Rattle.slack.specs.Answer.{slack_in, has_slack, slack_answer, no_slack, SlackOf};
 
 use model::MOST_TASKS;
-use table::{Answer, FigureAnswer, Loaded};
+use table::{Answer, Loaded};
 
-mod growth; // growth.rt: whether slack is given for a table, and the slack of each task
-mod late; // late.rt: the first miss of a table, and what is left of the late job
-mod search; // search.rt: the slack of one task
+mod growth; // growth.rt: a table with one task longer, and the slack of a task
+
+// The answer: passed, or Refused with number and position. And the slack of each task in priority order; zeros past the count, and in a refusal.
+#[derive(Drop)]
+pub struct SlackAnswer {
+    pub answer: Answer,
+    pub slack: [u32; MOST_TASKS],
+}
 
 // A refusal, with zeros beside it.
-fn refused(number: u32, position: u32) -> FigureAnswer
-    ensures { result ≡ noSlack number position }
+fn refused(number: u32, position: u32) -> SlackAnswer
+    ensures { result ≡ no_slack number position }
 {
     let slack = [0u32; MOST_TASKS];
-    FigureAnswer {
+    SlackAnswer {
         answer: Answer::Refused(number, position),
-        figures: slack,
+        slack: slack,
     }
 }
 
 // The slack of each task of a table that passed, or 23.
-fn by_table(table: Loaded) -> FigureAnswer
+fn by_table(table: Loaded) -> SlackAnswer
     requires { Fit table }
-    ensures { result ≡ slackAnswer (hasSlack (loadedTable table)) (slackIn (loadedTable table)) }
+    ensures { result ≡ slack_answer (has_slack (loaded_table table)) (slack_in (loaded_table table)) }
 {
     if growth::is_given(table) {
         let slack = growth::figures(table);
-        return FigureAnswer {
-            answer: Answer::Taken,
-            figures: slack,
+        return SlackAnswer {
+            answer: Answer::Passed,
+            slack: slack,
         };
     }
-    refused(model::numbers::SLACK_NOT_GIVEN, 0)
+    refused(23, 0)
 }
 
 // The slack of each task of the table in these words; or the first of the table's numbers that applies, or 23 where it is not accepted under rule 2, nor
 // under rule 1 in the width order.
-pub fn slack(words: &[u32]) -> FigureAnswer
+pub fn slack(words: &[u32]) -> SlackAnswer
     ensures { SlackOf words.now result }
 {
     let table = table::load(words);
     let answer = table.answer;
     match answer {
-        Answer::Taken => by_table(table),
+        Answer::Passed => by_table(table),
         Answer::Refused(number, position) => refused(number, position),
     }
 }

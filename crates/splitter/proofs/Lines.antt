@@ -1,19 +1,20 @@
 -- The line at the front of some bytes, or from a place on.
 use mathlib.Core.Bool.{Bool, true, false, ◌&&◌, ◌||◌, true≢false, false≢true}
-use mathlib.Core.List.{List, [], ◌∷◌, ◌++◌, append_assoc}
+use mathlib.Core.List.{List, [], ◌∷◌, ◌++◌, append_assoc, append-nil}
 use mathlib.Core.Logic.{◌⊎◌, inl, inr}
 use mathlib.Core.Path.{◌≡◌, refl, sym, ap, ap₂, subst, ◌∙◌}
 use Prim.Native.Nat.{ℕ, suc, ◌+◌, ◌-◌, ◌≤◌, ◌<◌}
+use native.Mathlib.Nat.{not-suc-le-zero}
 use native.Mathlib.Omega.{arith}
 use lib.ListN.{length, take, drop, drop_of_length-le, length-drop, take-append-drop}
 use lib.Seq.{drop-cons, drop-drop, take_all}
 use lib.Dec.{leb, ltb}
 use borrow.Author.Tests.{leb-true, leb-false, ltb-true, ltb-false}
 use Rattle.text.specs.Format.{newline}
-use Rattle.text.specs.Input.{lineLength}
+use Rattle.text.specs.Input.{line_length}
 use Rattle.text.proofs.Lines.{line-split, line-stop, line-within}
 use Rattle.splitter.specs.Split.{InputEnd, nothing, lines_from}
-use Rattle.splitter.specs.Parts.{Comes, ends, OneLine, LineOf}
+use Rattle.splitter.specs.Parts.{Comes, ends, goes, OneLine, LineOf}
 use Rattle.splitter.proofs.Splits.{lines-last, lines-line, lines_more, lines_none}
 
 pub empty_of : (l : List ℕ) → length l ≡ 0 → l ≡ []
@@ -22,32 +23,31 @@ empty_of (b ∷ l) e = absurd (omega (arith, e))
 
 -- a text from a place on, where its line has ended: the line, its newline, and the text after it
 pub line-here :
-    (bs : List ℕ) (at end : ℕ) → end ≡ at + lineLength (drop at bs) → end < length bs
+    (bs : List ℕ) (at end : ℕ) → end ≡ at + line_length (drop at bs) → end < length bs
     → drop at bs ≡ take (end - at) (drop at bs) ++ (newline ∷ drop (end + 1) bs)
 line-here bs at end e h =
-    let k : end - at ≡ lineLength (drop at bs) = omega (arith, e) in
-    let l : lineLength (drop at bs) < length (drop at bs) = omega (arith, e, h, length-drop at bs) in
-    let m : at + suc (lineLength (drop at bs)) ≡ end + 1 = omega (arith, e) in
+    let k : end - at ≡ line_length (drop at bs) = omega (arith, e) in
+    let l : line_length (drop at bs) < length (drop at bs) = omega (arith, e, h, length-drop at bs) in
+    let m : at + suc (line_length (drop at bs)) ≡ end + 1 = omega (arith, e) in
     sym (take-append-drop (end - at) (drop at bs))
     ∙ ap (λ (x : List ℕ). take (end - at) (drop at bs) ++ x)
-    (ap (λ (i : ℕ). drop i (drop at bs)) k ∙ drop-cons (drop at bs) (lineLength (drop at bs)) 0 l
-    ∙ ap₂ (λ (b : ℕ) (x : List ℕ). b ∷ x) (line-stop (drop at bs) l) (drop-drop (suc (lineLength (drop at bs))) at bs ∙ ap (λ (i : ℕ). drop i bs) m))
+    (ap (λ (i : ℕ). drop i (drop at bs)) k ∙ drop-cons (drop at bs) (line_length (drop at bs)) 0 l
+    ∙ ap₂ (λ (b : ℕ) (x : List ℕ). b ∷ x) (line-stop (drop at bs) l) (drop-drop (suc (line_length (drop at bs))) at bs ∙ ap (λ (i : ℕ). drop i bs) m))
 
-module _ (bs : List ℕ) (end most : ℕ) (ended : Bool) (q : end ≡ 0 + lineLength (drop 0 bs)) where
+module _ (bs : List ℕ) (end most : ℕ) (ended : Bool) (q : end ≡ 0 + line_length (drop 0 bs)) where
   pub end-within : end ≤ length bs
   end-within = omega (arith, q, line-within bs)
 
   front : end < length bs → bs ≡ take end bs ++ (newline ∷ drop (end + 1) bs)
   front h =
-      let k : lineLength bs ≡ end = omega (arith, q) in
-      let m : suc (lineLength bs) ≡ end + 1 = omega (arith, q) in
+      let k : line_length bs ≡ end = omega (arith, q) in
+      let m : suc (line_length bs) ≡ end + 1 = omega (arith, q) in
       line-split bs (omega (arith, q, h)) ∙ ap₂ (λ (i j : ℕ). take i bs ++ (newline ∷ drop j bs)) k m
 
   -- the line has ended
   pub line-ended : end < length bs → LineOf bs most ended (record { whole = true; end = end; next = end + 1 })
   line-ended h = record {
     end = end-within;
-    mark = omega (arith, q);
     next = omega (arith, h);
     moves = λ _. omega arith;
     line = λ _. inl (λ e more _.
@@ -65,9 +65,7 @@ module _ (bs : List ℕ) (end most : ℕ) (ended : Bool) (q : end ≡ 0 + lineLe
       ap (λ (x : List ℕ). lines_from e [] (x ++ more)) (sym w) ∙ lines_more e [] bs end more (omega (arith, q)) ∙ ap (λ (x : List ℕ). lines_from e x more) w
 
   -- and the input ends with it
-  last_line :
-      end ≡ length bs → 0 < end → (e : InputEnd) (more : List ℕ) → Comes true e more
-      → lines_from e [] (bs ++ more) ≡ take end bs ∷ lines_from e [] (drop end bs ++ more)
+  last_line : end ≡ length bs → 0 < end → (e : InputEnd) (more : List ℕ) → Comes true e more → lines_from e [] (bs ++ more) ≡ take end bs ∷ lines_from e [] (drop end bs ++ more)
   last_line h n nothing [] ends =
       one_line h nothing [] ∙ lines-last bs (omega (arith, h, n))
       ∙ ap₂ (λ (x : List ℕ) (ls : List (List ℕ)). x ∷ ls) (sym (take_all end bs (omega (arith, h))))
@@ -76,7 +74,6 @@ module _ (bs : List ℕ) (end most : ℕ) (ended : Bool) (q : end ≡ 0 + lineLe
   pub line-left : end ≡ length bs → LineOf bs most ended (record { whole = (ended && ltb 0 end) || leb most end; end = end; next = end })
   line-left h = record {
     end = end-within;
-    mark = omega (arith, q);
     next = end-within;
     moves = λ n. omega (arith, h, n);
     line = handed ended refl (ltb 0 end) refl (leb most end) refl;

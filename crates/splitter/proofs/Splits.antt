@@ -8,49 +8,46 @@ use native.Mathlib.Omega.{arith}
 use lib.ListN.{length, get_or, take, length-append}
 use lib.Seq.{append_snoc}
 use lib.Dec.{eqb}
-use Rattle.text.specs.Format.{mostBytes, newline}
-use Rattle.text.specs.Input.{lengthTo, lineLength}
-use Rattle.splitter.specs.Split.{tooMany, InputEnd, nothing, unknown, lastLine, lines_from, isDashes, Split, closed, growing, unclosed, splitFrom, TooLong}
+use Rattle.text.specs.Format.{most_bytes, newline}
+use Rattle.text.specs.Input.{length_to, line_length}
+use Rattle.splitter.specs.Split.{too_many, InputEnd, nothing, unknown, last_line, lines_from, is_dashes, Split, closed, growing, unclosed, split_from, TooLong}
 
 -- bytes that are no newlines go on with the line
-pub split-more :
-    (e : InputEnd) (d l chunk : List ℕ) (k : ℕ) (bs : List ℕ) → k ≤ lineLength chunk
-    → splitFrom e d l (take k chunk ++ bs) ≡ splitFrom e d (l ++ take k chunk) bs
-unfolding splitFrom lengthTo
-split-more e d l chunk zero bs h = ap (λ (m : List ℕ). splitFrom e d m bs) (sym (append-nil l))
+pub split-more : (e : InputEnd) (d l chunk : List ℕ) (k : ℕ) (bs : List ℕ) → k ≤ line_length chunk → split_from e d l (take k chunk ++ bs) ≡ split_from e d (l ++ take k chunk) bs
+unfolding split_from length_to
+split-more e d l chunk zero bs h = ap (λ (m : List ℕ). split_from e d m bs) (sym (append-nil l))
 split-more e d l [] (suc k) bs h = absurd (not-suc-le-zero h)
 split-more e d l (b ∷ chunk) (suc k) bs h = go (eqb b newline) h (split-more e d (l ++ (b ∷ [])) chunk k bs)
   where
     go :
-        (t : Bool) → suc k ≤ cond t 0 (suc (lineLength chunk))
-        → (k ≤ lineLength chunk → splitFrom e d (l ++ (b ∷ [])) (take k chunk ++ bs) ≡ splitFrom e d ((l ++ (b ∷ [])) ++ take k chunk) bs)
-        → cond t (cond (isDashes l) (closed d (lines_from e [] (take k chunk ++ bs))) (splitFrom e (d ++ (l ++ (newline ∷ []))) [] (take k chunk ++ bs)))
-        (splitFrom e d (l ++ (b ∷ [])) (take k chunk ++ bs))
-        ≡ splitFrom e d (l ++ (b ∷ take k chunk)) bs
+        (t : Bool) → suc k ≤ cond t 0 (suc (line_length chunk))
+        → (k ≤ line_length chunk → split_from e d (l ++ (b ∷ [])) (take k chunk ++ bs) ≡ split_from e d ((l ++ (b ∷ [])) ++ take k chunk) bs)
+        → cond t (cond (is_dashes l) (closed d (lines_from e [] (take k chunk ++ bs))) (split_from e (d ++ (l ++ (newline ∷ []))) [] (take k chunk ++ bs)))
+        (split_from e d (l ++ (b ∷ [])) (take k chunk ++ bs))
+        ≡ split_from e d (l ++ (b ∷ take k chunk)) bs
     go true q ih = absurd (not-suc-le-zero q)
-    go false q ih = ih (le_of_suc-le-suc q) ∙ ap (λ (m : List ℕ). splitFrom e d m bs) (append_snoc l b (take k chunk))
+    go false q ih = ih (le_of_suc-le-suc q) ∙ ap (λ (m : List ℕ). split_from e d m bs) (append_snoc l b (take k chunk))
 
-pub lines_more :
-    (e : InputEnd) (l chunk : List ℕ) (k : ℕ) (bs : List ℕ) → k ≤ lineLength chunk → lines_from e l (take k chunk ++ bs) ≡ lines_from e (l ++ take k chunk) bs
-unfolding lines_from lengthTo
+pub lines_more : (e : InputEnd) (l chunk : List ℕ) (k : ℕ) (bs : List ℕ) → k ≤ line_length chunk → lines_from e l (take k chunk ++ bs) ≡ lines_from e (l ++ take k chunk) bs
+unfolding lines_from length_to
 lines_more e l chunk zero bs h = ap (λ (m : List ℕ). lines_from e m bs) (sym (append-nil l))
 lines_more e l [] (suc k) bs h = absurd (not-suc-le-zero h)
 lines_more e l (b ∷ chunk) (suc k) bs h = go (eqb b newline) h (lines_more e (l ++ (b ∷ [])) chunk k bs)
   where
     go :
-        (t : Bool) → suc k ≤ cond t 0 (suc (lineLength chunk))
-        → (k ≤ lineLength chunk → lines_from e (l ++ (b ∷ [])) (take k chunk ++ bs) ≡ lines_from e ((l ++ (b ∷ [])) ++ take k chunk) bs)
+        (t : Bool) → suc k ≤ cond t 0 (suc (line_length chunk))
+        → (k ≤ line_length chunk → lines_from e (l ++ (b ∷ [])) (take k chunk ++ bs) ≡ lines_from e ((l ++ (b ∷ [])) ++ take k chunk) bs)
         → cond t (l ∷ lines_from e [] (take k chunk ++ bs)) (lines_from e (l ++ (b ∷ [])) (take k chunk ++ bs)) ≡ lines_from e (l ++ (b ∷ take k chunk)) bs
     go true q ih = absurd (not-suc-le-zero q)
     go false q ih = ih (le_of_suc-le-suc q) ∙ ap (λ (m : List ℕ). lines_from e m bs) (append_snoc l b (take k chunk))
 
 -- a line ends: `--` ends the table, any other is one more of it
-pub split-dashes : (e : InputEnd) (d l bs : List ℕ) → isDashes l ≡ true → splitFrom e d l (newline ∷ bs) ≡ closed d (lines_from e [] bs)
-unfolding splitFrom
+pub split-dashes : (e : InputEnd) (d l bs : List ℕ) → is_dashes l ≡ true → split_from e d l (newline ∷ bs) ≡ closed d (lines_from e [] bs)
+unfolding split_from
 split-dashes e d l bs h = rw h
 
-pub split-line : (e : InputEnd) (d l bs : List ℕ) → isDashes l ≡ false → splitFrom e d l (newline ∷ bs) ≡ splitFrom e (d ++ (l ++ (newline ∷ []))) [] bs
-unfolding splitFrom
+pub split-line : (e : InputEnd) (d l bs : List ℕ) → is_dashes l ≡ false → split_from e d l (newline ∷ bs) ≡ split_from e (d ++ (l ++ (newline ∷ []))) [] bs
+unfolding split_from
 split-line e d l bs h = rw h
 
 pub lines-line : (e : InputEnd) (l bs : List ℕ) → lines_from e l (newline ∷ bs) ≡ l ∷ lines_from e [] bs
@@ -59,45 +56,45 @@ lines-line e l bs = refl
 
 -- no bytes are no lines
 pub lines_none : (e : InputEnd) → lines_from e [] [] ≡ []
-unfolding lines_from lastLine
+unfolding lines_from last_line
 lines_none nothing = refl
 lines_none unknown = refl
 
 -- the last line lacks its newline
 pub lines-last : (l : List ℕ) → 0 < length l → lines_from nothing l [] ≡ l ∷ []
-unfolding lines_from lastLine
+unfolding lines_from last_line
 lines-last [] h = absurd (not-suc-le-zero h)
 lines-last (b ∷ l) h = refl
 
 -- where more may come, it is none yet
 pub lines-waits : (l : List ℕ) → lines_from unknown l [] ≡ []
-unfolding lines_from lastLine
+unfolding lines_from last_line
 lines-waits l = refl
 
 -- no line `--` has ended the table
-pub split-end : (e : InputEnd) (d l : List ℕ) → splitFrom e d l [] ≡ unclosed e d l
-unfolding splitFrom
+pub split-end : (e : InputEnd) (d l : List ℕ) → split_from e d l [] ≡ unclosed e d l
+unfolding split_from
 split-end e d l = refl
 
 -- LINES `--`
 
 -- a line `--` has two bytes
-pub dashes-two : (l : List ℕ) → isDashes l ≡ true → length l ≡ 2
-unfolding isDashes
+pub dashes-two : (l : List ℕ) → is_dashes l ≡ true → length l ≡ 2
+unfolding is_dashes
 dashes-two [] e = absurd (false≢true e)
 dashes-two (a ∷ []) e = absurd (false≢true e)
 dashes-two (a ∷ b ∷ []) e = refl
 dashes-two (a ∷ b ∷ c ∷ l) e = absurd (false≢true e)
 
-pub dashes-of : (l : List ℕ) → length l ≡ 2 → eqb (get_or l 0 0) 45 && eqb (get_or l 1 0) 45 ≡ isDashes l
-unfolding isDashes
+pub dashes-of : (l : List ℕ) → length l ≡ 2 → eqb (get_or l 0 0) 45 && eqb (get_or l 1 0) 45 ≡ is_dashes l
+unfolding is_dashes
 dashes-of [] e = absurd (omega arith)
 dashes-of (a ∷ []) e = absurd (omega arith)
 dashes-of (a ∷ b ∷ []) e = refl
 dashes-of (a ∷ b ∷ c ∷ l) e = absurd (omega arith)
 
-pub no-dashes : (l : List ℕ) → (length l ≡ 2 → ⊥) → false ≡ isDashes l
-unfolding isDashes
+pub no-dashes : (l : List ℕ) → (length l ≡ 2 → ⊥) → false ≡ is_dashes l
+unfolding is_dashes
 no-dashes [] e = refl
 no-dashes (a ∷ []) e = refl
 no-dashes (a ∷ b ∷ []) e = absurd (e refl)
@@ -106,22 +103,22 @@ no-dashes (a ∷ b ∷ c ∷ l) e = refl
 -- TOO MANY BYTES
 
 -- 2,522 bytes with no line `--` decide: whatever comes, the table is too long
-pub split-long : (e : InputEnd) (d l bs : List ℕ) → tooMany ≤ length d + length l → TooLong e (splitFrom e d l bs)
-unfolding splitFrom unclosed
-split-long nothing d l [] h = go (isDashes l) refl
+pub split-long : (e : InputEnd) (d l bs : List ℕ) → too_many ≤ length d + length l → TooLong e (split_from e d l bs)
+unfolding split_from unclosed
+split-long nothing d l [] h = go (is_dashes l) refl
   where
-    go : (t : Bool) → isDashes l ≡ t → TooLong nothing (closed (cond t d (d ++ l)) [])
+    go : (t : Bool) → is_dashes l ≡ t → TooLong nothing (closed (cond t d (d ++ l)) [])
     go true e = omega (arith, h, dashes-two l e)
     go false e = omega (arith, h, length-append d l)
 split-long unknown d l [] h = h
 split-long e d l (b ∷ bs) h =
-    go (eqb b newline) (isDashes l) refl
+    go (eqb b newline) (is_dashes l) refl
     (split-long e (d ++ (l ++ (newline ∷ []))) [] bs (omega (arith, h, length-append d (l ++ (newline ∷ [])), length-append l (newline ∷ []))))
     (split-long e d (l ++ (b ∷ [])) bs (omega (arith, h, length-append l (b ∷ []))))
   where
     go :
-        (t u : Bool) → isDashes l ≡ u → TooLong e (splitFrom e (d ++ (l ++ (newline ∷ []))) [] bs) → TooLong e (splitFrom e d (l ++ (b ∷ [])) bs)
-        → TooLong e (cond t (cond u (closed d (lines_from e [] bs)) (splitFrom e (d ++ (l ++ (newline ∷ []))) [] bs)) (splitFrom e d (l ++ (b ∷ [])) bs))
+        (t u : Bool) → is_dashes l ≡ u → TooLong e (split_from e (d ++ (l ++ (newline ∷ []))) [] bs) → TooLong e (split_from e d (l ++ (b ∷ [])) bs)
+        → TooLong e (cond t (cond u (closed d (lines_from e [] bs)) (split_from e (d ++ (l ++ (newline ∷ []))) [] bs)) (split_from e d (l ++ (b ∷ [])) bs))
     go true true q x y = omega (arith, h, dashes-two l q)
     go true false q x y = x
     go false u q x y = y

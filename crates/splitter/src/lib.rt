@@ -1,10 +1,10 @@
 // An input of a table, a line `--`, then lines: its parts, as its bytes arrive.
 ghost use Rattle.std.specs.Prelude.{◌≡◌, ◌≤◌, length};
-ghost use Rattle.splitter.specs.Split.{isDashes};
-ghost use Rattle.splitter.specs.Parts.{LineOf, TableOf, unclosedPart};
+ghost use Rattle.splitter.specs.Split.{is_dashes};
+ghost use Rattle.splitter.specs.Parts.{LineOf, TableOf, unclosed_part};
 
 // This number of bytes with no line `--` in them is too many for a table: the longest text, the two dashes, and one more.
-const TOO_MANY: usize = text::BYTES + 3;
+pub const TOO_MANY: usize = text::BYTES + 3;
 
 // Whether a part is at the front of the bytes, where it ends, and where what comes after it begins.
 #[derive(Drop)]
@@ -15,8 +15,8 @@ pub struct Part {
 }
 
 // Whether a line is `--`.
-fn is_dashes(line: &[u8]) -> bool
-    ensures { result ≡ isDashes line.now }
+pub fn is_dashes(line: &[u8]) -> bool
+    ensures { result ≡ is_dashes line.now }
 {
     if line.len() == 2 {
         return (line[0] == b'-') & (line[1] == b'-');
@@ -46,7 +46,7 @@ pub fn line(bytes: &[u8], most: usize, ended: bool) -> Part
 // The table that no line `--` has ended, whose last line begins at `from`: all bytes where the input has ended, but for a last line `--`; or too many bytes.
 fn unclosed(bytes: &[u8], from: usize, ended: bool) -> Part
     requires { from ≤ length bytes.now }
-    ensures { result ≡ unclosedPart bytes.now from ended }
+    ensures { result ≡ unclosed_part bytes.now from ended }
 {
     let count = bytes.len();
     if ended & is_dashes(&bytes[from..]) {

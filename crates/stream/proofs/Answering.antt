@@ -26,8 +26,7 @@ answered f before bytes r s enough filled well sent = record {
     go more none true e = ap f (sym (append-nil (take r.held bytes)) ∙ ap (λ (l : List ℕ). take r.held bytes ++ l) (sym (none e)))
     go more none false e =
         let held = take r.held bytes in
-        let full : length held ≡ length before = length-take-le r.held bytes (omega (arith, filled.behind.most, filled.behind.same))
-        ∙ filled.full e well in
+        let full : length held ≡ length before = length-take-le r.held bytes (omega (arith, filled.behind.most, filled.behind.same)) ∙ filled.full e well in
         ap f (sym (take-append_seam held more) ∙ ap (λ (n : ℕ). take n (held ++ more)) full) ∙ enough (held ++ more)
 
 -- a read failed, and nothing was sent

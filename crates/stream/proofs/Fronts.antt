@@ -42,8 +42,7 @@ moved_more from before b k w h = (
 
 pub kept_of :
     (from end : ℕ) (before b : List ℕ) (k : ℕ) → Moved from before b k → k ≡ end - from → MovedToFront from end before b (end - from)
-kept_of from end before b k w e =
-    record { count = refl; same = w.0; front = ap (λ (i : ℕ). take i b) (sym e) ∙ w.1 ∙ ap (λ (i : ℕ). take i (drop from before)) e }
+kept_of from end before b k w e = record { count = refl; same = w.0; front = ap (λ (i : ℕ). take i b) (sym e) ∙ w.1 ∙ ap (λ (i : ℕ). take i (drop from before)) e }
 
 -- A READ
 

@@ -24,8 +24,7 @@ part-behind held before part r h same least most =
 
 -- a read after the bytes of others
 pub behind-on :
-    {held : ℕ} {before middle after : List ℕ} {r s : Reading} → ReadAfter held before middle r → ReadAfter r.held middle after s
-    → ReadAfter held before after s
+    {held : ℕ} {before middle after : List ℕ} {r s : Reading} → ReadAfter held before middle r → ReadAfter r.held middle after s → ReadAfter held before after s
 behind-on {held} {before} {middle} {after} {r} {s} p q = record {
   kept =
       sym (take-take held r.held after p.least) ∙ ap (take held) q.kept ∙ take-take held r.held middle p.least ∙ p.kept;

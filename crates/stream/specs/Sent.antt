@@ -14,8 +14,8 @@ letters String.[] = []
 letters (String.◌∷◌ c s) = code c ∷ letters s
 
 -- what the program of this name writes to standard error where its input could not be read
-abbrev pub unreadBy : List ℕ → List ℕ
-unreadBy name = name ++ letters ": standard input could not be read\n"
+abbrev pub unread_by : List ℕ → List ℕ
+unread_by name = name ++ letters ": standard input could not be read\n"
 
 -- after n bytes these were passed to writes: they took all of them; or they took a number of them, and not the rest
 pub record SentOf (n : ℕ) (bytes : List ℕ) (r : Sent) : Type 0 where

@@ -1,7 +1,7 @@
 // Reading standard input and writing standard output, with the numbers of bytes read and written.
 ghost use Rattle.std.specs.Prelude.{◌≡◌, ◌+◌, ◌≤◌, length};
 ghost use Rattle.stream.specs.Reading.{ReadOnceOf, FilledOf, MovedToFront};
-ghost use Rattle.stream.specs.Sent.{saturated, unreadBy, SentOf};
+ghost use Rattle.stream.specs.Sent.{saturated, unread_by, SentOf};
 
 use libc::{STDERR_FILENO, STDIN_FILENO, STDOUT_FILENO};
 
@@ -118,7 +118,7 @@ pub fn send(count: usize, bytes: &[u8]) -> Sent
 
 // Writes to standard error that a program could not read its input; returns how much of it writes took.
 pub fn report_unread(name: &[u8]) -> Sent
-    ensures { SentOf 0 (unreadBy name.now) result }
+    ensures { SentOf 0 (unread_by name.now) result }
 {
     let sent = write_all(STDERR_FILENO, 0, name);
     if sent.whole {

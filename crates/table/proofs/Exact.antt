@@ -9,19 +9,16 @@ use native.Mathlib.Nat.{eq-or-lt_of_le}
 use lib.ListN.{length, get_or}
 use lib.Dec.{eqb, ltb}
 use borrow.Author.Tests.{eqb-true, eqb-false, ltb-true, ltb-false}
-use Rattle.model.specs.Task.{Task, absentTask}
-use Rattle.model.specs.Fence.{unfencedCount}
+use Rattle.model.specs.Task.{Task, absent_task}
+use Rattle.model.specs.Fence.{unfenced_count}
 use Rattle.model.specs.Horizon.{horizon}
 use Rattle.table.specs.declared.chain.Ending.TheVariants.{Past, Again, Whole}
 use Rattle.table.specs.declared.Answer.{Answer}
-use Rattle.table.specs.declared.Answer.TheVariants.{Taken, Refused}
-use Rattle.table.specs.Words.{head, coreCount, rule, fence, taskAt, table_of}
-use Rattle.table.specs.Limits.{CoresOut, RuleOut, FenceOut, WidthOut, TimesOut, HorizonOut, coresOut, ruleOut, fenceOut, widthOut, timesOut, taskNumber}
-use Rattle.table.specs.Limits.{taskOut, horizonOut, mostHorizon}
-use Rattle.table.specs.Numbers.{WordsOut, Position, Applies, one, two, three, nineteen, four, five, six, seven, eight, nine, place, Earlier, First}
-use Rattle.table.specs.Numbers.{NoneApplies}
-use Rattle.table.specs.Answer.{wordsOut, headerNumber, outOfRangeAt, repeatedAt, lastStep, firstOut, byHorizon, byTasks, endingOf, byEnding, byWalk}
-use Rattle.table.specs.Answer.{answer_of}
+use Rattle.table.specs.declared.Answer.TheVariants.{Passed, Refused}
+use Rattle.table.specs.Words.{head, core_count, rule, fence, task_at, table_of}
+use Rattle.table.specs.Limits.{CoresOut, RuleOut, FenceOut, WidthOut, TimesOut, HorizonOut, cores_out, rule_out, fence_out, width_out, times_out, task_number, task_out, horizon_out, most_horizon}
+use Rattle.table.specs.Numbers.{WordsOut, Position, Applies, one, two, three, nineteen, four, five, six, seven, eight, nine, place, Earlier, First, NoneApplies}
+use Rattle.table.specs.Answer.{words_out, header_number, out_of_range_at, repeated_at, last_step, first_out, by_horizon, by_tasks, ending_of, by_ending, by_walk, answer_of}
 use Rattle.table.proofs.Decide.{Decides, holds, fails, decides-lt}
 use Rattle.table.proofs.Tests.{words-decides, cores-decides, rule-decides, fence-decides, width-decides, times-decides, task-decides}
 use Rattle.table.proofs.Walk.{five-decides, six-decides}
@@ -43,8 +40,7 @@ at-or-before ws k m l = eq-or-lt_of_le (omega arith)
 below_more : (ws : List ℕ) (k : ℕ) → (k ≡ shared → ⊥) → Below ws k → ((q : ℕ) → ¬ Applies ws (number_at k) q) → Below ws (suc k)
 below_more ws k other b never m q l a =
     ⊎_elim
-    (λ (e : place m ≡ k). let only : m ≡ number_at k = (applies-ordered ws m q a).alone (λ x. other (sym e ∙ x)) ∙ ap number_at e
-    in never q (subst (λ (x : ℕ). Applies ws x q) only a))
+    (λ (e : place m ≡ k). let only : m ≡ number_at k = (applies-ordered ws m q a).alone (λ x. other (sym e ∙ x)) ∙ ap number_at e in never q (subst (λ (x : ℕ). Applies ws x q) only a))
     (λ (e : place m < k). b m q e a) (at-or-before ws k m l)
 
 below-tasks : (ws : List ℕ) → Below ws shared → ((q : ℕ) → ¬ Applies ws 7 q) → ((q : ℕ) → ¬ Applies ws 8 q) → Below ws (suc shared)
@@ -57,13 +53,13 @@ below-tasks ws b s e m q l a =
 not-one : (ws : List ℕ) → ¬ WordsOut ws → (q : ℕ) → ¬ Applies ws 1 q
 not-one ws never q (one h) = never h
 
-not-two : (ws : List ℕ) → ¬ CoresOut (coreCount ws) → (q : ℕ) → ¬ Applies ws 2 q
+not-two : (ws : List ℕ) → ¬ CoresOut (core_count ws) → (q : ℕ) → ¬ Applies ws 2 q
 not-two ws never q (two h) = never h
 
 not_three : (ws : List ℕ) → ¬ RuleOut (rule ws) → (q : ℕ) → ¬ Applies ws 3 q
 not_three ws never q (three h) = never h
 
-not-nineteen : (ws : List ℕ) → ¬ FenceOut (coreCount ws) (fence ws) → (q : ℕ) → ¬ Applies ws 19 q
+not-nineteen : (ws : List ℕ) → ¬ FenceOut (core_count ws) (fence ws) → (q : ℕ) → ¬ Applies ws 19 q
 not-nineteen ws never q (nineteen h) = never h
 
 not-four : (ws : List ℕ) → ¬ (head ws ≡ 0) → (q : ℕ) → ¬ Applies ws 4 q
@@ -76,13 +72,13 @@ not-six : (ws : List ℕ) → ¬ Applies ws 6 0 → (q : ℕ) → ¬ Applies ws 
 not-six ws never q (six k c h) = never (six k c h)
 
 -- what a width is measured against
-abbrev widthLimitOf : List ℕ → ℕ
-widthLimitOf ws = unfencedCount (fence ws) (coreCount ws)
+abbrev width_limit_of : List ℕ → ℕ
+width_limit_of ws = unfenced_count (fence ws) (core_count ws)
 
-seven-means : (ws : List ℕ) (q : ℕ) → Applies ws 7 q → Position ws q × WidthOut (widthLimitOf ws) (taskAt ws q)
+seven-means : (ws : List ℕ) (q : ℕ) → Applies ws 7 q → Position ws q × WidthOut (width_limit_of ws) (task_at ws q)
 seven-means ws q (seven p o h) = (o, h)
 
-eight-means : (ws : List ℕ) (q : ℕ) → Applies ws 8 q → Position ws q × TimesOut (taskAt ws q)
+eight-means : (ws : List ℕ) (q : ℕ) → Applies ws 8 q → Position ws q × TimesOut (task_at ws q)
 eight-means ws q (eight p o h) = (o, h)
 
 not-nine : (ws : List ℕ) → ¬ HorizonOut (horizon (table_of ws)) → (q : ℕ) → ¬ Applies ws 9 q
@@ -101,33 +97,32 @@ first-other ws n other a b = (a, earlier)
 
 -- the meaning of an answer for the words
 abbrev Right : List ℕ → Answer → Type 0
-Right ws Taken = NoneApplies ws
+Right ws Passed = NoneApplies ws
 Right ws (Refused n p) = First ws n p
 
 -- 9, or passed
-horizon-right : (ws : List ℕ) → Below ws 9 → Right ws (byHorizon (table_of ws))
-unfolding byHorizon place
-horizon-right ws b = go (horizonOut (horizon (table_of ws))) refl
+horizon-right : (ws : List ℕ) → Below ws 9 → Right ws (by_horizon (table_of ws))
+unfolding by_horizon place
+horizon-right ws b = go (horizon_out (horizon (table_of ws))) refl
   where
-    far : Decides (horizonOut (horizon (table_of ws))) (HorizonOut (horizon (table_of ws)))
-    far = decides-lt mostHorizon (horizon (table_of ws))
+    far : Decides (horizon_out (horizon (table_of ws))) (HorizonOut (horizon (table_of ws)))
+    far = decides-lt most_horizon (horizon (table_of ws))
 
     none : ¬ HorizonOut (horizon (table_of ws)) → NoneApplies ws
     none never n p a = below_more ws 9 (λ x. omega arith) b (not-nine ws never) n p (applies-ordered ws n p a).most a
 
-    go : (t : Bool) → horizonOut (horizon (table_of ws)) ≡ t → Right ws (cond t (Refused 9 0) Taken)
+    go : (t : Bool) → horizon_out (horizon (table_of ws)) ≡ t → Right ws (cond t (Refused 9 0) Passed)
     go true e = first-other ws 9 (λ x. omega arith) (nine (far.0 e)) b
     go false e = none (fails _ _ far e)
 
 -- neither applies below place i
 abbrev NoneBreaks : List ℕ → ℕ → Type 0
-NoneBreaks ws i = (j : ℕ) → j < i → taskOut (widthLimitOf ws) (get_or (table_of ws).tasks j absentTask) ≡ false
+NoneBreaks ws i = (j : ℕ) → j < i → task_out (width_limit_of ws) (get_or (table_of ws).tasks j absent_task) ≡ false
 
-none-breaks-at :
-    (ws : List ℕ) (i : ℕ) → NoneBreaks ws i → (q : ℕ) → q ≤ i → Position ws q → ¬ (WidthOut (widthLimitOf ws) (taskAt ws q) ⊎ TimesOut (taskAt ws q))
+none-breaks-at : (ws : List ℕ) (i : ℕ) → NoneBreaks ws i → (q : ℕ) → q ≤ i → Position ws q → ¬ (WidthOut (width_limit_of ws) (task_at ws q) ⊎ TimesOut (task_at ws q))
 none-breaks-at ws i f q l o =
     let e = table_at ws (q - 1) (omega arith) in
-    rw e at (fails _ _ (task-decides (widthLimitOf ws) (get_or (table_of ws).tasks (q - 1) absentTask)) (f (q - 1) (omega arith)))
+    rw e at (fails _ _ (task-decides (width_limit_of ws) (get_or (table_of ws).tasks (q - 1) absent_task)) (f (q - 1) (omega arith)))
 
 not-seven : (ws : List ℕ) (i : ℕ) → NoneBreaks ws i → (q : ℕ) → q ≤ i → ¬ Applies ws 7 q
 not-seven ws i f q l a = let x = seven-means ws q a in none-breaks-at ws i f q l x.0 (inl x.1)
@@ -135,9 +130,7 @@ not-seven ws i f q l a = let x = seven-means ws q a in none-breaks-at ws i f q l
 not_eight : (ws : List ℕ) (i : ℕ) → NoneBreaks ws i → (q : ℕ) → q ≤ i → ¬ Applies ws 8 q
 not_eight ws i f q l a = let x = eight-means ws q a in none-breaks-at ws i f q l x.0 (inr x.1)
 
-first-task :
-    (ws : List ℕ) (n i : ℕ) → place n ≡ shared → Applies ws n (suc i) → Below ws shared → NoneBreaks ws i → (7 < n → ¬ Applies ws 7 (suc i))
-    → First ws n (suc i)
+first-task : (ws : List ℕ) (n i : ℕ) → place n ≡ shared → Applies ws n (suc i) → Below ws shared → NoneBreaks ws i → (7 < n → ¬ Applies ws 7 (suc i)) → First ws n (suc i)
 first-task ws n i s a b f low = (a, earlier)
   where
     same : (m q : ℕ) → (m ≡ 7) ⊎ (m ≡ 8) → ((q < suc i) ⊎ ((q ≡ suc i) × (m < n))) → ¬ Applies ws m q
@@ -156,21 +149,21 @@ first-task ws n i s a b f low = (a, earlier)
     earlier m q (inr (e, l)) x = same m q ((applies-ordered ws m q x).pair (e ∙ s)) l x
 
 -- 7 or 8, or by the horizon
-tasks-right : (ws : List ℕ) → Below ws shared → Right ws (byTasks (table_of ws))
-unfolding byTasks table_of place
+tasks-right : (ws : List ℕ) → Below ws shared → Right ws (by_tasks (table_of ws))
+unfolding by_tasks table_of place
 tasks-right ws b = go (ltb out many) refl
   where
     m : ℕ
-    m = widthLimitOf ws
+    m = width_limit_of ws
 
     many : ℕ
     many = length (table_of ws).tasks
 
     out : ℕ
-    out = firstOut m (table_of ws).tasks
+    out = first_out m (table_of ws).tasks
 
     τ : Task
-    τ = get_or (table_of ws).tasks out absentTask
+    τ = get_or (table_of ws).tasks out absent_task
 
     fine : NoneBreaks ws out
     fine j l = out-lowest m (table_of ws).tasks j l
@@ -178,7 +171,7 @@ tasks-right ws b = go (ltb out many) refl
     position : out < many → Position ws (suc out)
     position l = let n = table-length ws in omega arith
 
-    at : out < many → τ ≡ taskAt ws (suc out)
+    at : out < many → τ ≡ task_at ws (suc out)
     at l = let n = table-length ws in let e : suc out - 1 ≡ out = omega arith in rw e (table_at ws out (omega arith))
 
     nine-left : many ≤ out → Below ws 9
@@ -189,70 +182,63 @@ tasks-right ws b = go (ltb out many) refl
         (λ q a. let o = (eight-means ws q a).0 in not_eight ws out fine q (omega arith) a)
 
     -- a task that is out by its width, or else by its times
-    which : out < many → (u : Bool) → widthOut m τ ≡ u → (v : Bool) → timesOut τ ≡ v → First ws (cond u 7 (cond v 8 0)) (suc out)
+    which : out < many → (u : Bool) → width_out m τ ≡ u → (v : Bool) → times_out τ ≡ v → First ws (cond u 7 (cond v 8 0)) (suc out)
     which l true e v f =
-        let h = rw (at l) at (holds (widthOut m τ) (WidthOut m τ) (width-decides m τ) e) in
+        let h = rw (at l) at (holds (width_out m τ) (WidthOut m τ) (width-decides m τ) e) in
         first-task ws 7 out refl (seven (suc out) (position l) h) b fine (λ x. absurd (omega arith))
     which l false e true f =
-        let w = rw (at l) at (fails (widthOut m τ) (WidthOut m τ) (width-decides m τ) e) in
-        let h = rw (at l) at (holds (timesOut τ) (TimesOut τ) (times-decides τ) f) in
+        let w = rw (at l) at (fails (width_out m τ) (WidthOut m τ) (width-decides m τ) e) in
+        let h = rw (at l) at (holds (times_out τ) (TimesOut τ) (times-decides τ) f) in
         first-task ws 8 out refl (eight (suc out) (position l) h) b fine (λ x a. w (seven-means ws (suc out) a).1)
     which l false e false f = absurd (true≢false (sym (out-found m (table_of ws).tasks l) ∙ rw (e, f)))
 
-    go : (t : Bool) → ltb out many ≡ t → Right ws (cond t (Refused (taskNumber m τ) (suc out)) (byHorizon (table_of ws)))
-    go true e = which (ltb-true out many e) (widthOut m τ) refl (timesOut τ) refl
+    go : (t : Bool) → ltb out many ≡ t → Right ws (cond t (Refused (task_number m τ) (suc out)) (by_horizon (table_of ws)))
+    go true e = which (ltb-true out many e) (width_out m τ) refl (times_out τ) refl
     go false e = horizon-right ws (nine-left (ltb-false out many e))
 
 -- 5 or 6, or by the tasks
-walk-right : (ws : List ℕ) → Below ws 6 → Right ws (byWalk ws)
-unfolding byWalk endingOf place
-walk-right ws b = go (outOfRangeAt ws (lastStep ws)) refl (repeatedAt ws (lastStep ws)) refl
+walk-right : (ws : List ℕ) → Below ws 6 → Right ws (by_walk ws)
+unfolding by_walk ending_of place
+walk-right ws b = go (out_of_range_at ws (last_step ws)) refl (repeated_at ws (last_step ws)) refl
   where
-    six-left : outOfRangeAt ws (lastStep ws) ≡ false → Below ws 7
-    six-left e = below_more ws 6 (λ x. omega arith) b (not_five ws (fails (outOfRangeAt ws (lastStep ws)) (Applies ws 5 0) (five-decides ws) e))
+    six-left : out_of_range_at ws (last_step ws) ≡ false → Below ws 7
+    six-left e = below_more ws 6 (λ x. omega arith) b (not_five ws (fails (out_of_range_at ws (last_step ws)) (Applies ws 5 0) (five-decides ws) e))
 
-    seven-left : outOfRangeAt ws (lastStep ws) ≡ false → repeatedAt ws (lastStep ws) ≡ false → Below ws shared
-    seven-left e f = below_more ws 7 (λ x. omega arith) (six-left e) (not-six ws (fails (repeatedAt ws (lastStep ws)) (Applies ws 6 0) (six-decides ws) f))
+    seven-left : out_of_range_at ws (last_step ws) ≡ false → repeated_at ws (last_step ws) ≡ false → Below ws shared
+    seven-left e f = below_more ws 7 (λ x. omega arith) (six-left e) (not-six ws (fails (repeated_at ws (last_step ws)) (Applies ws 6 0) (six-decides ws) f))
 
-    go :
-        (t : Bool) → outOfRangeAt ws (lastStep ws) ≡ t → (u : Bool) → repeatedAt ws (lastStep ws) ≡ u
-        → Right ws (byEnding (cond t Past (cond u Again Whole)) (table_of ws))
+    go : (t : Bool) → out_of_range_at ws (last_step ws) ≡ t → (u : Bool) → repeated_at ws (last_step ws) ≡ u → Right ws (by_ending (cond t Past (cond u Again Whole)) (table_of ws))
     go true e u f = first-other ws 5 (λ x. omega arith) ((five-decides ws).0 e) b
     go false e true f = first-other ws 6 (λ x. omega arith) ((six-decides ws).0 f) (six-left e)
     go false e false f = tasks-right ws (seven-left e f)
 
 -- a number of the header, or by the walk
 right : (ws : List ℕ) → Right ws (answer_of ws)
-unfolding answer_of headerNumber place
-right ws = go (wordsOut ws) refl (coresOut (coreCount ws)) refl (ruleOut (rule ws)) refl (fenceOut (coreCount ws) (fence ws)) refl (eqb (head ws) 0) refl
+unfolding answer_of header_number place
+right ws = go (words_out ws) refl (cores_out (core_count ws)) refl (rule_out (rule ws)) refl (fence_out (core_count ws) (fence ws)) refl (eqb (head ws) 0) refl
   where
-    after_one : wordsOut ws ≡ false → Below ws 2
-    after_one e = below_more ws 1 (λ x. omega arith) (below_one ws) (not-one ws (fails (wordsOut ws) (WordsOut ws) (words-decides ws) e))
+    after_one : words_out ws ≡ false → Below ws 2
+    after_one e = below_more ws 1 (λ x. omega arith) (below_one ws) (not-one ws (fails (words_out ws) (WordsOut ws) (words-decides ws) e))
 
-    after_two : wordsOut ws ≡ false → coresOut (coreCount ws) ≡ false → Below ws 3
-    after_two e f =
-        below_more ws 2 (λ x. omega arith) (after_one e)
-        (not-two ws (fails (coresOut (coreCount ws)) (CoresOut (coreCount ws)) (cores-decides (coreCount ws)) f))
+    after_two : words_out ws ≡ false → cores_out (core_count ws) ≡ false → Below ws 3
+    after_two e f = below_more ws 2 (λ x. omega arith) (after_one e) (not-two ws (fails (cores_out (core_count ws)) (CoresOut (core_count ws)) (cores-decides (core_count ws)) f))
 
-    after-three : wordsOut ws ≡ false → coresOut (coreCount ws) ≡ false → ruleOut (rule ws) ≡ false → Below ws 4
-    after-three e f g =
-        below_more ws 3 (λ x. omega arith) (after_two e f) (not_three ws (fails (ruleOut (rule ws)) (RuleOut (rule ws)) (rule-decides (rule ws)) g))
+    after-three : words_out ws ≡ false → cores_out (core_count ws) ≡ false → rule_out (rule ws) ≡ false → Below ws 4
+    after-three e f g = below_more ws 3 (λ x. omega arith) (after_two e f) (not_three ws (fails (rule_out (rule ws)) (RuleOut (rule ws)) (rule-decides (rule ws)) g))
 
-    fenced : Decides (fenceOut (coreCount ws) (fence ws)) (FenceOut (coreCount ws) (fence ws))
-    fenced = fence-decides (coreCount ws) (fence ws)
+    fenced : Decides (fence_out (core_count ws) (fence ws)) (FenceOut (core_count ws) (fence ws))
+    fenced = fence-decides (core_count ws) (fence ws)
 
-    after-nineteen : wordsOut ws ≡ false → coresOut (coreCount ws) ≡ false → ruleOut (rule ws) ≡ false → fenceOut (coreCount ws) (fence ws) ≡ false → Below ws 5
+    after-nineteen : words_out ws ≡ false → cores_out (core_count ws) ≡ false → rule_out (rule ws) ≡ false → fence_out (core_count ws) (fence ws) ≡ false → Below ws 5
     after-nineteen e f g i =
-        below_more ws 4 (λ x. omega arith) (after-three e f g)
-        (not-nineteen ws (fails (fenceOut (coreCount ws) (fence ws)) (FenceOut (coreCount ws) (fence ws)) fenced i))
+        below_more ws 4 (λ x. omega arith) (after-three e f g) (not-nineteen ws (fails (fence_out (core_count ws) (fence ws)) (FenceOut (core_count ws) (fence ws)) fenced i))
 
-    go : (s : Bool) → wordsOut ws ≡ s → (t : Bool) → coresOut (coreCount ws) ≡ t → (u : Bool) → ruleOut (rule ws) ≡ u
-        → (w : Bool) → fenceOut (coreCount ws) (fence ws) ≡ w → (v : Bool) → eqb (head ws) 0 ≡ v
+    go : (s : Bool) → words_out ws ≡ s → (t : Bool) → cores_out (core_count ws) ≡ t → (u : Bool) → rule_out (rule ws) ≡ u
+        → (w : Bool) → fence_out (core_count ws) (fence ws) ≡ w → (v : Bool) → eqb (head ws) 0 ≡ v
         → Right ws
-        (cond (eqb (cond s 1 (cond t 2 (cond u 3 (cond w 19 (cond v 4 0))))) 0) (byWalk ws)
-        (Refused (cond s 1 (cond t 2 (cond u 3 (cond w 19 (cond v 4 0))))) 0))
+        (cond (eqb (cond s 1 (cond t 2 (cond u 3 (cond w 19 (cond v 4 0))))) 0) (by_walk ws) (Refused (cond s 1 (cond t 2 (cond u 3 (cond w 19 (cond v 4 0))))) 0))
     go true e t f u g w i v h = first-other ws 1 (λ x. omega arith) (one ((words-decides ws).0 e)) (below_one ws)
-    go false e true f u g w i v h = first-other ws 2 (λ x. omega arith) (two ((cores-decides (coreCount ws)).0 f)) (after_one e)
+    go false e true f u g w i v h = first-other ws 2 (λ x. omega arith) (two ((cores-decides (core_count ws)).0 f)) (after_one e)
     go false e false f true g w i v h = first-other ws 3 (λ x. omega arith) (three ((rule-decides (rule ws)).0 g)) (after_two e f)
     go false e false f false g true i v h = first-other ws 19 (λ x. omega arith) (nineteen (fenced.0 i)) (after-three e f g)
     go false e false f false g false i true h = first-other ws 4 (λ x. omega arith) (four (eqb-true (head ws) 0 h)) (after-nineteen e f g i)
@@ -260,14 +246,14 @@ right ws = go (wordsOut ws) refl (coresOut (coreCount ws)) refl (ruleOut (rule w
         walk-right ws (below_more ws 5 (λ x. omega arith) (after-nineteen e f g i) (not-four ws (eqb-false (head ws) 0 h)))
 
 -- what is right of an answer determines it
-determined : (ws : List ℕ) (a : Answer) → Right ws a → ((n p : ℕ) → (a ≡ Refused n p) ↔ First ws n p) × ((a ≡ Taken) ↔ NoneApplies ws)
-determined ws Taken r = (λ n p. (λ e. absurd (passed-not-refused e), λ f. absurd (r n p f.0)), (λ e. r, λ n. refl))
+determined : (ws : List ℕ) (a : Answer) → Right ws a → ((n p : ℕ) → (a ≡ Refused n p) ↔ First ws n p) × ((a ≡ Passed) ↔ NoneApplies ws)
+determined ws Passed r = (λ n p. (λ e. absurd (passed-not-refused e), λ f. absurd (r n p f.0)), (λ e. r, λ n. refl))
   where
-    passed-not-refused : {n p : ℕ} → Taken ≡ Refused n p → ⊥
+    passed-not-refused : {n p : ℕ} → Passed ≡ Refused n p → ⊥
     passed-not-refused e = let z : ◌≡◌ {A = ℕ} 0 1 = cc in omega arith
 determined ws (Refused m q) r = (λ n p. (λ e. to n p e, λ f. in_range n p f), (λ e. absurd (refused-not-passed e), λ none. absurd (none m q r.0)))
   where
-    refused-not-passed : Refused m q ≡ Taken → ⊥
+    refused-not-passed : Refused m q ≡ Passed → ⊥
     refused-not-passed e = let z : ◌≡◌ {A = ℕ} 0 1 = cc in omega arith
 
     to : (n p : ℕ) → Refused m q ≡ Refused n p → First ws n p
@@ -281,5 +267,5 @@ pub refusal-exact : (ws : List ℕ) (n p : ℕ) → (answer_of ws ≡ Refused n 
 refusal-exact ws n p = (determined ws (answer_of ws) (right ws)).0 n p
 
 -- and a table passes exactly if no number applies
-pub passed-exact : (ws : List ℕ) → (answer_of ws ≡ Taken) ↔ NoneApplies ws
+pub passed-exact : (ws : List ℕ) → (answer_of ws ≡ Passed) ↔ NoneApplies ws
 passed-exact ws = (determined ws (answer_of ws) (right ws)).1

@@ -6,16 +6,15 @@ use Prim.Native.String.{String}
 use lib.ListN.{length, replicate}
 use Rattle.model.specs.Search.{any, filtered, least, up_from}
 use Rattle.model.specs.Task.{Task, Table, cycle, greedy}
-use Rattle.model.specs.Horizon.{S, lastS, lcm, hyperperiod, horizon, releaseFrom}
-use Rattle.model.proofs.Computing.{Computes}
+use Rattle.model.specs.Horizon.{S, last_s, lcm, hyperperiod, horizon, release_from}
 use Rattle.model.proofs.Examples.{t, t₂, on, A}
 use Rattle.table.proofs.Starts.{since}
-use Rattle.table.specs.declared.Answer.TheVariants.{Taken}
+use Rattle.table.specs.declared.Answer.TheVariants.{Passed}
 use Rattle.table.specs.declared.Loaded.{Loaded}
 use Rattle.table.specs.Words.{visited, count, chain, table_of}
-use Rattle.table.specs.Answer.{headerNumber, lastStep, endingOf, firstOut, byHorizon, byTasks, byWalk, answer_of}
-use Rattle.table.specs.Load.{codeTasks, refusal, load_of}
-use Rattle.table.specs.UnfencedWords.{unfencedWords}
+use Rattle.table.specs.Answer.{header_number, last_step, ending_of, first_out, by_horizon, by_tasks, by_walk, answer_of}
+use Rattle.table.specs.Load.{code_tasks, refusal, load_of}
+use Rattle.table.specs.UnfencedWords.{unfenced_words}
 
 -- a line: its name, the words of a table, and what `load` gives of them
 pub record Line : Type 0 where
@@ -34,12 +33,12 @@ line n ws l = record { name = n; words = ws; gives = l }
 abbrev passes : Table → ℕ → ℕ → ℕ → Loaded
 passes s start period horizon =
     record {
-      answer = Taken;
+      answer = Passed;
       count = length s.tasks;
       cores = s.cores;
       fence = s.fence;
       rule = 1;
-      tasks = codeTasks s.tasks;
+      tasks = code_tasks s.tasks;
       start = start;
       period = period;
       horizon = horizon;
@@ -59,8 +58,8 @@ abbrev entry₂ : ℕ → ℕ → ℕ → ℕ → ℕ → ℕ → ℕ → List �
 entry₂ n o v w c d p = n ∷ o ∷ v ∷ c ∷ d ∷ p ∷ w ∷ []
 
 -- A with its records permuted and record 2 off the chain: the chain is 3, 1, 4
-abbrev pub wordsA : List ℕ
-wordsA = header 3 3 1 ++ entry 4 0 2 3 5 5 ++ entry 9 7 7 7 7 7 ++ entry 1 0 2 2 5 5 ++ entry 0 0 1 4 5 5
+abbrev pub words_a : List ℕ
+words_a = header 3 3 1 ++ entry 4 0 2 3 5 5 ++ entry 9 7 7 7 7 7 ++ entry 1 0 2 2 5 5 ++ entry 0 0 1 4 5 5
 
 -- records n, n + 1 and so on, in chain order, of these periods; the last of them is followed by record `next`
 unfoldable pub chained : ℕ → ℕ → List ℕ → List ℕ
@@ -82,12 +81,12 @@ powers = 8 ∷ 27 ∷ 125 ∷ 7 ∷ 11 ∷ 13 ∷ []
 abbrev long : ℕ → List ℕ
 long o = header 1 1 1 ++ chained 7 1 powers ++ entry 0 o 1 1 1 37
 
-abbrev longTable : ℕ → Table
-longTable o = on 1 greedy (map (λ p. t 0 1 1 1 p) powers ++ (t o 1 1 1 37 ∷ []))
+abbrev long_table : ℕ → Table
+long_table o = on 1 greedy (map (λ p. t 0 1 1 1 p) powers ++ (t o 1 1 1 37 ∷ []))
 
 -- the words of one task on m cores, under rule 1
 abbrev alone : ℕ → Task → List ℕ
-alone m τ = header 1 m 1 ++ entry₂ 0 τ.offset τ.oddWidth τ.evenWidth τ.length τ.deadline τ.period
+alone m τ = header 1 m 1 ++ entry₂ 0 τ.offset τ.odd_width τ.even_width τ.length τ.deadline τ.period
 
 -- it passes; it is refused, with number n and position p
 abbrev fits : String → ℕ → Task → Line
@@ -97,15 +96,15 @@ abbrev breaks : String → ℕ → ℕ → ℕ → Task → Line
 breaks s n p m τ = line s (alone m τ) (refusal n p)
 
 -- one task of width v on m cores with this fence: it passes, or it is refused, with its number and position
-abbrev fencedWords : ℕ → ℕ → ℕ → ℕ → List ℕ
-fencedWords m low high v = fenced 1 m 1 low high ++ entry 0 0 v 1 1 1
+abbrev fenced_words : ℕ → ℕ → ℕ → ℕ → List ℕ
+fenced_words m low high v = fenced 1 m 1 low high ++ entry 0 0 v 1 1 1
 
-abbrev fencedPasses : String → ℕ → ℕ → ℕ → ℕ → Line
-fencedPasses s m low high v =
-    line s (fencedWords m low high v) (passes (record { tasks = t 0 v 1 1 1 ∷ []; cores = m; fence = low + high * 2 ^ 32; rule = greedy }) 0 1 1)
+abbrev fenced_passes : String → ℕ → ℕ → ℕ → ℕ → Line
+fenced_passes s m low high v =
+    line s (fenced_words m low high v) (passes (record { tasks = t 0 v 1 1 1 ∷ []; cores = m; fence = low + high * 2 ^ 32; rule = greedy }) 0 1 1)
 
-abbrev fencedRefused : String → ℕ → ℕ → ℕ → ℕ → ℕ → ℕ → Line
-fencedRefused s m low high p v n = line s (fencedWords m low high v) (refusal n p)
+abbrev fenced_refused : String → ℕ → ℕ → ℕ → ℕ → ℕ → ℕ → Line
+fenced_refused s m low high p v n = line s (fenced_words m low high v) (refusal n p)
 
 -- a header of this rule and the head 0, which number 4 turns down where the rule passes 3
 abbrev ruled : String → ℕ → ℕ → Line
@@ -113,7 +112,7 @@ ruled s r n = line s (header 0 1 r ++ entry 0 0 1 1 1 1) (refusal n 0)
 
 abbrev pub lines : List Line
 lines =
-    line "A, its records permuted, one of them off the chain" wordsA (passes (A greedy) 0 5 5)
+    line "A, its records permuted, one of them off the chain" words_a (passes (A greedy) 0 5 5)
     ∷ line "H: two words" (3 ∷ 1 ∷ []) (refusal 1 0)
     ∷ line "229 words pass 1" (replicate 229 0) (refusal 2 0)
     ∷ line "236 words do not" (replicate 236 0) (refusal 1 0)
@@ -157,18 +156,18 @@ lines =
     ∷ fits "D 1" 1 (t 0 1 1 1 7)
     ∷ fits "D at T, and C above D" 1 (t 0 1 8 7 7)
     ∷ breaks "D above T" 8 1 1 (t 0 1 1 8 7)
-    ∷ fencedRefused "all of five cores fenced" 5 31 0 0 1 19
-    ∷ fencedPasses "all but one of five cores fenced" 5 15 0 1
-    ∷ fencedRefused "core 5 of five fenced" 5 32 0 0 1 19
-    ∷ fencedRefused "cores 5 and 0 of five fenced" 5 33 0 0 1 19
-    ∷ fencedPasses "core 32 of 33 fenced, by the second word" 33 0 1 32
-    ∷ fencedRefused "core 33 of 33 fenced, by the second word" 33 0 2 0 1 19
-    ∷ fencedRefused "all of 64 cores fenced" 64 4294967295 4294967295 0 1 19
-    ∷ fencedPasses "all but core 63 of 64 fenced" 64 4294967295 2147483647 1
-    ∷ fencedRefused "the one core fenced" 1 1 0 0 1 19
-    ∷ fencedPasses "the empty fence leaves all cores" 5 0 0 5
-    ∷ fencedPasses "a width of what the fence leaves, 2 of 5" 5 25 0 2
-    ∷ fencedRefused "a width above what the fence leaves" 5 25 0 1 3 7
+    ∷ fenced_refused "all of five cores fenced" 5 31 0 0 1 19
+    ∷ fenced_passes "all but one of five cores fenced" 5 15 0 1
+    ∷ fenced_refused "core 5 of five fenced" 5 32 0 0 1 19
+    ∷ fenced_refused "cores 5 and 0 of five fenced" 5 33 0 0 1 19
+    ∷ fenced_passes "core 32 of 33 fenced, by the second word" 33 0 1 32
+    ∷ fenced_refused "core 33 of 33 fenced, by the second word" 33 0 2 0 1 19
+    ∷ fenced_refused "all of 64 cores fenced" 64 4294967295 4294967295 0 1 19
+    ∷ fenced_passes "all but core 63 of 64 fenced" 64 4294967295 2147483647 1
+    ∷ fenced_refused "the one core fenced" 1 1 0 0 1 19
+    ∷ fenced_passes "the empty fence leaves all cores" 5 0 0 5
+    ∷ fenced_passes "a width of what the fence leaves, 2 of 5" 5 25 0 2
+    ∷ fenced_refused "a width above what the fence leaves" 5 25 0 1 3 7
     ∷ line "2 before 19" (fenced 0 65 1 1 0 ++ entry 0 0 1 1 1 1) (refusal 2 0)
     ∷ line "3 before 19" (fenced 0 1 5 1 0 ++ entry 0 0 1 1 1 1) (refusal 3 0)
     ∷ line "19 before 4" (fenced 0 1 1 1 0 ++ entry 0 0 1 1 1 1) (refusal 19 0)
@@ -178,7 +177,7 @@ lines =
     ∷ line "a width above the core count at position 2, in record 1, which breaks 8 too" (header 2 2 1 ++ entry 0 0 3 0 1 1 ++ entry 1 0 1 1 1 1) (refusal 7 2)
     ∷ line "a length 0 at position 1, in record 2, before a width 0 at position 2" (header 2 2 1 ++ entry 0 0 0 1 1 1 ++ entry 1 0 1 0 1 1) (refusal 8 1)
     ∷ line "a deadline above the period at position 2, in record 1" (header 2 2 1 ++ entry 0 0 1 1 3 2 ++ entry 1 0 1 1 1 1) (refusal 8 2)
-    ∷ line "the horizon 1,000,000,000 passes 9" (long 1000) (passes (longTable 1000) 1000 999999000 1000000000)
+    ∷ line "the horizon 1,000,000,000 passes 9" (long 1000) (passes (long_table 1000) 1000 999999000 1000000000)
     ∷ line "the horizon 1,000,000,001 does not" (long 1001) (refusal 9 0)
     ∷ line "nor does a P above 2^64" (header 1 1 1 ++ chained 0 1 (low ++ high)) (refusal 9 0)
     ∷ []
@@ -207,7 +206,7 @@ releases =
 
 -- the definition's value, and that of the arithmetic
 abbrev defined : Asked → ℕ
-defined a = releaseFrom (t a.offset 1 1 1 a.period) a.tick
+defined a = release_from (t a.offset 1 1 1 a.period) a.tick
 
 abbrev counted : Asked → ℕ
 counted a = a.offset + (since a.tick a.offset + (a.period - 1)) / a.period * a.period
@@ -231,20 +230,20 @@ abbrev descending : ℕ → ℕ → List Task
 descending zero o = []
 descending (suc n) o = t o 1 1 1 1000000 ∷ descending n (o - 1)
 
-pub largest-S : lastS (descending 32 1000000) ≡ 31999969
+pub largest-S : last_s (descending 32 1000000) ≡ 31999969
 unfolding S
 largest-S = refl
 
 -- the words with just the unfenced cores: three of five, and core 32 of 33
-pub unfenced-words : Computes unfencedWords (
-    (fenced 1 5 1 9 0 ++ entry 0 0 3 1 1 1, header 1 3 1 ++ entry 0 0 3 1 1 1)
-    ∷ (fenced 1 33 2 4294967295 0 ++ entry 0 0 1 1 1 1, header 1 1 2 ++ entry 0 0 1 1 1 1)
-    ∷ [])
-unfolding unfencedWords filtered up_from
+pub unfenced-words : unfenced_words (fenced 1 5 1 9 0 ++ entry 0 0 3 1 1 1) ≡ header 1 3 1 ++ entry 0 0 3 1 1 1
+unfolding unfenced_words filtered up_from
 unfenced-words = refl
+
+pub unfenced-last : unfenced_words (fenced 1 33 2 4294967295 0 ++ entry 0 0 1 1 1 1) ≡ header 1 1 2 ++ entry 0 0 1 1 1 1
+unfolding unfenced_words filtered up_from
+unfenced-last = refl
 
 -- every line is its value by the definitions: one table with one check
 pub examples : map worked lines ≡ lines
-unfolding chained filtered load_of answer_of byWalk byTasks byHorizon firstOut endingOf lastStep headerNumber table_of chain count visited horizon S hyperperiod
-    lcm least any up_from
+unfolding chained filtered load_of answer_of by_walk by_tasks by_horizon first_out ending_of last_step header_number table_of chain count visited horizon S hyperperiod lcm least any up_from
 examples = refl

@@ -11,52 +11,52 @@ use lib.Seq.{take_all}
 use lib.Dec.{eqb, ltb}
 use borrow.Author.Tests.{lt-ltb, ltb-true}
 use Rattle.model.specs.Task as model
-use Rattle.model.specs.Task.{absentTask}
+use Rattle.model.specs.Task.{absent_task}
 use Rattle.model.specs.Horizon.{lcm, hyperperiod}
 use Rattle.model.proofs.Bools.{same_test}
 use Rattle.model.proofs.Starts.{Periods, cycle-pos, hyperperiod-pos, hyperperiod-more, hyperperiod-fewer}
 use Rattle.table.specs.declared.Task.{Task}
-use Rattle.table.specs.Task.{task_of, tasksOf, noTask, InLimits, TimesWithin}
-use Rattle.table.specs.Limits.{mostTime}
+use Rattle.table.specs.Task.{task_of, tasks_of, no_task, InLimits, TimesWithin}
+use Rattle.table.specs.Limits.{most_time}
 use Rattle.table.specs.Gcd.{Gcd}
 use Rattle.table.proofs.Places.{tasks-length, task-at}
 use Rattle.table.proofs.Gcd.{lcm-by-gcd}
 
 -- a cycle is at most twice the longest period
-pub cycle-most : (t : Task) → TimesWithin t → model.cycle (task_of t) ≤ 2 * mostTime
+pub cycle-most : (t : Task) → TimesWithin t → model.cycle (task_of t) ≤ 2 * most_time
 cycle-most t w = go (eqb t.width t.second)
   where
-    go : (b : Bool) → cond b t.period (2 * t.period) ≤ 2 * mostTime
+    go : (b : Bool) → cond b t.period (2 * t.period) ≤ 2 * most_time
     go true = omega (arith, w.period-most)
     go false = omega (arith, w.period-most)
 
 module _ (tasks : List Task) (count : ℕ) (limits : InLimits tasks count) (there : count ≤ length tasks) where
-  periods : Periods (tasksOf tasks count)
+  periods : Periods (tasks_of tasks count)
   periods p l =
       let h : p < count = omega (arith, tasks-length tasks count there) in
       subst⁻¹ (λ (τ : model.Task). 0 < τ.period) (task-at tasks count p h) (limits p h).period-least
 
   -- one more task, by the greatest common divisor
   pub hyperperiod-next :
-      (m i g : ℕ) → m ≡ hyperperiod (take i (tasksOf tasks count)) → i < count → Gcd m (model.cycle (task_of (get_or tasks i noTask))) g
-      → m / g * model.cycle (task_of (get_or tasks i noTask)) ≡ hyperperiod (take (i + 1) (tasksOf tasks count))
+      (m i g : ℕ) → m ≡ hyperperiod (take i (tasks_of tasks count)) → i < count → Gcd m (model.cycle (task_of (get_or tasks i no_task))) g
+      → m / g * model.cycle (task_of (get_or tasks i no_task)) ≡ hyperperiod (take (i + 1) (tasks_of tasks count))
   hyperperiod-next m i g e h d =
-      let T : ℕ = model.cycle (task_of (get_or tasks i noTask)) in
-      let τs : List model.Task = tasksOf tasks count in
+      let T : ℕ = model.cycle (task_of (get_or tasks i no_task)) in
+      let τs : List model.Task = tasks_of tasks count in
       let m-pos : 0 < m = omega (arith, hyperperiod-pos (take i τs)) in
-      let same : model.cycle (get_or τs i absentTask) ≡ T = ap model.cycle (task-at tasks count i h) in
-      let more : hyperperiod (take (suc i) τs) ≡ lcm (hyperperiod (take i τs)) (model.cycle (get_or τs i absentTask)) =
+      let same : model.cycle (get_or τs i absent_task) ≡ T = ap model.cycle (task-at tasks count i h) in
+      let more : hyperperiod (take (suc i) τs) ≡ lcm (hyperperiod (take i τs)) (model.cycle (get_or τs i absent_task)) =
       hyperperiod-more τs i periods (omega (arith, tasks-length tasks count there)) in
-      sym (lcm-by-gcd m T g m-pos (cycle-pos (task_of (get_or tasks i noTask)) (limits i h).period-least) d) ∙ rw (add-one, more, same, e)
+      sym (lcm-by-gcd m T g m-pos (cycle-pos (task_of (get_or tasks i no_task)) (limits i h).period-least) d) ∙ rw (add-one, more, same, e)
 
   -- once above a limit, above it at the end
-  pub hyperperiod-over : (n i : ℕ) → n < hyperperiod (take i (tasksOf tasks count)) → n + 1 ≡ min (hyperperiod (tasksOf tasks count)) (n + 1)
+  pub hyperperiod-over : (n i : ℕ) → n < hyperperiod (take i (tasks_of tasks count)) → n + 1 ≡ min (hyperperiod (tasks_of tasks count)) (n + 1)
   hyperperiod-over n i h =
-      omega (arith, le_of_dvd (hyperperiod-pos (tasksOf tasks count)) (hyperperiod-fewer (tasksOf tasks count) i periods))
+      omega (arith, le_of_dvd (hyperperiod-pos (tasks_of tasks count)) (hyperperiod-fewer (tasks_of tasks count) i periods))
 
   -- all the tasks
-  pub hyperperiod-all : hyperperiod (take count (tasksOf tasks count)) ≡ hyperperiod (tasksOf tasks count)
-  hyperperiod-all = ap hyperperiod (take_all count (tasksOf tasks count) (le_of_eq (tasks-length tasks count there)))
+  pub hyperperiod-all : hyperperiod (take count (tasks_of tasks count)) ≡ hyperperiod (tasks_of tasks count)
+  hyperperiod-all = ap hyperperiod (take_all count (tasks_of tasks count) (le_of_eq (tasks-length tasks count there)))
 
 -- P is known up to one above the limit n: this decides whether S + P exceeds n ..
 pub exceeds-capped : (n s p : ℕ) → ltb n (s + min p (n + 1)) ≡ ltb n (s + p)

@@ -1,6 +1,5 @@
 -- The proofs of the contract of `load`: tests that decide, the walk along the chain, the order of the numbers, S and P; and computed examples.
 pub mod Examples
-pub mod AnswerMeaning
 pub mod Decide
 pub mod Tests
 pub mod Pigeonhole

@@ -4,12 +4,12 @@ use mathlib.Core.List.{List}
 use Prim.Native.Nat.{ℕ, ◌≤◌, ◌<◌}
 use lib.ListN.{length, get_or, take, length-map, get_or-map}
 use lib.Seq.{length-take-le, get_or-take}
-use Rattle.model.specs.Task.{absentTask}
+use Rattle.model.specs.Task.{absent_task}
 use Rattle.table.specs.declared.Task.{Task}
-use Rattle.table.specs.Task.{task_of, tasksOf, noTask}
+use Rattle.table.specs.Task.{task_of, tasks_of, no_task}
 
-pub tasks-length : (tasks : List Task) (count : ℕ) → count ≤ length tasks → length (tasksOf tasks count) ≡ count
+pub tasks-length : (tasks : List Task) (count : ℕ) → count ≤ length tasks → length (tasks_of tasks count) ≡ count
 tasks-length tasks count h = length-map (take count tasks) task_of ∙ length-take-le count tasks h
 
-pub task-at : (tasks : List Task) (count p : ℕ) → p < count → get_or (tasksOf tasks count) p absentTask ≡ task_of (get_or tasks p noTask)
-task-at tasks count p h = get_or-map task_of (take count tasks) p noTask ∙ ap task_of (get_or-take count tasks p noTask h)
+pub task-at : (tasks : List Task) (count p : ℕ) → p < count → get_or (tasks_of tasks count) p absent_task ≡ task_of (get_or tasks p no_task)
+task-at tasks count p h = get_or-map task_of (take count tasks) p no_task ∙ ap task_of (get_or-take count tasks p no_task h)

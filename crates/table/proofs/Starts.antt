@@ -9,12 +9,12 @@ use lib.ListN.{length, get_or}
 use lib.Dec.{ltb}
 use borrow.Author.Tests.{ltb-true, ltb-false}
 use Rattle.model.specs.Task as model
-use Rattle.model.specs.Horizon.{releaseFrom, S, lastS}
-use Rattle.model.specs.Sizes.{mostTasks}
+use Rattle.model.specs.Horizon.{release_from, S, last_s}
+use Rattle.model.specs.Sizes.{most_tasks}
 use Rattle.table.specs.declared.Task.{Task}
-use Rattle.table.specs.Task.{task_of, tasksOf, noTask, TimesWithin, InLimits}
+use Rattle.table.specs.Task.{task_of, tasks_of, no_task, TimesWithin, InLimits}
 use Rattle.table.proofs.Places.{tasks-length, task-at}
-use Rattle.table.specs.Limits.{mostTime}
+use Rattle.table.specs.Limits.{most_time}
 
 -- the ticks of t since an offset, by arithmetic alone: with 2^26 added first, the quotient by 2^26 is 1 if t has
 -- reached the offset, and the rest is by how much
@@ -36,33 +36,33 @@ since-difference t offset h l = go (ltb t offset) refl
         rw (yes, rest) (mul-one (t - offset))
 
 -- a first release is the offset, or less than a period after the tick that is asked for
-pub release-bound : (τ : model.Task) (t : ℕ) → releaseFrom τ t ≤ τ.offset + (t - τ.offset + (τ.period - 1))
+pub release-bound : (τ : model.Task) (t : ℕ) → release_from τ t ≤ τ.offset + (t - τ.offset + (τ.period - 1))
 release-bound τ t = omega (arith, div-mul-le_self (t - τ.offset + (τ.period - 1)) τ.period)
 
 module _ (tasks : List Task) (count : ℕ) (limits : InLimits tasks count) where
   -- each position adds less than a period to S
-  pub S-bound : (p : ℕ) → p < count → S (tasksOf tasks count) p ≤ suc p * mostTime
+  pub S-bound : (p : ℕ) → p < count → S (tasks_of tasks count) p ≤ suc p * most_time
   unfolding S
   S-bound zero h =
-      subst⁻¹ (λ (τ : model.Task). τ.offset ≤ 1 * mostTime) (task-at tasks count 0 h) (omega (arith, (limits 0 h).offset-most))
+      subst⁻¹ (λ (τ : model.Task). τ.offset ≤ 1 * most_time) (task-at tasks count 0 h) (omega (arith, (limits 0 h).offset-most))
   S-bound (suc p) h =
-      let within : TimesWithin (get_or tasks (suc p) noTask) = limits (suc p) h in
-      let before : S (tasksOf tasks count) p ≤ suc p * mostTime = S-bound p (omega arith) in
-      subst⁻¹ (λ (τ : model.Task). releaseFrom τ (S (tasksOf tasks count) p) ≤ suc (suc p) * mostTime) (task-at tasks count (suc p) h)
-      (le_trans (release-bound (task_of (get_or tasks (suc p) noTask)) (S (tasksOf tasks count) p)) (omega arith))
+      let within : TimesWithin (get_or tasks (suc p) no_task) = limits (suc p) h in
+      let before : S (tasks_of tasks count) p ≤ suc p * most_time = S-bound p (omega arith) in
+      subst⁻¹ (λ (τ : model.Task). release_from τ (S (tasks_of tasks count) p) ≤ suc (suc p) * most_time) (task-at tasks count (suc p) h)
+      (le_trans (release-bound (task_of (get_or tasks (suc p) no_task)) (S (tasks_of tasks count) p)) (omega arith))
 
   -- the last S of at most 32 tasks is at most 32,000,000
-  pub lastS-bound : 1 ≤ count → count ≤ mostTasks → count ≤ length tasks → lastS (tasksOf tasks count) ≤ 32000000
-  lastS-bound some few there =
+  pub last_s-bound : 1 ≤ count → count ≤ most_tasks → count ≤ length tasks → last_s (tasks_of tasks count) ≤ 32000000
+  last_s-bound some few there =
       rw (tasks-length tasks count there) (omega (arith, S-bound (count - 1) (omega arith)))
 
   -- S of the next place, as the loop counts
   pub S-next :
       (i : ℕ) → 1 ≤ i → i < count
-      → S (tasksOf tasks count) (i + 1 - 1) ≡ releaseFrom (task_of (get_or tasks i noTask)) (S (tasksOf tasks count) (i - 1))
+      → S (tasks_of tasks count) (i + 1 - 1) ≡ release_from (task_of (get_or tasks i no_task)) (S (tasks_of tasks count) (i - 1))
   unfolding S
   S-next zero h l = absurd (not-suc-le-zero h)
   S-next (suc i) h l =
       let next : suc i + 1 - 1 ≡ suc i = omega arith in
       let this : suc i - 1 ≡ i = omega arith in
-      rw (next, this) (ap (λ (τ : model.Task). releaseFrom τ (S (tasksOf tasks count) i)) (task-at tasks count (suc i) l))
+      rw (next, this) (ap (λ (τ : model.Task). release_from τ (S (tasks_of tasks count) i)) (task-at tasks count (suc i) l))

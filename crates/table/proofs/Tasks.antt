@@ -6,9 +6,9 @@ use native.Mathlib.Omega.{arith}
 use native.Mathlib.Nat.{zero-add}
 use lib.ListN.{length, get_or, length-map}
 use Rattle.model.specs.Search.{up_from}
-use Rattle.model.specs.Task.{absentTask}
+use Rattle.model.specs.Task.{absent_task}
 use Rattle.model.proofs.Lists.{up-length, up_at, map_at}
-use Rattle.table.specs.Words.{visited, count, chain, taskOfRecord, table_of}
+use Rattle.table.specs.Words.{visited, count, chain, task_of_record, table_of}
 
 pub chain_length : (ws : List ℕ) → length (chain ws) ≡ count ws
 unfolding chain
@@ -23,11 +23,11 @@ chain-at ws k d l =
 -- as many tasks as the chain has records
 pub table-length : (ws : List ℕ) → length (table_of ws).tasks ≡ count ws
 unfolding table_of
-table-length ws = length-map (chain ws) (taskOfRecord ws) ∙ chain_length ws
+table-length ws = length-map (chain ws) (task_of_record ws) ∙ chain_length ws
 
 -- and at each place the task of the record met there
-pub table_at : (ws : List ℕ) (k : ℕ) → k < count ws → get_or (table_of ws).tasks k absentTask ≡ taskOfRecord ws (visited ws k)
+pub table_at : (ws : List ℕ) (k : ℕ) → k < count ws → get_or (table_of ws).tasks k absent_task ≡ task_of_record ws (visited ws k)
 unfolding table_of
 table_at ws k l =
     let n : length (chain ws) ≡ count ws = chain_length ws in
-    map_at (taskOfRecord ws) (chain ws) k absentTask 0 (omega arith) ∙ ap (taskOfRecord ws) (chain-at ws k 0 l)
+    map_at (task_of_record ws) (chain ws) k absent_task 0 (omega arith) ∙ ap (task_of_record ws) (chain-at ws k 0 l)

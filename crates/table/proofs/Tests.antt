@@ -13,12 +13,11 @@ use lib.Dec.{leb, ltb, eqb}
 use borrow.Author.Tests.{eqb-true, eq-eqb, le-leb, leb-true, ltb-true, ltb-false}
 use Rattle.model.specs.Search.{bit}
 use Rattle.model.specs.Task.{Task}
-use Rattle.model.specs.Sizes.{mostCores, mostTasks}
-use Rattle.table.specs.Words.{headerWords, recordWords, records, visited}
-use Rattle.table.specs.Limits.{InRange, in_range, CoresOut, coresOut, RuleOut, ruleOut, FenceOut, fenceOut, OneOut, oneOut, WidthOut, widthOut, TimesOut}
-use Rattle.table.specs.Limits.{timesOut, taskOut, mostTime}
+use Rattle.model.specs.Sizes.{most_cores, most_tasks}
+use Rattle.table.specs.Words.{header_words, record_words, records, visited}
+use Rattle.table.specs.Limits.{InRange, in_range, CoresOut, cores_out, RuleOut, rule_out, FenceOut, fence_out, OneOut, one_out, WidthOut, width_out, TimesOut, times_out, task_out, most_time}
 use Rattle.table.specs.Numbers.{WordsOut, EndAt, OutOfRangeAt, RepeatedAt}
-use Rattle.table.specs.Answer.{wordsOut, outOfRangeAt, repeatedAt, stopsAt}
+use Rattle.table.specs.Answer.{words_out, out_of_range_at, repeated_at, stops_at}
 use Rattle.model.proofs.Digits.{bit-zero, bit-suc, bit_past, odd-half, below-pow, lowest-of}
 use Rattle.table.proofs.Decide.{Decides, decides-le, decides-lt, decides_eq, decides_not, decides_and, decides_or, decides-any}
 
@@ -28,15 +27,15 @@ from-decides a b x = decides_and (leb a x) (leb x b) (a ≤ x) (x ≤ b) (decide
 out-decides : (a b x : ℕ) → Decides (not (in_range a b x)) (¬ InRange a b x)
 out-decides a b x = decides_not (in_range a b x) (InRange a b x) (from-decides a b x)
 
-pub words-decides : (ws : List ℕ) → Decides (wordsOut ws) (WordsOut ws)
+pub words-decides : (ws : List ℕ) → Decides (words_out ws) (WordsOut ws)
 words-decides ws =
-    decides_or _ _ _ _ (decides-lt (length ws) headerWords)
-    (decides_or _ _ _ _ (decides_not _ _ (decides_eq ((length ws - headerWords) % recordWords) 0)) (decides-lt mostTasks (records ws)))
+    decides_or _ _ _ _ (decides-lt (length ws) header_words)
+    (decides_or _ _ _ _ (decides_not _ _ (decides_eq ((length ws - header_words) % record_words) 0)) (decides-lt most_tasks (records ws)))
 
-pub cores-decides : (m : ℕ) → Decides (coresOut m) (CoresOut m)
-cores-decides m = out-decides 1 mostCores m
+pub cores-decides : (m : ℕ) → Decides (cores_out m) (CoresOut m)
+cores-decides m = out-decides 1 most_cores m
 
-pub rule-decides : (n : ℕ) → Decides (ruleOut n) (RuleOut n)
+pub rule-decides : (n : ℕ) → Decides (rule_out n) (RuleOut n)
 rule-decides n = out-decides 1 4 n
 
 -- a set whose cores up to m are all there is not below 2^m − 1 ..
@@ -65,7 +64,7 @@ some-past (suc m) f h =
     let x = some-past m (f / 2) (omega (arith, pow-suc 2 m)) in
     (suc x.0, omega (arith, x.1), bit-suc f x.0 ∙ x.2)
 
-pub fence-decides : (m f : ℕ) → Decides (fenceOut m f) (FenceOut m f)
+pub fence-decides : (m f : ℕ) → Decides (fence_out m f) (FenceOut m f)
 fence-decides m f = (λ e. to (leb-true (2 ^ m - 1) f e), λ x. le-leb (2 ^ m - 1) f (in_range x))
   where
     to : 2 ^ m - 1 ≤ f → FenceOut m f
@@ -82,17 +81,17 @@ fence-decides m f = (λ e. to (leb-true (2 ^ m - 1) f e), λ x. le-leb (2 ^ m - 
         go false b = omega (arith, ltb-false f (2 ^ m) b)
     in_range (inr h) = all_there m f h
 
-one-decides : (m v : ℕ) → Decides (oneOut m v) (OneOut m v)
+one-decides : (m v : ℕ) → Decides (one_out m v) (OneOut m v)
 one-decides m v = decides_or _ _ _ _ (decides_eq v 0) (decides-lt m v)
 
-pub width-decides : (m : ℕ) (τ : Task) → Decides (widthOut m τ) (WidthOut m τ)
-width-decides m τ = decides_or _ _ _ _ (one-decides m τ.oddWidth) (one-decides m τ.evenWidth)
+pub width-decides : (m : ℕ) (τ : Task) → Decides (width_out m τ) (WidthOut m τ)
+width-decides m τ = decides_or _ _ _ _ (one-decides m τ.odd_width) (one-decides m τ.even_width)
 
-pub times-decides : (τ : Task) → Decides (timesOut τ) (TimesOut τ)
+pub times-decides : (τ : Task) → Decides (times_out τ) (TimesOut τ)
 times-decides τ =
-    decides_or _ _ _ _ (decides-lt mostTime τ.offset)
-    (decides_or _ _ _ _ (out-decides 1 mostTime τ.length)
-    (decides_or _ _ _ _ (out-decides 1 mostTime τ.period) (out-decides 1 τ.period τ.deadline)))
+    decides_or _ _ _ _ (decides-lt most_time τ.offset)
+    (decides_or _ _ _ _ (out-decides 1 most_time τ.length)
+    (decides_or _ _ _ _ (out-decides 1 most_time τ.period) (out-decides 1 τ.period τ.deadline)))
 
 -- a task is turned down exactly if 7 or 8 applies to it; the number is 7 where 7 does, and else 8
 task-out-is : (s t : Bool) → not (eqb (cond s 7 (cond t 8 0)) 0) ≡ s || t
@@ -100,15 +99,14 @@ task-out-is true t = refl
 task-out-is false true = refl
 task-out-is false false = refl
 
-pub task-decides : (m : ℕ) (τ : Task) → Decides (taskOut m τ) (WidthOut m τ ⊎ TimesOut τ)
-task-decides m τ =
-    rw (task-out-is (widthOut m τ) (timesOut τ)) (decides_or (widthOut m τ) (timesOut τ) (WidthOut m τ) (TimesOut τ) (width-decides m τ) (times-decides τ))
+pub task-decides : (m : ℕ) (τ : Task) → Decides (task_out m τ) (WidthOut m τ ⊎ TimesOut τ)
+task-decides m τ = rw (task-out-is (width_out m τ) (times_out τ)) (decides_or (width_out m τ) (times_out τ) (WidthOut m τ) (TimesOut τ) (width-decides m τ) (times-decides τ))
 
-pub past-decides : (ws : List ℕ) (k : ℕ) → Decides (outOfRangeAt ws k) (OutOfRangeAt ws k)
+pub past-decides : (ws : List ℕ) (k : ℕ) → Decides (out_of_range_at ws k) (OutOfRangeAt ws k)
 past-decides ws k = decides-lt (records ws) (visited ws k)
 
-pub again-decides : (ws : List ℕ) (k : ℕ) → Decides (repeatedAt ws k) (RepeatedAt ws k)
+pub again-decides : (ws : List ℕ) (k : ℕ) → Decides (repeated_at ws k) (RepeatedAt ws k)
 again-decides ws k = decides-any k (λ j. eqb (visited ws j) (visited ws k)) (λ j. visited ws j ≡ visited ws k) (λ j. decides_eq (visited ws j) (visited ws k))
 
-pub stops-decides : (ws : List ℕ) (k : ℕ) → Decides (stopsAt ws k) (EndAt ws k ⊎ (OutOfRangeAt ws k ⊎ RepeatedAt ws k))
+pub stops-decides : (ws : List ℕ) (k : ℕ) → Decides (stops_at ws k) (EndAt ws k ⊎ (OutOfRangeAt ws k ⊎ RepeatedAt ws k))
 stops-decides ws k = decides_or _ _ _ _ (decides_eq (visited ws k) 0) (decides_or _ _ _ _ (past-decides ws k) (again-decides ws k))

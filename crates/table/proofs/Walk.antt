@@ -13,26 +13,25 @@ use Rattle.model.proofs.Bools.{not-true-false, not-false-true}
 use Rattle.model.proofs.Search.{least-any, least-lowest, none-at, least-is}
 use Rattle.table.specs.Words.{records, visited, count}
 use Rattle.table.specs.Numbers.{EndAt, OutOfRangeAt, RepeatedAt, Reaches, Applies, five, six}
-use Rattle.table.specs.Answer.{outOfRangeAt, repeatedAt, stopsAt, lastStep}
+use Rattle.table.specs.Answer.{out_of_range_at, repeated_at, stops_at, last_step}
 use Rattle.table.proofs.Decide.{Decides, fails}
 use Rattle.table.proofs.Tests.{past-decides, again-decides, stops-decides}
 use Rattle.table.proofs.Pigeonhole.{pigeonhole}
 
 -- what is at a step where the walk goes on
-pub goes_on : (ws : List ℕ) (j : ℕ) → stopsAt ws j ≡ false → (¬ EndAt ws j) × (¬ OutOfRangeAt ws j) × (¬ RepeatedAt ws j)
+pub goes_on : (ws : List ℕ) (j : ℕ) → stops_at ws j ≡ false → (¬ EndAt ws j) × (¬ OutOfRangeAt ws j) × (¬ RepeatedAt ws j)
 goes_on ws j e =
-    let never = fails (stopsAt ws j) _ (stops-decides ws j) e in
+    let never = fails (stops_at ws j) _ (stops-decides ws j) e in
     (λ x. never (inl x), λ x. never (inr (inl x)), λ x. never (inr (inr x)))
 
-pub goes-on-test : (ws : List ℕ) (j : ℕ) → (¬ EndAt ws j) × (¬ OutOfRangeAt ws j) × (¬ RepeatedAt ws j) → stopsAt ws j ≡ false
+pub goes-on-test : (ws : List ℕ) (j : ℕ) → (¬ EndAt ws j) × (¬ OutOfRangeAt ws j) × (¬ RepeatedAt ws j) → stops_at ws j ≡ false
 goes-on-test ws j n =
-    not-true-false (stopsAt ws j) (λ e. ⊎_elim (λ x. n.0 x) (λ y. ⊎_elim (λ x. n.1 x) (λ x. n.2 x) y) ((stops-decides ws j).0 e))
+    not-true-false (stops_at ws j) (λ e. ⊎_elim (λ x. n.0 x) (λ y. ⊎_elim (λ x. n.1 x) (λ x. n.2 x) y) ((stops-decides ws j).0 e))
 
 -- where it goes on at step k, it comes to the next
 pub reaches_more : (ws : List ℕ) (k : ℕ) → Reaches ws k → (¬ EndAt ws k) × (¬ OutOfRangeAt ws k) × (¬ RepeatedAt ws k) → Reaches ws (suc k)
 reaches_more ws k c n j l =
-    ⊎_elim (λ (e : j ≡ k). subst (λ (i : ℕ). (¬ EndAt ws i) × (¬ OutOfRangeAt ws i) × (¬ RepeatedAt ws i)) (sym e) n) (λ (h : j < k). c j h)
-    (eq-or-lt_of_le (omega arith))
+    ⊎_elim (λ (e : j ≡ k). subst (λ (i : ℕ). (¬ EndAt ws i) × (¬ OutOfRangeAt ws i) × (¬ RepeatedAt ws i)) (sym e) n) (λ (h : j < k). c j h) (eq-or-lt_of_le (omega arith))
 
 -- as many steps as it comes to, at most as many records: those met differ
 pub reaches-short : (ws : List ℕ) (k : ℕ) → Reaches ws k → k ≤ records ws
@@ -42,49 +41,49 @@ reaches-short ws k c =
     (λ i j l m e. (c j m).2 (i, l, e))
 
 -- where it comes to step k and stops there, k is the last step
-pub stops-there : (ws : List ℕ) (k : ℕ) → Reaches ws k → stopsAt ws k ≡ true → lastStep ws ≡ k
-unfolding lastStep
+pub stops-there : (ws : List ℕ) (k : ℕ) → Reaches ws k → stops_at ws k ≡ true → last_step ws ≡ k
+unfolding last_step
 stops-there ws k c e =
     let short = reaches-short ws k c in
-    least-is (suc (records ws)) (stopsAt ws) k (omega arith) e (λ i l. goes-on-test ws i (c i l))
+    least-is (suc (records ws)) (stops_at ws) k (omega arith) e (λ i l. goes-on-test ws i (c i l))
 
 -- it comes to its last step, and stops there
-pub last-reached : (ws : List ℕ) → Reaches ws (lastStep ws)
-unfolding lastStep
-last-reached ws = λ j l. goes_on ws j (least-lowest (suc (records ws)) (stopsAt ws) j l)
+pub last-reached : (ws : List ℕ) → Reaches ws (last_step ws)
+unfolding last_step
+last-reached ws = λ j l. goes_on ws j (least-lowest (suc (records ws)) (stops_at ws) j l)
 
-pub last-stops : (ws : List ℕ) → stopsAt ws (lastStep ws) ≡ true
-unfolding lastStep
-last-stops ws = least-any (suc (records ws)) (stopsAt ws) (not-false-true (any (suc (records ws)) (stopsAt ws)) never)
+pub last-stops : (ws : List ℕ) → stops_at ws (last_step ws) ≡ true
+unfolding last_step
+last-stops ws = least-any (suc (records ws)) (stops_at ws) (not-false-true (any (suc (records ws)) (stops_at ws)) never)
   where
-    never : any (suc (records ws)) (stopsAt ws) ≡ false → ⊥
+    never : any (suc (records ws)) (stops_at ws) ≡ false → ⊥
     never e =
-        let short = reaches-short ws (suc (records ws)) (λ j l. goes_on ws j (none-at (suc (records ws)) (stopsAt ws) j e l)) in
+        let short = reaches-short ws (suc (records ws)) (λ j l. goes_on ws j (none-at (suc (records ws)) (stops_at ws) j e l)) in
         omega arith
 
 -- at its last step the walk decides 5 and 6
-pub five-decides : (ws : List ℕ) → Decides (outOfRangeAt ws (lastStep ws)) (Applies ws 5 0)
-five-decides ws = (λ e. five (lastStep ws) (last-reached ws) ((past-decides ws (lastStep ws)).0 e), back)
+pub five-decides : (ws : List ℕ) → Decides (out_of_range_at ws (last_step ws)) (Applies ws 5 0)
+five-decides ws = (λ e. five (last_step ws) (last-reached ws) ((past-decides ws (last_step ws)).0 e), back)
   where
-    back : Applies ws 5 0 → outOfRangeAt ws (lastStep ws) ≡ true
+    back : Applies ws 5 0 → out_of_range_at ws (last_step ws) ≡ true
     back (five k c h) =
         let there = stops-there ws k c ((stops-decides ws k).1 (inr (inl h))) in
         rw there ((past-decides ws k).1 h)
 
-pub six-decides : (ws : List ℕ) → Decides (repeatedAt ws (lastStep ws)) (Applies ws 6 0)
-six-decides ws = (λ e. six (lastStep ws) (last-reached ws) ((again-decides ws (lastStep ws)).0 e), back)
+pub six-decides : (ws : List ℕ) → Decides (repeated_at ws (last_step ws)) (Applies ws 6 0)
+six-decides ws = (λ e. six (last_step ws) (last-reached ws) ((again-decides ws (last_step ws)).0 e), back)
   where
-    back : Applies ws 6 0 → repeatedAt ws (lastStep ws) ≡ true
+    back : Applies ws 6 0 → repeated_at ws (last_step ws) ≡ true
     back (six k c h) =
         let there = stops-there ws k c ((stops-decides ws k).1 (inr (inr h))) in
         rw there ((again-decides ws k).1 h)
 
 -- else it ends at the zero
-pub last-ends : (ws : List ℕ) → outOfRangeAt ws (lastStep ws) ≡ false → repeatedAt ws (lastStep ws) ≡ false → EndAt ws (lastStep ws)
+pub last-ends : (ws : List ℕ) → out_of_range_at ws (last_step ws) ≡ false → repeated_at ws (last_step ws) ≡ false → EndAt ws (last_step ws)
 last-ends ws p a =
     ⊎_elim (λ x. x)
-    (λ y. ⊎_elim (λ x. absurd (fails _ _ (past-decides ws (lastStep ws)) p x)) (λ x. absurd (fails _ _ (again-decides ws (lastStep ws)) a x)) y)
-    ((stops-decides ws (lastStep ws)).0 (last-stops ws))
+    (λ y. ⊎_elim (λ x. absurd (fails _ _ (past-decides ws (last_step ws)) p x)) (λ x. absurd (fails _ _ (again-decides ws (last_step ws)) a x)) y)
+    ((stops-decides ws (last_step ws)).0 (last-stops ws))
 
 -- and the chain has that many records
 pub ends_there : (ws : List ℕ) (k : ℕ) → Reaches ws k → EndAt ws k → count ws ≡ k

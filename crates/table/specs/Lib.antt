@@ -1,7 +1,5 @@
--- The meaning of a table's words: tasks, limits, the numbers for what is turned down, the result of `load`, and what it promises; then records off the chain
--- and bare tables.
+-- The meaning of a table's words: tasks, limits, the numbers for what is turned down, the result of `load`, and what it promises; then records off the chain and bare tables.
 pub mod Task
-pub mod AnswerMeaning
 pub mod Words
 pub mod Limits
 pub mod Numbers

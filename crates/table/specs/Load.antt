@@ -2,47 +2,46 @@
 use Rattle.std.specs.Prelude.{◌≡◌, ◌↔◌, List, map, ◌++◌, ℕ, ◌-◌, ◌≤◌, length, drop, replicate}
 use Rattle.model.specs.Task as model
 use Rattle.model.specs.Refusals as book
-use Rattle.model.specs.Horizon.{lastS, hyperperiod, horizon}
-use Rattle.model.specs.Sizes.{mostTasks}
+use Rattle.model.specs.Horizon.{last_s, hyperperiod, horizon}
+use Rattle.model.specs.Sizes.{most_tasks}
 use Rattle.table.specs.declared.Task.{Task}
 use Rattle.table.specs.declared.Answer.{Answer}
-use Rattle.table.specs.declared.Answer.TheVariants.{Taken, Refused}
+use Rattle.table.specs.declared.Answer.TheVariants.{Passed, Refused}
 use Rattle.table.specs.declared.Loaded.{Loaded}
 use Rattle.table.specs.declared.chain.Ending.TheVariants.{Whole}
 use Rattle.table.specs.declared.chain.Walked.{Walked}
-use Rattle.table.specs.Task.{noTask, tasksOf}
+use Rattle.table.specs.Task.{no_task, tasks_of}
 use Rattle.table.specs.Words.{word, fence, count, table_of}
-use Rattle.table.specs.Limits.{InRange, mostHorizon}
+use Rattle.table.specs.Limits.{InRange, most_horizon}
 use Rattle.table.specs.Numbers.{First, NoneApplies}
-use Rattle.table.specs.Answer.{answer_of, endingOf}
-use Rattle.table.specs.AnswerMeaning.{answerMeaning}
+use Rattle.table.specs.Answer.{answer_of, ending_of}
 
 -- a task of the model as code stores it
-abbrev pub codeTask : model.Task → Task
-codeTask τ = record {
+abbrev pub code_task : model.Task → Task
+code_task τ = record {
   offset = τ.offset;
-  width = τ.oddWidth;
+  width = τ.odd_width;
   length = τ.length;
   deadline = τ.deadline;
   period = τ.period;
-  second = τ.evenWidth;
+  second = τ.even_width;
 }
 
 -- 32 places: the tasks in priority order, then zeros
-abbrev pub codeTasks : List model.Task → List Task
-codeTasks τs = map codeTask τs ++ replicate (mostTasks - length τs) noTask
+abbrev pub code_tasks : List model.Task → List Task
+code_tasks τs = map code_task τs ++ replicate (most_tasks - length τs) no_task
 
 -- a table that passes, whose rule has number r
 abbrev pub passing : ℕ → model.Table → Loaded
 passing r s =
     record {
-      answer = Taken;
+      answer = Passed;
       count = length s.tasks;
       cores = s.cores;
       fence = s.fence;
       rule = r;
-      tasks = codeTasks s.tasks;
-      start = lastS s.tasks;
+      tasks = code_tasks s.tasks;
+      start = last_s s.tasks;
       period = hyperperiod s.tasks;
       horizon = horizon s;
     }
@@ -50,53 +49,58 @@ passing r s =
 -- a refusal: all else is zero
 abbrev pub refusal : ℕ → ℕ → Loaded
 refusal n p =
-    record { answer = Refused n p; count = 0; cores = 0; fence = 0; rule = 0; tasks = replicate mostTasks noTask; start = 0; period = 0; horizon = 0 }
+    record { answer = Refused n p; count = 0; cores = 0; fence = 0; rule = 0; tasks = replicate most_tasks no_task; start = 0; period = 0; horizon = 0 }
 
 -- by the answer: the table that passes, or the refusal
-abbrev pub loadedBy : Answer → Loaded → Loaded
-loadedBy Taken l = l
-loadedBy (Refused n p) l = refusal n p
+abbrev pub loaded_by : Answer → Loaded → Loaded
+loaded_by Passed l = l
+loaded_by (Refused n p) l = refusal n p
 
 -- the result of `load` on the words
 unfoldable pub load_of : List ℕ → Loaded
-load_of ws = loadedBy (answer_of ws) (passing (word ws 2) (table_of ws))
+load_of ws = loaded_by (answer_of ws) (passing (word ws 2) (table_of ws))
 
 -- the contents of a table that passed
 pub record LoadedAs (ws : List ℕ) (r : Loaded) : Type 0 where
   -- as many tasks as the chain has, 1 to 32
   pub count : r.count ≡ length (table_of ws).tasks
-  pub count-from : InRange 1 mostTasks r.count
+  pub count-from : InRange 1 most_tasks r.count
   -- the core count, the fence and the rule's number
   pub cores : r.cores ≡ word ws 1
   pub fence : r.fence ≡ fence ws
   pub rule : r.rule ≡ word ws 2
   -- the tasks in priority order, and zeros past the count
-  pub tasks : tasksOf r.tasks r.count ≡ (table_of ws).tasks
-  pub past : drop r.count r.tasks ≡ replicate (mostTasks - r.count) noTask
+  pub tasks : tasks_of r.tasks r.count ≡ (table_of ws).tasks
+  pub past : drop r.count r.tasks ≡ replicate (most_tasks - r.count) no_task
   -- the last S, P and the horizon
-  pub start : r.start ≡ lastS (table_of ws).tasks
+  pub start : r.start ≡ last_s (table_of ws).tasks
   pub period : r.period ≡ hyperperiod (table_of ws).tasks
   pub horizon : r.horizon ≡ horizon (table_of ws)
-  pub horizon-most : r.horizon ≤ mostHorizon
+  pub horizon-most : r.horizon ≤ most_horizon
+
+-- the meaning of each case: taken where the table passes, or refused with number and position
+abbrev pub load_meaning : Answer → book.Answer
+load_meaning Passed = book.taken
+load_meaning (Refused n p) = book.refused n p
 
 -- the contract of `load` on the words
 pub record LoadOf (ws : List ℕ) (r : Loaded) : Type 0 where
   -- its value
   pub value : r ≡ load_of ws
   -- refused with n and p exactly if number n applies with position p and no earlier one does; passed exactly if none applies
-  pub refused : (n p : ℕ) → (answerMeaning r.answer ≡ book.refused n p) ↔ First ws n p
-  pub passed : (answerMeaning r.answer ≡ book.taken) ↔ NoneApplies ws
+  pub refused : (n p : ℕ) → (load_meaning r.answer ≡ book.refused n p) ↔ First ws n p
+  pub passed : (load_meaning r.answer ≡ book.taken) ↔ NoneApplies ws
   -- in a refusal all else is zero
-  pub zeros : (n p : ℕ) → answerMeaning r.answer ≡ book.refused n p → r ≡ refusal n p
+  pub zeros : (n p : ℕ) → load_meaning r.answer ≡ book.refused n p → r ≡ refusal n p
   -- in a table that passed the rest is the table
-  pub holds : answerMeaning r.answer ≡ book.taken → LoadedAs ws r
+  pub holds : load_meaning r.answer ≡ book.taken → LoadedAs ws r
 
 -- the tasks on this number of cores, with this fence and the rule of this number
-abbrev pub tableWith : ℕ → ℕ → ℕ → List model.Task → model.Table
-tableWith m f r τs = record { tasks = τs; cores = m; fence = f; rule = model.ruleOf r }
+abbrev pub table_with : ℕ → ℕ → ℕ → List model.Task → model.Table
+table_with m f r τs = record { tasks = τs; cores = m; fence = f; rule = model.rule_of r }
 
 -- the result of the walk: how it ends, and where it ends at the zero, the tasks
 pub record WalkOf (ws : List ℕ) (r : Walked) : Type 0 where
-  pub ending : r.ending ≡ endingOf ws
+  pub ending : r.ending ≡ ending_of ws
   pub counted : r.ending ≡ Whole → r.count ≡ count ws
-  pub placed : r.ending ≡ Whole → r.tasks ≡ codeTasks (table_of ws).tasks
+  pub placed : r.ending ≡ Whole → r.tasks ≡ code_tasks (table_of ws).tasks

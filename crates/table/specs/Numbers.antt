@@ -1,14 +1,14 @@
 -- Numbers 1 to 9 and 19 for what is turned down (scope, 'Numbers for what is turned down'): when each applies, and which is the first.
 use Rattle.std.specs.Prelude.{◌≡◌, cond, List, [], ◌∷◌, ◌⊎◌, ℕ, suc, ◌-◌, ◌%◌, ◌<◌, length, eqb}
-use Rattle.model.specs.Fence.{unfencedCount}
+use Rattle.model.specs.Fence.{unfenced_count}
 use Rattle.model.specs.Horizon.{horizon}
-use Rattle.model.specs.Sizes.{mostTasks}
-use Rattle.table.specs.Words.{headerWords, recordWords, head, coreCount, rule, fence, records, visited, count, taskAt, table_of}
+use Rattle.model.specs.Sizes.{most_tasks}
+use Rattle.table.specs.Words.{header_words, record_words, head, core_count, rule, fence, records, visited, count, task_at, table_of}
 use Rattle.table.specs.Limits.{InRange, CoresOut, RuleOut, FenceOut, WidthOut, TimesOut, HorizonOut}
 
 -- the slice has fewer than 5 words, or the rest is no whole number of records, or there are more than 32
 abbrev pub WordsOut : List ℕ → Type 0
-WordsOut ws = (length ws < headerWords) ⊎ (((length ws - headerWords) % recordWords ≡ 0 → ⊥) ⊎ (mostTasks < records ws))
+WordsOut ws = (length ws < header_words) ⊎ (((length ws - header_words) % record_words ≡ 0 → ⊥) ⊎ (most_tasks < records ws))
 
 -- what the walk can meet at step k: the zero that ends the chain, a number past the last record, a record again
 abbrev pub EndAt : List ℕ → ℕ → Type 0
@@ -33,11 +33,11 @@ pub data Applies (ws : List ℕ) : ℕ → ℕ → Type 0 where
   -- 1. The slice has fewer than 5 words, or the rest is no whole number of records, or there are more than 32.
   one : WordsOut ws → Applies ws 1 0
   -- 2. The core count is not 1 to 64.
-  two : CoresOut (coreCount ws) → Applies ws 2 0
+  two : CoresOut (core_count ws) → Applies ws 2 0
   -- 3. The rule is not 1 to 4.
   three : RuleOut (rule ws) → Applies ws 3 0
   -- 19. The fence contains a core past the count, or all cores.
-  nineteen : FenceOut (coreCount ws) (fence ws) → Applies ws 19 0
+  nineteen : FenceOut (core_count ws) (fence ws) → Applies ws 19 0
   -- 4. The head is zero.
   four : head ws ≡ 0 → Applies ws 4 0
   -- 5. Walking the chain, a number past the last record is met.
@@ -45,9 +45,9 @@ pub data Applies (ws : List ℕ) : ℕ → ℕ → Type 0 where
   -- 6. Walking the chain, a record is met again (5 and 6: whichever the walk meets first).
   six : (k : ℕ) → Reaches ws k → RepeatedAt ws k → Applies ws 6 0
   -- 7. A width of a task, that of its odd jobs or that of its even ones, is 0 or above the number of unfenced cores.
-  seven : (p : ℕ) → Position ws p → WidthOut (unfencedCount (fence ws) (coreCount ws)) (taskAt ws p) → Applies ws 7 p
+  seven : (p : ℕ) → Position ws p → WidthOut (unfenced_count (fence ws) (core_count ws)) (task_at ws p) → Applies ws 7 p
   -- 8. A task's O, C, T or D is outside its limits.
-  eight : (p : ℕ) → Position ws p → TimesOut (taskAt ws p) → Applies ws 8 p
+  eight : (p : ℕ) → Position ws p → TimesOut (task_at ws p) → Applies ws 8 p
   -- 9. The horizon exceeds 1,000,000,000.
   nine : HorizonOut (horizon (table_of ws)) → Applies ws 9 0
 
@@ -56,13 +56,13 @@ abbrev pub order : List ℕ
 order = 1 ∷ 2 ∷ 3 ∷ 19 ∷ 4 ∷ 5 ∷ 6 ∷ 7 ∷ 9 ∷ 10 ∷ 11 ∷ 12 ∷ 13 ∷ 14 ∷ 21 ∷ 22 ∷ 15 ∷ 20 ∷ 16 ∷ 17 ∷ 18 ∷ 23 ∷ []
 
 -- the index of n in a list whose first index is i
-abbrev pub placeFrom : ℕ → List ℕ → ℕ → ℕ
-placeFrom i [] n = i
-placeFrom i (m ∷ ms) n = cond (eqb n m) i (placeFrom (suc i) ms n)
+abbrev pub place_from : ℕ → List ℕ → ℕ → ℕ
+place_from i [] n = i
+place_from i (m ∷ ms) n = cond (eqb n m) i (place_from (suc i) ms n)
 
 -- a number's place in the order
 unfoldable pub place : ℕ → ℕ
-place n = placeFrom 1 order (cond (eqb n 8) 7 n)
+place n = place_from 1 order (cond (eqb n 8) 7 n)
 
 -- number m with position q is checked before number n with position p: by place, and 7 and 8 by position, within a task 7 first
 abbrev pub Earlier : ℕ → ℕ → ℕ → ℕ → Type 0

@@ -1,15 +1,15 @@
 -- The words of a table (scope, 'The table'): its header, its records, and the chain along which they are read.
 use Rattle.std.specs.Prelude.{List, map, ℕ, zero, suc, ◌+◌, ◌-◌, ◌*◌, ◌/◌, ◌^◌, length, get_or, eqb}
 use Rattle.model.specs.Search.{least, up_from}
-use Rattle.model.specs.Task.{Task, Table, ruleOf}
+use Rattle.model.specs.Task.{Task, Table, rule_of}
 
 -- the header has five words
-abbrev pub headerWords : ℕ
-headerWords = 5
+abbrev pub header_words : ℕ
+header_words = 5
 
 -- a record has seven (request 108)
-abbrev pub recordWords : ℕ
-recordWords = 7
+abbrev pub record_words : ℕ
+record_words = 7
 
 -- word i, counted from 0
 abbrev pub word : List ℕ → ℕ → ℕ
@@ -20,42 +20,42 @@ abbrev pub head : List ℕ → ℕ
 head ws = word ws 0
 
 -- word 1 the core count
-abbrev pub coreCount : List ℕ → ℕ
-coreCount ws = word ws 1
+abbrev pub core_count : List ℕ → ℕ
+core_count ws = word ws 1
 
 -- word 2 the rule
 abbrev pub rule : List ℕ → ℕ
 rule ws = word ws 2
 
 -- words 3 and 4 the fence (request 102; the field: reserved processors), a set of cores as one 64-bit number, low word first
-abbrev pub fenceOf : ℕ → ℕ → ℕ
-fenceOf low high = low + high * 2 ^ 32
+abbrev pub fence_of : ℕ → ℕ → ℕ
+fence_of low high = low + high * 2 ^ 32
 
 abbrev pub fence : List ℕ → ℕ
-fence ws = fenceOf (word ws 3) (word ws 4)
+fence ws = fence_of (word ws 3) (word ws 4)
 
 -- records follow: the number of them
 abbrev pub records : List ℕ → ℕ
-records ws = (length ws - headerWords) / recordWords
+records ws = (length ws - header_words) / record_words
 
 -- word j of record n, records numbered from 1
 abbrev pub field : List ℕ → ℕ → ℕ → ℕ
-field ws n j = word ws (headerWords + (n - 1) * recordWords + j)
+field ws n j = word ws (header_words + (n - 1) * record_words + j)
 
 -- next is the number of the record one priority lower
 abbrev pub next : List ℕ → ℕ → ℕ
 next ws n = field ws n 0
 
 -- the others are offset O, width v of odd jobs, length C, deadline D, period T, and last width w of even jobs
-abbrev pub taskOfRecord : List ℕ → ℕ → Task
-taskOfRecord ws n =
+abbrev pub task_of_record : List ℕ → ℕ → Task
+task_of_record ws n =
     record {
       offset = field ws n 1;
-      oddWidth = field ws n 2;
+      odd_width = field ws n 2;
       length = field ws n 3;
       deadline = field ws n 4;
       period = field ws n 5;
-      evenWidth = field ws n 6;
+      even_width = field ws n 6;
     }
 
 -- the number that the walk meets at step k: the head, then the next of each record met
@@ -72,9 +72,9 @@ unfoldable pub chain : List ℕ → List ℕ
 chain ws = map (visited ws) (up_from 0 (count ws))
 
 -- a task's position is its place on the chain, from 1, the highest priority (scope: position; the field: rank in fixed task priority order): the task at p
-abbrev pub taskAt : List ℕ → ℕ → Task
-taskAt ws p = taskOfRecord ws (visited ws (p - 1))
+abbrev pub task_at : List ℕ → ℕ → Task
+task_at ws p = task_of_record ws (visited ws (p - 1))
 
 -- the table that the words represent
 unfoldable pub table_of : List ℕ → Table
-table_of ws = record { tasks = map (taskOfRecord ws) (chain ws); cores = coreCount ws; fence = fence ws; rule = ruleOf (rule ws) }
+table_of ws = record { tasks = map (task_of_record ws) (chain ws); cores = core_count ws; fence = fence ws; rule = rule_of (rule ws) }

@@ -1,9 +1,9 @@
 // The walk along the chain: numbers 5 and 6, and the tasks in priority order.
 ghost use Rattle.std.specs.Prelude.{◌≡◌, ◌≤◌};
-ghost use Rattle.table.specs.Task.{noTask};
-ghost use Rattle.table.specs.Words.{records, taskOfRecord};
-ghost use Rattle.table.specs.Answer.{headerNumber};
-ghost use Rattle.table.specs.Load.{codeTask, WalkOf};
+ghost use Rattle.table.specs.Task.{no_task};
+ghost use Rattle.table.specs.Words.{records, task_of_record};
+ghost use Rattle.table.specs.Answer.{header_number};
+ghost use Rattle.table.specs.Load.{code_task, WalkOf};
 
 use crate::{HEADER, RECORD, Task};
 use model::MOST_TASKS;
@@ -26,7 +26,7 @@ pub struct Walked {
 
 // No task: the value past the count.
 pub(crate) fn no_task() -> Task
-    ensures { result ≡ noTask }
+    ensures { result ≡ no_task }
 {
     Task {
         offset: 0,
@@ -41,7 +41,7 @@ pub(crate) fn no_task() -> Task
 // The task of a record.
 fn task_of(words: &[u32], number: usize) -> Task
     requires { (1 ≤ number) × (number ≤ records words.now) }
-    ensures { result ≡ codeTask (taskOfRecord words.now number) }
+    ensures { result ≡ code_task (task_of_record words.now number) }
 {
     let at = HEADER + (number - 1) * RECORD;
     Task {
@@ -56,7 +56,7 @@ fn task_of(words: &[u32], number: usize) -> Task
 
 // The walk along the chain of a table whose header passes.
 pub(crate) fn walk(words: &[u32]) -> Walked
-    requires { headerNumber words.now ≡ 0 }
+    requires { header_number words.now ≡ 0 }
     ensures { WalkOf words.now result }
 {
     let records = (words.len() - HEADER) / RECORD;

@@ -1,14 +1,14 @@
 // Numbers 7 to 9 of a table whose chain ends, and what passes.
 ghost use Rattle.std.specs.Prelude.{◌≡◌, ◌≤◌, ◌+◌};
-ghost use Rattle.table.specs.Task.{tasksOf, InLimits};
-ghost use Rattle.table.specs.Limits.{horizonOut};
-ghost use Rattle.table.specs.Answer.{firstOut, byHorizon, byTasks};
-ghost use Rattle.table.specs.Load.{codeTasks, refusal, passing, loadedBy, tableWith};
-ghost use Rattle.model.specs.Sizes.{mostCores, mostTasks};
+ghost use Rattle.table.specs.Task.{tasks_of, InLimits};
+ghost use Rattle.table.specs.Limits.{horizon_out};
+ghost use Rattle.table.specs.Answer.{first_out, by_horizon, by_tasks};
+ghost use Rattle.table.specs.Load.{code_tasks, refusal, passing, loaded_by, table_with};
+ghost use Rattle.model.specs.Sizes.{most_cores, most_tasks};
 
 use crate::hyperperiod::LIMIT;
 use crate::{Answer, Loaded, Task};
-use model::{MOST_TASKS, numbers};
+use model::MOST_TASKS;
 
 // A refusal, with zeros beside it.
 pub(crate) fn refused(number: u32, position: u32) -> Loaded
@@ -31,7 +31,7 @@ pub(crate) fn refused(number: u32, position: u32) -> Loaded
 
 // Whether the last S plus P exceeds the longest horizon (number 9).
 pub fn horizon_out(start: u32, period: u32) -> bool
-    ensures { result ≡ horizonOut (start + period) }
+    ensures { result ≡ horizon_out (start + period) }
 {
     LIMIT < start as u64 + period as u64
 }
@@ -39,19 +39,18 @@ pub fn horizon_out(start: u32, period: u32) -> bool
 // A table whose tasks are within their limits: number 9, or the table.
 fn by_horizon(cores: u32, fence: u64, rule: u32, tasks: [Task; MOST_TASKS], count: usize) -> Loaded
     requires fact_1 { 1 ≤ count }
-    requires fact_2 { count ≤ mostTasks }
+    requires fact_2 { count ≤ most_tasks }
     requires fact_3 { InLimits tasks count }
-    requires fact_4 { tasks ≡ codeTasks (tasksOf tasks count) }
-    ensures { result ≡ loadedBy (byHorizon (tableWith cores fence rule (tasksOf tasks count)))
-        (passing rule (tableWith cores fence rule (tasksOf tasks count))) }
+    requires fact_4 { tasks ≡ code_tasks (tasks_of tasks count) }
+    ensures { result ≡ loaded_by (by_horizon (table_with cores fence rule (tasks_of tasks count))) (passing rule (table_with cores fence rule (tasks_of tasks count))) }
 {
     let start = crate::positions::last_start(tasks, count);
     let period = crate::hyperperiod::hyperperiod(tasks, count);
     if horizon_out(start, period) {
-        return refused(numbers::LONG_HORIZON, 0);
+        return refused(9, 0);
     }
     Loaded {
-        answer: Answer::Taken,
+        answer: Answer::Passed,
         count: count,
         cores: cores,
         fence: fence,
@@ -65,8 +64,8 @@ fn by_horizon(cores: u32, fence: u64, rule: u32, tasks: [Task; MOST_TASKS], coun
 
 // The first place with a task that 7 or 8 turns down, or the count.
 fn first_out(wide: u32, tasks: [Task; MOST_TASKS], count: usize) -> usize
-    requires { count ≤ mostTasks }
-    ensures { result ≡ firstOut wide (tasksOf tasks count) }
+    requires { count ≤ most_tasks }
+    ensures { result ≡ first_out wide (tasks_of tasks count) }
 {
     let mut place: usize = 0;
     while place < count {
@@ -87,12 +86,11 @@ pub(crate) fn by_tasks(
     tasks: [Task; MOST_TASKS],
     count: usize,
 ) -> Loaded
-    requires fact_1 { cores ≤ mostCores }
+    requires fact_1 { cores ≤ most_cores }
     requires fact_2 { 1 ≤ count }
-    requires fact_3 { count ≤ mostTasks }
-    requires fact_4 { tasks ≡ codeTasks (tasksOf tasks count) }
-    ensures { result ≡ loadedBy (byTasks (tableWith cores fence rule (tasksOf tasks count)))
-        (passing rule (tableWith cores fence rule (tasksOf tasks count))) }
+    requires fact_3 { count ≤ most_tasks }
+    requires fact_4 { tasks ≡ code_tasks (tasks_of tasks count) }
+    ensures { result ≡ loaded_by (by_tasks (table_with cores fence rule (tasks_of tasks count))) (passing rule (table_with cores fence rule (tasks_of tasks count))) }
 {
     let wide = cores::unfenced_count(cores, fence);
     let place = first_out(wide, tasks, count);

@@ -1,11 +1,11 @@
 // P, the least common multiple of the periods, 2T for a task whose widths differ (scope: P; the field: hyperperiod).
 ghost use Rattle.std.specs.Prelude.{◌≡◌, ◌+◌, ◌≤◌, min};
 ghost use Rattle.model.specs.Horizon.{hyperperiod};
-ghost use Rattle.model.specs.Sizes.{mostTasks};
+ghost use Rattle.model.specs.Sizes.{most_tasks};
 ghost use Rattle.model.specs.Task.{cycle};
-ghost use Rattle.table.specs.Task.{task_of, tasksOf, InLimits};
+ghost use Rattle.table.specs.Task.{task_of, tasks_of, InLimits};
 ghost use Rattle.table.specs.Gcd.{Gcd};
-ghost use Rattle.table.specs.Limits.{mostHorizon};
+ghost use Rattle.table.specs.Limits.{most_horizon};
 
 use crate::Task;
 use crate::limits::MOST_HORIZON;
@@ -44,9 +44,9 @@ fn cycle(task: Task) -> u64
 
 // P, or one more than the longest horizon where it is above that.
 pub fn hyperperiod(tasks: [Task; MOST_TASKS], count: usize) -> u32
-    requires fact_1 { count ≤ mostTasks }
+    requires fact_1 { count ≤ most_tasks }
     requires fact_2 { InLimits tasks count }
-    ensures { result ≡ min (hyperperiod (tasksOf tasks count)) (mostHorizon + 1) }
+    ensures { result ≡ min (hyperperiod (tasks_of tasks count)) (most_horizon + 1) }
 {
     let mut multiple: u64 = 1;
     let mut i = 0;

@@ -10,7 +10,7 @@ pub mod positions; // positions.rt: the walk along the positions that finds the 
 pub mod hyperperiod; // hyperperiod.rt: P, the least common multiple of the periods, of 2T where widths differ
 
 use chain::Ending;
-use model::{MOST_TASKS, numbers};
+use model::MOST_TASKS;
 
 // The number of words of the header, and of each record.
 pub const HEADER: usize = 5;
@@ -28,18 +28,11 @@ pub struct Task {
     pub second: u32,
 }
 
-// The answer to a call: taken, or refused with number and position. A table is taken where it passes all numbers.
+// Whether a table passes all of these numbers, or the number that turns it down, with its position.
 #[derive(Drop)]
 pub enum Answer {
-    Taken,
+    Passed,
     Refused(u32, u32),
-}
-
-// The answer to a question about each task: the answer, and a figure for each task in priority order; zeros past the count, and in a refusal.
-#[derive(Drop)]
-pub struct FigureAnswer {
-    pub answer: Answer,
-    pub figures: [u32; MOST_TASKS],
 }
 
 // The answer, and beside it the table: the cores, the fence, which is a set of them, the tasks in priority order, zeros past the count, the last S, P and the
@@ -68,8 +61,8 @@ pub fn load(words: &[u32]) -> Loaded
     let walked = chain::walk(words);
     let ending = walked.ending;
     match ending {
-        Ending::Past => checks::refused(numbers::NO_RECORD, 0),
-        Ending::Again => checks::refused(numbers::RECORD_AGAIN, 0),
+        Ending::Past => checks::refused(5, 0),
+        Ending::Again => checks::refused(6, 0),
         Ending::Whole => {
             let tasks = walked.tasks;
             let count = walked.count;

@@ -1,7 +1,7 @@
 // S of a position after the first, from the S before it (scope: S; the field: start of the periodic part): one expression, with no branch here or in
 // anything it calls.
 ghost use Rattle.std.specs.Prelude.{◌≡◌, ◌≤◌};
-ghost use Rattle.model.specs.Horizon.{releaseFrom};
+ghost use Rattle.model.specs.Horizon.{release_from};
 ghost use Rattle.table.specs.Task.{task_of, TimesWithin};
 
 use crate::Task;
@@ -13,7 +13,7 @@ const BIAS: u32 = 67_108_864;
 pub(crate) fn release_from(task: Task, t: u32) -> u32
     requires fact_1 { TimesWithin task }
     requires fact_2 { t ≤ 32000000 }
-    ensures { result ≡ releaseFrom (task_of task) t }
+    ensures { result ≡ release_from (task_of task) t }
 {
     let offset = task.offset;
     let period = task.period;

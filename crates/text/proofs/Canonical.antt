@@ -5,7 +5,7 @@ use Prim.Native.Nat.{ℕ, suc, ◌≤◌, ◌<◌}
 use native.Mathlib.Omega.{arith}
 use lib.ListN.{length, get_or}
 use Rattle.text.specs.Decimal.{decimal}
-use Rattle.text.specs.Format.{largest, mostNumbers, Number, readWords, words_of, Lines, none, line, text_of}
+use Rattle.text.specs.Format.{largest, most_numbers, Number, read_words, words_of, Lines, none, line, text_of}
 use Rattle.text.proofs.Decimals.{decimal-some, decimal-most, decimal-digits, decimal-value}
 use Rattle.text.proofs.Exact.{text-exact}
 
@@ -23,5 +23,5 @@ lines-text (w ∷ ws) h =
     (line (number_of w (h 0 (omega arith))) (lines-text ws (λ i l. h (suc i) (omega arith))))
 
 -- at most 229 numbers, each up to 4,294,967,295, are read back from their text
-pub text-read : (ws : List ℕ) → length ws ≤ mostNumbers → ((i : ℕ) → i < length ws → get_or ws i 0 ≤ largest) → words_of (text_of ws) ≡ readWords ws
+pub text-read : (ws : List ℕ) → length ws ≤ most_numbers → ((i : ℕ) → i < length ws → get_or ws i 0 ≤ largest) → words_of (text_of ws) ≡ read_words ws
 text-read ws m h = (text-exact (text_of ws) ws).1 (record { lines = lines-text ws h; most = m })

@@ -8,86 +8,86 @@ use native.Mathlib.Omega.{arith}
 use lib.ListN.{length, get_or, length-append, get_or-append}
 use lib.Dec.{ltb, leb, eqb}
 use borrow.Author.Tests.{ltb-true, ltb-false, lt-ltb, le-ltb, leb-true, leb-false, eqb-true, eqb-false}
-use Rattle.text.specs.Decimal.{all, isDigit, Digit, Digits, value, lastDigits, digitsWithin, digitCount, decimal}
+use Rattle.text.specs.Decimal.{all, is_digit, Digit, Digits, value, last_digits, digits_within, digit_count, decimal}
 use Rattle.text.proofs.Every.{all_more}
 use Rattle.text.proofs.Values.{digit-exact, digits-exact, value-more, value-below}
 
-pub last-length : (k n : ℕ) → length (lastDigits k n) ≡ k
-unfolding lastDigits
+pub last-length : (k n : ℕ) → length (last_digits k n) ≡ k
+unfolding last_digits
 last-length zero n = refl
-last-length (suc k) n = length-append (lastDigits k (n / 10)) ((48 + n % 10) ∷ []) ∙ (let e = last-length k (n / 10) in omega arith)
+last-length (suc k) n = length-append (last_digits k (n / 10)) ((48 + n % 10) ∷ []) ∙ (let e = last-length k (n / 10) in omega arith)
 
-last-all : (k n : ℕ) → all isDigit (lastDigits k n) ≡ true
-unfolding lastDigits all
+last-all : (k n : ℕ) → all is_digit (last_digits k n) ≡ true
+unfolding last_digits all
 last-all zero n = refl
-last-all (suc k) n = all_more isDigit (lastDigits k (n / 10)) (48 + n % 10) (last-all k (n / 10)) ((digit-exact (48 + n % 10)).1 (omega arith))
+last-all (suc k) n = all_more is_digit (last_digits k (n / 10)) (48 + n % 10) (last-all k (n / 10)) ((digit-exact (48 + n % 10)).1 (omega arith))
 
 -- they represent the number, if it has no more
-pub last-value : (k n : ℕ) → n < 10 ^ k → value (lastDigits k n) ≡ n
-unfolding lastDigits value
+pub last-value : (k n : ℕ) → n < 10 ^ k → value (last_digits k n) ≡ n
+unfolding last_digits value
 last-value zero n h = omega arith
 last-value (suc k) n h =
-    let more = value-more (lastDigits k (n / 10)) (48 + n % 10) in
+    let more = value-more (last_digits k (n / 10)) (48 + n % 10) in
     let small : n < 10 ^ k * 10 = rw (← pow-suc 10 k) h in
     let e = last-value k (n / 10) (omega arith) in
     omega arith
 
 -- any bound that is above the number gives its count of digits
-within-enough : (k m n : ℕ) → n < k → n < m → digitsWithin k n ≡ digitsWithin m n
-unfolding digitsWithin
+within-enough : (k m n : ℕ) → n < k → n < m → digits_within k n ≡ digits_within m n
+unfolding digits_within
 within-enough zero m n h l = absurd (not-suc-le-zero h)
 within-enough (suc k) zero n h l = absurd (not-suc-le-zero l)
 within-enough (suc k) (suc m) n h l = go (ltb n 10) refl (within-enough k m (n / 10))
   where
-    go : (t : Bool) → ltb n 10 ≡ t → (n / 10 < k → n / 10 < m → digitsWithin k (n / 10) ≡ digitsWithin m (n / 10)) →
-        cond t 1 (suc (digitsWithin k (n / 10))) ≡ cond t 1 (suc (digitsWithin m (n / 10)))
+    go : (t : Bool) → ltb n 10 ≡ t → (n / 10 < k → n / 10 < m → digits_within k (n / 10) ≡ digits_within m (n / 10)) →
+        cond t 1 (suc (digits_within k (n / 10))) ≡ cond t 1 (suc (digits_within m (n / 10)))
     go true e ih = refl
     go false e ih = let b = ltb-false n 10 e in ap suc (ih (omega arith) (omega arith))
 
 -- 1 below 10
-pub count-one : (n : ℕ) → n < 10 → digitCount n ≡ 1
-unfolding digitCount digitsWithin
+pub count-one : (n : ℕ) → n < 10 → digit_count n ≡ 1
+unfolding digit_count digits_within
 count-one n h = rw (lt-ltb n 10 h)
 
-within_more : (k n : ℕ) → 10 ≤ n → digitsWithin (suc k) n ≡ suc (digitsWithin k (n / 10))
-unfolding digitsWithin
+within_more : (k n : ℕ) → 10 ≤ n → digits_within (suc k) n ≡ suc (digits_within k (n / 10))
+unfolding digits_within
 within_more k n h = rw (le-ltb n 10 h)
 
 -- .. else one more than n / 10 has
-pub count-more : (n : ℕ) → 10 ≤ n → digitCount n ≡ suc (digitCount (n / 10))
-unfolding digitCount
+pub count-more : (n : ℕ) → 10 ≤ n → digit_count n ≡ suc (digit_count (n / 10))
+unfolding digit_count
 count-more n h = within_more n n h ∙ ap suc (within-enough n (suc (n / 10)) (n / 10) (omega arith) (omega arith))
 
 -- this number of digits is enough for n
-within-fits : (k n : ℕ) → n < k → n < 10 ^ digitsWithin k n
-unfolding digitsWithin
+within-fits : (k n : ℕ) → n < k → n < 10 ^ digits_within k n
+unfolding digits_within
 within-fits zero n h = absurd (not-suc-le-zero h)
 within-fits (suc k) n h = go (ltb n 10) refl (within-fits k (n / 10))
   where
-    go : (t : Bool) → ltb n 10 ≡ t → (n / 10 < k → n / 10 < 10 ^ digitsWithin k (n / 10)) → n < 10 ^ cond t 1 (suc (digitsWithin k (n / 10)))
+    go : (t : Bool) → ltb n 10 ≡ t → (n / 10 < k → n / 10 < 10 ^ digits_within k (n / 10)) → n < 10 ^ cond t 1 (suc (digits_within k (n / 10)))
     go true e ih = ltb-true n 10 e
     go false e ih =
         let b = ltb-false n 10 e in
         let f = ih (omega arith) in
         rw pow-suc (omega arith)
 
-pub count_fits : (n : ℕ) → n < 10 ^ digitCount n
-unfolding digitCount
+pub count_fits : (n : ℕ) → n < 10 ^ digit_count n
+unfolding digit_count
 count_fits n = within-fits (suc n) n (omega arith)
 
-pub count-some : (n : ℕ) → 1 ≤ digitCount n
+pub count-some : (n : ℕ) → 1 ≤ digit_count n
 count-some n = go (ltb n 10) refl
   where
-    go : (t : Bool) → ltb n 10 ≡ t → 1 ≤ digitCount n
+    go : (t : Bool) → ltb n 10 ≡ t → 1 ≤ digit_count n
     go true e = omega (arith, count-one n (ltb-true n 10 e))
     go false e = omega (arith, count-more n (ltb-false n 10 e))
 
 -- .. and no more than k where n is below 10^k
-pub count_most : (k n : ℕ) → n < 10 ^ suc k → digitCount n ≤ suc k
+pub count_most : (k n : ℕ) → n < 10 ^ suc k → digit_count n ≤ suc k
 count_most zero n h = omega (arith, count-one n h)
 count_most (suc k) n h = go (ltb n 10) refl (count_most k (n / 10))
   where
-    go : (t : Bool) → ltb n 10 ≡ t → (n / 10 < 10 ^ suc k → digitCount (n / 10) ≤ suc k) → digitCount n ≤ suc (suc k)
+    go : (t : Bool) → ltb n 10 ≡ t → (n / 10 < 10 ^ suc k → digit_count (n / 10) ≤ suc k) → digit_count n ≤ suc (suc k)
     go true e ih = omega (arith, count-one n (ltb-true n 10 e))
     go false e ih =
         let b = ltb-false n 10 e in
@@ -100,12 +100,12 @@ count_most (suc k) n h = go (ltb n 10) refl (count_most k (n / 10))
 -- digits only
 pub decimal-digits : (n : ℕ) → Digits (decimal n)
 unfolding decimal
-decimal-digits n = (digits-exact (lastDigits (digitCount n) n)).0 (last-all (digitCount n) n)
+decimal-digits n = (digits-exact (last_digits (digit_count n) n)).0 (last-all (digit_count n) n)
 
 -- as many as n has
-pub decimal-length : (n : ℕ) → length (decimal n) ≡ digitCount n
+pub decimal-length : (n : ℕ) → length (decimal n) ≡ digit_count n
 unfolding decimal
-decimal-length n = last-length (digitCount n) n
+decimal-length n = last-length (digit_count n) n
 
 -- at least one, and at most ten where n is below 2^32
 pub decimal-some : (n : ℕ) → 1 ≤ length (decimal n)
@@ -117,7 +117,7 @@ decimal-most n h = omega (arith, decimal-length n, count_most 9 n (omega arith))
 -- reading back gives the number
 pub decimal-value : (n : ℕ) → value (decimal n) ≡ n
 unfolding decimal
-decimal-value n = last-value (digitCount n) n (count_fits n)
+decimal-value n = last-value (digit_count n) n (count_fits n)
 
 -- two numbers are never the same in decimal
 pub decimal_injective : (m n : ℕ) → decimal m ≡ decimal n → m ≡ n
@@ -125,11 +125,11 @@ decimal_injective m n e = sym (decimal-value m) ∙ ap value e ∙ decimal-value
 
 -- one digit below 10, else the digits of n / 10 and then the last
 pub decimal-one : (n : ℕ) → n < 10 → decimal n ≡ (48 + n) ∷ []
-unfolding decimal lastDigits
+unfolding decimal last_digits
 decimal-one n h = let e : n % 10 ≡ n = omega arith in rw (count-one n h, e)
 
 pub decimal-more : (n : ℕ) → 10 ≤ n → decimal n ≡ decimal (n / 10) ++ ((48 + n % 10) ∷ [])
-unfolding decimal lastDigits
+unfolding decimal last_digits
 decimal-more n h = rw (count-more n h)
 
 -- only 0 begins with `0`
@@ -184,17 +184,17 @@ same_digits (d ∷ ds) (x ∷ es) p q l e =
     ap₂ (λ (y : ℕ) (ys : List ℕ). y ∷ ys) same (same_digits ds es p' q' l' h.1)
 
 -- a number from 10^k up and below 10^(k+1) has k + 1 digits
-count-exact : (k n : ℕ) → 10 ^ k ≤ n → n < 10 ^ suc k → digitCount n ≡ suc k
-count-exact k n l h = go (leb (digitCount n) k) refl
+count-exact : (k n : ℕ) → 10 ^ k ≤ n → n < 10 ^ suc k → digit_count n ≡ suc k
+count-exact k n l h = go (leb (digit_count n) k) refl
   where
-    go : (t : Bool) → leb (digitCount n) k ≡ t → digitCount n ≡ suc k
+    go : (t : Bool) → leb (digit_count n) k ≡ t → digit_count n ≡ suc k
     go true e =
-        let few : 10 ^ digitCount n ≤ 10 ^ k = pow-le-pow_right (omega arith) (leb-true (digitCount n) k e) in
+        let few : 10 ^ digit_count n ≤ 10 ^ k = pow-le-pow_right (omega arith) (leb-true (digit_count n) k e) in
         absurd (omega (arith, count_fits n))
-    go false e = omega (arith, count_most k n h, leb-false (digitCount n) k e)
+    go false e = omega (arith, count_most k n h, leb-false (digit_count n) k e)
 
 -- digits with no zeros in front are as many as their number has
-only-count : (ds : List ℕ) → Digits ds → 1 ≤ length ds → NoZeros ds → digitCount (value ds) ≡ length ds
+only-count : (ds : List ℕ) → Digits ds → 1 ≤ length ds → NoZeros ds → digit_count (value ds) ≡ length ds
 unfolding value
 only-count [] p s z = absurd (omega arith)
 only-count (d ∷ ds) p s z = go (eqb d 48) refl
@@ -202,7 +202,7 @@ only-count (d ∷ ds) p s z = go (eqb d 48) refl
     below : value (d ∷ ds) < 10 ^ suc (length ds)
     below = value-below (d ∷ ds) p
 
-    go : (t : Bool) → eqb d 48 ≡ t → digitCount (value (d ∷ ds)) ≡ suc (length ds)
+    go : (t : Bool) → eqb d 48 ≡ t → digit_count (value (d ∷ ds)) ≡ suc (length ds)
     go true e =
         let one : suc (length ds) ≡ 1 = z (eqb-true d 48 e) in
         let small : value (d ∷ ds) < 10 ^ 1 = rw one at below in

@@ -1,15 +1,16 @@
 -- Texts and what they are read as, and the scope's own print of A and of some others, computed from the definitions.
 use mathlib.Core.List.{List, [], ◌∷◌, map}
 use mathlib.Core.Path.{◌≡◌, refl}
+use Prim.Native.Nat.{ℕ}
 use Prim.Native.String.{String}
 use lib.ListN.{replicate}
 use Rattle.model.specs.Task.{Table, greedy, idling, lending, limited}
-use Rattle.model.proofs.Computing.{Computes, computing}
-use Rattle.model.proofs.Examples.{A, fencedOn, on, t, t₂}
-use Rattle.text.specs.Decimal.{all, value, decimal, lastDigits, digitCount, digitsWithin}
-use Rattle.text.specs.Format.{Words, readWords, noText, words_of, lines, is_number, text_of}
+use Rattle.model.proofs.Computing.{computing}
+use Rattle.model.proofs.Examples.{A, fenced_on, on, t, t₂}
+use Rattle.text.specs.Decimal.{all, value, decimal, last_digits, digit_count, digits_within}
+use Rattle.text.specs.Format.{Words, read_words, no_text, words_of, lines, is_number, text_of}
 use Rattle.judge.specs.JudgeAnswer.{refused}
-use Rattle.text.specs.Output.{letters, fields, line_of, firstLine, row_line, row_lines, printed}
+use Rattle.text.specs.Output.{letters, fields, line_of, first_line, row_line, row_lines, printed}
 
 -- a text and what it is read as
 pub record Case : Type 0 where
@@ -21,23 +22,23 @@ case s w = record { text = s; reads = w }
 
 abbrev pub cases : List Case
 cases =
-    case "3\n12\n0\n" (readWords (3 ∷ 12 ∷ 0 ∷ []))
+    case "3\n12\n0\n" (read_words (3 ∷ 12 ∷ 0 ∷ []))
     -- the last line may lack its newline
-    ∷ case "3\n12" (readWords (3 ∷ 12 ∷ []))
+    ∷ case "3\n12" (read_words (3 ∷ 12 ∷ []))
     -- no line is no number
-    ∷ case "" (readWords [])
+    ∷ case "" (read_words [])
     -- zeros in front count as digits
-    ∷ case "007" (readWords (7 ∷ []))
-    ∷ case "0000000007" (readWords (7 ∷ []))
-    ∷ case "00000000007" noText
-    ∷ case "4294967295" (readWords (4294967295 ∷ []))
-    ∷ case "4294967296" noText
+    ∷ case "007" (read_words (7 ∷ []))
+    ∷ case "0000000007" (read_words (7 ∷ []))
+    ∷ case "00000000007" no_text
+    ∷ case "4294967295" (read_words (4294967295 ∷ []))
+    ∷ case "4294967296" no_text
     -- empty lines and other characters
-    ∷ case "\n" noText
-    ∷ case "3\n\n" noText
-    ∷ case "+3\n" noText
-    ∷ case "3 \n" noText
-    ∷ case "3\r\n" noText
+    ∷ case "\n" no_text
+    ∷ case "3\n\n" no_text
+    ∷ case "+3\n" no_text
+    ∷ case "3 \n" no_text
+    ∷ case "3\r\n" no_text
     ∷ []
 
 -- the value by the definitions of a text; a case is named by its text
@@ -46,9 +47,13 @@ unfolding words_of lines is_number all value
 texts = refl
 
 -- H: the numbers of 32 records are read, those of 33 are not
-pub most-read : Computes (λ ws. words_of (text_of ws)) ((replicate 229 0, readWords (replicate 229 0)) ∷ (replicate 236 0, noText) ∷ [])
-unfolding words_of lines is_number all value text_of decimal lastDigits digitCount digitsWithin
+pub most-read : words_of (text_of (replicate 229 0)) ≡ read_words (replicate 229 0)
+unfolding words_of lines is_number all value text_of decimal last_digits digit_count digits_within
 most-read = refl
+
+pub more-refused : words_of (text_of (replicate 236 0)) ≡ no_text
+unfolding words_of lines is_number all value text_of decimal last_digits digit_count digits_within
+more-refused = refl
 
 -- a table by its name, and what is printed for it
 pub record Print : Type 0 where
@@ -63,14 +68,10 @@ prints =
     ∷ record { name = "A under rule 3"; table = A idling; text = "firm 0 5\n0 1 1 3\n1 1 1 3\n2 2 2 3\n3 2 2 3\n4 2 2 0\n" }
     ∷ record { name = "A under rule 4, as under rule 3"; table = A lending; text = "firm 0 5\n0 1 1 3\n1 1 1 3\n2 2 2 3\n3 2 2 3\n4 2 2 0\n" }
     ∷ record { name = "F: the rows stop before the miss"; table = on 1 greedy (t 0 1 2 1 2 ∷ []); text = "miss 1 1\n0 1\n" }
-    ∷ record {
-      name = "E: an idle core is 0";
-      table = on 1 limited (t 1 1 1 1 2 ∷ t 0 1 1 2 3 ∷ []);
-      text = "firm 3 6\n0 2\n1 1\n2 0\n3 1\n4 2\n5 1\n6 2\n7 1\n8 0\n";
-    }
+    ∷ record { name = "E: an idle core is 0"; table = on 1 limited (t 1 1 1 1 2 ∷ t 0 1 1 2 3 ∷ []); text = "firm 3 6\n0 2\n1 1\n2 0\n3 1\n4 2\n5 1\n6 2\n7 1\n8 0\n" }
     ∷ record {
       name = "A on five cores, of which 0 and 3 are fenced";
-      table = fencedOn 5 9 greedy (A greedy).tasks;
+      table = fenced_on 5 9 greedy (A greedy).tasks;
       text = "full 0 5\n0 255 1 1 255 3\n1 255 1 1 255 3\n2 255 2 2 255 3\n3 255 2 2 255 3\n4 255 2 2 255 0\n";
     }
     ∷ record {
@@ -82,10 +83,10 @@ prints =
 
 -- what is printed for a table, and what is to be
 pub prints-exact : map (λ p. printed p.table) prints ≡ map (λ p. letters p.text) prints
-unfolding printed firstLine row_line row_lines line_of fields decimal lastDigits digitCount digitsWithin computing
+unfolding printed first_line row_line row_lines line_of fields decimal last_digits digit_count digits_within computing
 prints-exact = refl
 
 -- a refusal
-pub refusal : firstLine (refused 8 12) ≡ letters "refused 8 12\n"
-unfolding firstLine line_of fields decimal lastDigits digitCount digitsWithin
+pub refusal : first_line (refused 8 12) ≡ letters "refused 8 12\n"
+unfolding first_line line_of fields decimal last_digits digit_count digits_within
 refusal = refl

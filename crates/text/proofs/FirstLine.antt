@@ -12,7 +12,7 @@ use Rattle.model.specs.Verdict.{Firm, Full, Miss}
 use Rattle.text.specs.Decimal.{Digits, Digit, decimal}
 use Rattle.text.specs.Format.{newline}
 use Rattle.judge.specs.JudgeAnswer.{JudgeAnswer, judged, refused}
-use Rattle.text.specs.Output.{letters, space, fields, line_of, firstLine}
+use Rattle.text.specs.Output.{letters, space, fields, line_of, first_line}
 use Rattle.text.proofs.Decimals.{decimal-digits, decimal_injective}
 
 -- digits end where the first byte below `0` is
@@ -69,8 +69,8 @@ made : (f : ℕ → ℕ → JudgeAnswer) {a b a' b' : ℕ} {r r' : List ℕ} →
 made f t = (ap₂ f t.0 t.1, t.2)
 
 -- what is printed determines the verdict or the refusal, and what is printed after its line
-pub first-determined : (x y : JudgeAnswer) (r s : List ℕ) → firstLine x ++ r ≡ firstLine y ++ s → (x ≡ y) × (r ≡ s)
-unfolding firstLine
+pub first-determined : (x y : JudgeAnswer) (r s : List ℕ) → first_line x ++ r ≡ first_line y ++ s → (x ≡ y) × (r ≡ s)
+unfolding first_line
 first-determined (judged (Firm a b)) (judged (Firm a' b')) r s e = made (λ m n. judged (Firm m n)) (agree (letters "firm") a b a' b' r s e)
 first-determined (judged (Firm a b)) (judged (Full a' b')) r s e = absurd (differ 1 (letters "firm") (letters "full") refl a b a' b' r s e)
 first-determined (judged (Firm a b)) (judged (Miss a' b')) r s e = absurd (differ 0 (letters "firm") (letters "miss") refl a b a' b' r s e)

@@ -8,41 +8,38 @@ use Rattle.model.specs.Task.{Table}
 use Rattle.model.specs.Verdict.{verdict}
 use Rattle.model.specs.Horizon.{horizon}
 use Rattle.table.specs.declared.Answer as loaded
-use Rattle.table.specs.declared.Answer.TheVariants.{Taken, Refused}
+use Rattle.table.specs.declared.Answer.TheVariants.{Passed, Refused}
 use Rattle.table.specs.Words.{table_of}
-use Rattle.table.specs.Answer.{answer_of, headerNumber}
-use Rattle.judge.specs.Judged.{judgedBy, verdictOf}
-use Rattle.judge.specs.JudgeAnswer.{judged, verdictMeaning, verdictCase}
+use Rattle.table.specs.Answer.{answer_of, header_number}
+use Rattle.judge.specs.Judged.{judged_by, verdict_of}
+use Rattle.judge.specs.JudgeAnswer.{judged, verdict_meaning, verdict_case}
 use Rattle.judge.proofs.Contract.{meaning-case}
-use Rattle.text.specs.Format.{enoughBytes, Words, readWords, noText, words_of, numbersIn}
-use Rattle.text.specs.Output.{firstLine, row_lines, rowsPrinted, printed, printedBy, outputOf, output}
-use Rattle.text.specs.FirstLine.{firstFor}
+use Rattle.text.specs.Format.{enough_bytes, Words, read_words, no_text, words_of, numbers_in}
+use Rattle.text.specs.Output.{first_line, row_lines, rows_printed, printed, printed_by, output_of, output}
+use Rattle.text.specs.FirstLine.{first_for}
 use Rattle.text.proofs.Exact.{first-enough}
 
 -- by what is answered to the words
-first_of : (a : loaded.Answer) (s : Table) → (rows : List ℕ) × (printedBy a s ≡ firstLine (verdictMeaning (verdictCase (judgedBy a s))) ++ rows)
+first_of : (a : loaded.Answer) (s : Table) → (rows : List ℕ) × (printed_by a s ≡ first_line (verdict_meaning (verdict_case (judged_by a s))) ++ rows)
 unfolding printed
-first_of Taken s = (
-  row_lines s 0 (rowsPrinted (verdict s) (horizon s)),
-  ap (λ x. firstLine x ++ row_lines s 0 (rowsPrinted (verdict s) (horizon s))) (sym (meaning-case (judged (verdict s)))),
-)
-first_of (Refused n p) s = ([], sym (append-nil (firstLine (verdictMeaning (verdictCase (judgedBy (Refused n p) s))))))
+first_of Passed s = (row_lines s 0 (rows_printed (verdict s) (horizon s)), ap (λ x. first_line x ++ row_lines s 0 (rows_printed (verdict s) (horizon s))) (sym (meaning-case (judged (verdict s)))))
+first_of (Refused n p) s = ([], sym (append-nil (first_line (verdict_meaning (verdict_case (judged_by (Refused n p) s))))))
 
 -- no numbers are turned down with 1, as what is no table's text
-first-none : (rows : List ℕ) × (outputOf noText ≡ firstLine (verdictMeaning (verdictOf [])) ++ rows)
-unfolding verdictOf answer_of headerNumber
-first-none = ([], sym (append-nil (outputOf noText)))
+first-none : (rows : List ℕ) × (output_of no_text ≡ first_line (verdict_meaning (verdict_of [])) ++ rows)
+unfolding verdict_of answer_of header_number
+first-none = ([], sym (append-nil (output_of no_text)))
 
 -- THEOREM (first-printed): all that is printed begins with that line
-pub first-printed : (bs : List ℕ) → (rows : List ℕ) × (output bs ≡ firstFor bs ++ rows)
-unfolding output firstFor verdictOf
+pub first-printed : (bs : List ℕ) → (rows : List ℕ) × (output bs ≡ first_for bs ++ rows)
+unfolding output first_for verdict_of
 first-printed bs = go (words_of bs)
   where
-    go : (w : Words) → (rows : List ℕ) × (outputOf w ≡ firstLine (verdictMeaning (verdictOf (numbersIn w))) ++ rows)
-    go (readWords ws) = first_of (answer_of ws) (table_of ws)
-    go noText = first-none
+    go : (w : Words) → (rows : List ℕ) × (output_of w ≡ first_line (verdict_meaning (verdict_of (numbers_in w))) ++ rows)
+    go (read_words ws) = first_of (answer_of ws) (table_of ws)
+    go no_text = first-none
 
 -- so the first 2,520 bytes of an input decide it
-pub first-line-enough : (bs : List ℕ) → firstFor (take enoughBytes bs) ≡ firstFor bs
-unfolding firstFor
-first-line-enough bs = ap (λ w. firstLine (verdictMeaning (verdictOf (numbersIn w)))) (first-enough bs enoughBytes (omega arith))
+pub first-line-enough : (bs : List ℕ) → first_for (take enough_bytes bs) ≡ first_for bs
+unfolding first_for
+first-line-enough bs = ap (λ w. first_line (verdict_meaning (verdict_of (numbers_in w)))) (first-enough bs enough_bytes (omega arith))

@@ -10,7 +10,6 @@ pub mod ReadOf
 pub mod Canonical
 pub mod FirstLine
 pub mod FirstPrinted
-pub mod RowsPrinted
 pub mod Writing
 pub mod RowText
 pub mod Examples

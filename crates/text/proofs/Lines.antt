@@ -12,56 +12,56 @@ use lib.Dec.{eqb}
 use borrow.Author.Tests.{eqb-true, eq-eqb, ne_eqb}
 use Rattle.text.specs.Decimal.{Digits}
 use Rattle.text.specs.Format.{newline, joined, lines}
-use Rattle.text.specs.Input.{lengthTo, lineLength}
+use Rattle.text.specs.Input.{length_to, line_length}
 
 -- what ends at a mark is no longer than all
-pub mark-within : (m : ℕ) (bs : List ℕ) → lengthTo m bs ≤ length bs
-unfolding lengthTo
+pub mark-within : (m : ℕ) (bs : List ℕ) → length_to m bs ≤ length bs
+unfolding length_to
 mark-within m [] = omega arith
 mark-within m (b ∷ bs) = go (eqb b m) (mark-within m bs)
   where
-    go : (t : Bool) → lengthTo m bs ≤ length bs → cond t 0 (suc (lengthTo m bs)) ≤ suc (length bs)
+    go : (t : Bool) → length_to m bs ≤ length bs → cond t 0 (suc (length_to m bs)) ≤ suc (length bs)
     go true ih = omega arith
     go false ih = omega arith
 
 -- what ends before the bytes do ends at the mark
-pub mark-stop : (m : ℕ) (bs : List ℕ) → lengthTo m bs < length bs → get_or bs (lengthTo m bs) 0 ≡ m
-unfolding lengthTo
+pub mark-stop : (m : ℕ) (bs : List ℕ) → length_to m bs < length bs → get_or bs (length_to m bs) 0 ≡ m
+unfolding length_to
 mark-stop m [] l = absurd (not-suc-le-zero l)
 mark-stop m (b ∷ bs) l = go (eqb b m) refl (mark-stop m bs) l
   where
     go :
-        (t : Bool) → eqb b m ≡ t → (lengthTo m bs < length bs → get_or bs (lengthTo m bs) 0 ≡ m)
-        → cond t 0 (suc (lengthTo m bs)) < suc (length bs) → get_or (b ∷ bs) (cond t 0 (suc (lengthTo m bs))) 0 ≡ m
+        (t : Bool) → eqb b m ≡ t → (length_to m bs < length bs → get_or bs (length_to m bs) 0 ≡ m)
+        → cond t 0 (suc (length_to m bs)) < suc (length bs) → get_or (b ∷ bs) (cond t 0 (suc (length_to m bs))) 0 ≡ m
     go true e ih l = eqb-true b m e
     go false e ih l = ih (le_of_suc-le-suc l)
 
 -- from an index on: the mark there ends it at once, any other byte belongs to it, and past the last byte there is nothing
-pub mark-here : (m : ℕ) (bs : List ℕ) (i : ℕ) → i < length bs → get_or bs i 0 ≡ m → lengthTo m (drop i bs) ≡ 0
-unfolding lengthTo
+pub mark-here : (m : ℕ) (bs : List ℕ) (i : ℕ) → i < length bs → get_or bs i 0 ≡ m → length_to m (drop i bs) ≡ 0
+unfolding length_to
 mark-here m bs i l e = rw (drop-cons bs i 0 l, e, eq-eqb m m refl)
 
-pub mark_on : (m : ℕ) (bs : List ℕ) (i : ℕ) → i < length bs → (get_or bs i 0 ≡ m → ⊥) → lengthTo m (drop i bs) ≡ suc (lengthTo m (drop (i + 1) bs))
-unfolding lengthTo
+pub mark_on : (m : ℕ) (bs : List ℕ) (i : ℕ) → i < length bs → (get_or bs i 0 ≡ m → ⊥) → length_to m (drop i bs) ≡ suc (length_to m (drop (i + 1) bs))
+unfolding length_to
 mark_on m bs i l n = rw (add-one, drop-cons bs i 0 l, ne_eqb (get_or bs i 0) m n)
 
-pub mark-none : (m : ℕ) (bs : List ℕ) (i : ℕ) → length bs ≤ i → lengthTo m (drop i bs) ≡ 0
-unfolding lengthTo
+pub mark-none : (m : ℕ) (bs : List ℕ) (i : ℕ) → length bs ≤ i → length_to m (drop i bs) ≡ 0
+unfolding length_to
 mark-none m bs i l = rw (drop_of_length-le bs l)
 
 -- a line is no longer than the text, and one that ends before the text does ends at a newline
-pub line-within : (bs : List ℕ) → lineLength bs ≤ length bs
+pub line-within : (bs : List ℕ) → line_length bs ≤ length bs
 line-within = mark-within newline
 
-pub line-stop : (bs : List ℕ) → lineLength bs < length bs → get_or bs (lineLength bs) 0 ≡ newline
+pub line-stop : (bs : List ℕ) → line_length bs < length bs → get_or bs (line_length bs) 0 ≡ newline
 line-stop = mark-stop newline
 
-pub line-split : (bs : List ℕ) → lineLength bs < length bs → bs ≡ take (lineLength bs) bs ++ (newline ∷ drop (suc (lineLength bs)) bs)
-line-split bs l = split_at bs (lineLength bs) 0 l ∙ ap (λ (b : ℕ). take (lineLength bs) bs ++ (b ∷ drop (suc (lineLength bs)) bs)) (line-stop bs l)
+pub line-split : (bs : List ℕ) → line_length bs < length bs → bs ≡ take (line_length bs) bs ++ (newline ∷ drop (suc (line_length bs)) bs)
+line-split bs l = split_at bs (line_length bs) 0 l ∙ ap (λ (b : ℕ). take (line_length bs) bs ++ (b ∷ drop (suc (line_length bs)) bs)) (line-stop bs l)
 
 -- the lines of a text that is not empty: the first one, and the lines of what is after its newline
-pub lines-first : (b : ℕ) (bs : List ℕ) → lines (b ∷ bs) ≡ take (lineLength (b ∷ bs)) (b ∷ bs) ∷ lines (drop (suc (lineLength (b ∷ bs))) (b ∷ bs))
-unfolding lines lengthTo
+pub lines-first : (b : ℕ) (bs : List ℕ) → lines (b ∷ bs) ≡ take (line_length (b ∷ bs)) (b ∷ bs) ∷ lines (drop (suc (line_length (b ∷ bs))) (b ∷ bs))
+unfolding lines length_to
 lines-first b [] = go (eqb b newline)
   where
     go : (t : Bool) → cond t ([] ∷ []) (joined b []) ≡ take (cond t 0 1) (b ∷ []) ∷ lines (drop (suc (cond t 0 1)) (b ∷ []))
@@ -69,9 +69,9 @@ lines-first b [] = go (eqb b newline)
     go false = refl
 lines-first b (b' ∷ bs) = go (eqb b newline) (lines-first b' bs)
   where
-    go : (t : Bool) → lines (b' ∷ bs) ≡ take (lineLength (b' ∷ bs)) (b' ∷ bs) ∷ lines (drop (suc (lineLength (b' ∷ bs))) (b' ∷ bs)) →
-        cond t ([] ∷ lines (b' ∷ bs)) (joined b (lines (b' ∷ bs))) ≡ take (cond t 0 (suc (lineLength (b' ∷ bs))))
-        (b ∷ b' ∷ bs) ∷ lines (drop (suc (cond t 0 (suc (lineLength (b' ∷ bs))))) (b ∷ b' ∷ bs))
+    go : (t : Bool) → lines (b' ∷ bs) ≡ take (line_length (b' ∷ bs)) (b' ∷ bs) ∷ lines (drop (suc (line_length (b' ∷ bs))) (b' ∷ bs)) →
+        cond t ([] ∷ lines (b' ∷ bs)) (joined b (lines (b' ∷ bs))) ≡ take (cond t 0 (suc (line_length (b' ∷ bs))))
+        (b ∷ b' ∷ bs) ∷ lines (drop (suc (cond t 0 (suc (line_length (b' ∷ bs))))) (b ∷ b' ∷ bs))
     go true ih = refl
     go false ih = ap (joined b) ih
 

@@ -30,17 +30,12 @@ fields-next row c h =
     ∙ sym (fields-append (take c row) (get_or row c 0 ∷ []))
     ∙ ap fields (sym (ap (λ (j : ℕ). take j row) (add-one c) ∙ take-suc row c 0 h))
 
--- .. as a cell of its own
-pub fields-cell : (row : List ℕ) (c : ℕ) → c < length row → fields (take c row) ++ fields (get_or row c 0 ∷ []) ≡ fields (take (c + 1) row)
-fields-cell row c h =
-    sym (fields-append (take c row) (get_or row c 0 ∷ [])) ∙ ap fields (sym (ap (λ (j : ℕ). take j row) (add-one c) ∙ take-suc row c 0 h))
-
--- a cell: a space, and a number in decimal
-pub put-cell :
-    (l n : List ℕ) (at end x : ℕ) → at < length l → Put (set l at space) (at + 1) (decimal x) n end → end ≤ length l → Put l at (fields (x ∷ [])) n end
-unfolding fields
-put-cell l n at end x f q k =
-    subst (λ (s : List ℕ). Put l at (space ∷ s) n end) (sym (append-nil (decimal x))) (put_then (put_one l at space f) q k)
+-- the position of one core more
+pub put-core :
+    (l m n : List ℕ) (at end c : ℕ) (row : List ℕ) → Put l 0 (fields (take c row)) m at → c < length row → at < length m → length m ≡ length l
+    → Put (set m at space) (at + 1) (decimal (get_or row c 0)) n end → at < end → end ≤ length l → Put l 0 (fields (take (c + 1) row)) n end
+put-core l m n at end c row p h f e q g k =
+    subst (λ (s : List ℕ). Put l 0 s n end) (fields-next row c h) (put_then (put_then p (put_one m at space f) (omega arith)) q k)
 
 -- two digits
 pub decimal-two : (n : ℕ) → 10 ≤ n → n < 100 → decimal n ≡ (48 + n / 10) ∷ (48 + n % 10) ∷ []

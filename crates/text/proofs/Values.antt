@@ -10,18 +10,18 @@ use lib.ListN.{length, get_or, length-append}
 use lib.Dec.{leb}
 use borrow.Author.Tests.{leb-true, le-leb}
 use Rattle.model.proofs.Bools.{and_left, and_right, and_both}
-use Rattle.text.specs.Decimal.{all, isDigit, Digit, Digits, value}
+use Rattle.text.specs.Decimal.{all, is_digit, Digit, Digits, value}
 use Rattle.text.proofs.Every.{all-at, all_of}
 
-pub digit-exact : (b : ℕ) → (isDigit b ≡ true) ↔ Digit b
+pub digit-exact : (b : ℕ) → (is_digit b ≡ true) ↔ Digit b
 digit-exact b = (
   λ e. (leb-true 48 b (and_left (leb 48 b) (leb b 57) e), leb-true b 57 (and_right (leb 48 b) (leb b 57) e)),
   λ h. and_both (leb 48 b) (leb b 57) (le-leb 48 b h.0) (le-leb b 57 h.1),
 )
 
 -- the test of digits is exact
-pub digits-exact : (ds : List ℕ) → (all isDigit ds ≡ true) ↔ Digits ds
-digits-exact ds = (λ e i l. (digit-exact (get_or ds i 0)).0 (all-at isDigit ds 0 e i l), λ h. all_of isDigit ds 0 (λ i l. (digit-exact (get_or ds i 0)).1 (h i l)))
+pub digits-exact : (ds : List ℕ) → (all is_digit ds ≡ true) ↔ Digits ds
+digits-exact ds = (λ e i l. (digit-exact (get_or ds i 0)).0 (all-at is_digit ds 0 e i l), λ h. all_of is_digit ds 0 (λ i l. (digit-exact (get_or ds i 0)).1 (h i l)))
 
 -- one digit more
 pub value-more : (ds : List ℕ) (d : ℕ) → value (ds ++ (d ∷ [])) ≡ value ds * 10 + (d - 48)

@@ -7,7 +7,7 @@ use native.Mathlib.Numerals.{add-one}
 use native.Mathlib.Omega.{arith}
 use lib.ListN.{length, take, drop, set, get_or, take-append-drop, length-append, length-drop}
 use lib.Seq.{take-suc, append_snoc, set_at, set_split, take_at, drop-append-add, drop-drop, length-take-le}
-use Rattle.text.specs.Decimal.{lastDigits}
+use Rattle.text.specs.Decimal.{last_digits}
 use Rattle.text.specs.Written.{written, Put}
 
 -- nothing is written
@@ -29,12 +29,12 @@ pub written-length : (l : List ℕ) (i : ℕ) (s : List ℕ) → i + length s �
 written-length l i s h = simp (length-append, length-drop) (rw (length-take-le i l (omega arith)) (omega arith))
 
 -- the last digit of a number, before what was written
-pub last-before : (k n : ℕ) (s : List ℕ) → 0 < k → lastDigits (k - 1) (n / 10) ++ ((48 + n % 10) ∷ s) ≡ lastDigits k n ++ s
-unfolding lastDigits
+pub last-before : (k n : ℕ) (s : List ℕ) → 0 < k → last_digits (k - 1) (n / 10) ++ ((48 + n % 10) ∷ s) ≡ last_digits k n ++ s
+unfolding last_digits
 last-before zero n s h = absurd (not-suc-le-zero h)
 last-before (suc k) n s h =
     let e : suc k - 1 ≡ k = omega arith in
-    rw e (sym (append_snoc (lastDigits k (n / 10)) (48 + n % 10) s))
+    rw e (sym (append_snoc (last_digits k (n / 10)) (48 + n % 10) s))
 
 -- one byte
 pub written_one : (l : List ℕ) (i d : ℕ) → i < length l → set l i d ≡ written l i (d ∷ [])

@@ -1,32 +1,32 @@
 -- The result of `read` on the bytes, and of its two helpers.
 use Rattle.std.specs.Prelude.{true, false, cond, List, [], ◌∷◌, ◌++◌, ◌↔◌, ◌≡◌, ℕ, suc, ◌-◌, ◌≤◌, length, take, drop, replicate, eqb}
 use Rattle.text.specs.Decimal.{value}
-use Rattle.text.specs.Format.{newline, mostNumbers, is_number, Words, readWords, noText, words_of, IsText}
+use Rattle.text.specs.Format.{newline, most_numbers, is_number, Words, read_words, no_text, words_of, IsText}
 use Rattle.text.specs.declared.Input.{Input}
 use Rattle.text.specs.declared.line.ParsedNumber.{ParsedNumber}
 use Rattle.text.specs.declared.line.ParsedNumber.TheVariants.{Value, Nothing}
 
 -- the number of bytes before the first byte `mark`, or in all where there is none
-unfoldable pub lengthTo : ℕ → List ℕ → ℕ
-lengthTo mark [] = 0
-lengthTo mark (b ∷ bs) = cond (eqb b mark) 0 (suc (lengthTo mark bs))
+unfoldable pub length_to : ℕ → List ℕ → ℕ
+length_to mark [] = 0
+length_to mark (b ∷ bs) = cond (eqb b mark) 0 (suc (length_to mark bs))
 
 -- .. before the first newline: the length of the first line
-abbrev pub lineLength : List ℕ → ℕ
-lineLength bs = lengthTo newline bs
+abbrev pub line_length : List ℕ → ℕ
+line_length bs = length_to newline bs
 
 -- the number that a line represents, or nothing
-abbrev pub parseNumber : List ℕ → ParsedNumber
-parseNumber l = cond (is_number l) (Value (value l)) Nothing
+abbrev pub parse_number : List ℕ → ParsedNumber
+parse_number l = cond (is_number l) (Value (value l)) Nothing
 
 -- the numbers in 229 places, zeros past the last
-abbrev pub padNumbers : List ℕ → List ℕ
-padNumbers ws = ws ++ replicate (mostNumbers - length ws) 0
+abbrev pub pad_numbers : List ℕ → List ℕ
+pad_numbers ws = ws ++ replicate (most_numbers - length ws) 0
 
 -- a text is accepted, with its numbers and their count; of other bytes all is zero
 abbrev pub input_of : Words → Input
-input_of (readWords ws) = record { accepted = true; count = length ws; words = padNumbers ws }
-input_of noText = record { accepted = false; count = 0; words = replicate mostNumbers 0 }
+input_of (read_words ws) = record { accepted = true; count = length ws; words = pad_numbers ws }
+input_of no_text = record { accepted = false; count = 0; words = replicate most_numbers 0 }
 
 -- the contract of `read` on the bytes
 pub record ReadOf (bs : List ℕ) (r : Input) : Type 0 where
@@ -35,7 +35,7 @@ pub record ReadOf (bs : List ℕ) (r : Input) : Type 0 where
   -- accepted with the numbers ws exactly if the bytes are the text of ws
   pub text : (ws : List ℕ) → ((r.accepted ≡ true) × (take r.count r.words ≡ ws)) ↔ IsText bs ws
   -- turned down exactly if they are the text of no numbers
-  pub noText : (r.accepted ≡ false) ↔ ((ws : List ℕ) → ¬ IsText bs ws)
+  pub no_text : (r.accepted ≡ false) ↔ ((ws : List ℕ) → ¬ IsText bs ws)
   -- at most 229 numbers, and zeros past them
-  pub most : r.count ≤ mostNumbers
-  pub past : drop r.count r.words ≡ replicate (mostNumbers - r.count) 0
+  pub most : r.count ≤ most_numbers
+  pub past : drop r.count r.words ≡ replicate (most_numbers - r.count) 0

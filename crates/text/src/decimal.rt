@@ -1,11 +1,11 @@
 // Numbers written in decimal.
 ghost use Rattle.std.specs.Prelude.{◌≡◌, ◌+◌, ◌≤◌, length};
-ghost use Rattle.text.specs.Decimal.{digitCount, decimal};
+ghost use Rattle.text.specs.Decimal.{digit_count, decimal};
 ghost use Rattle.text.specs.Written.{Put};
 
 // The number of digits of a number.
 fn digits(number: u64) -> usize
-    ensures { result ≡ digitCount number }
+    ensures { result ≡ digit_count number }
 {
     let mut left = number;
     let mut count: usize = 1;
@@ -18,7 +18,7 @@ fn digits(number: u64) -> usize
 
 // Writes a number in decimal into the line from `at` on; returns where it ends.
 pub fn put(line: &mut [u8], at: usize, number: u64) -> usize
-    requires { at + digitCount number ≤ length line.old }
+    requires { at + digit_count number ≤ length line.old }
     ensures { Put line.old at (decimal number) line.new result }
 {
     let count = digits(number);

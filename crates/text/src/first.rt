@@ -1,9 +1,9 @@
 // The first line that is printed, the verdict's, and the number of rows after it.
 ghost use Rattle.std.specs.Prelude.{◌≡◌, [], ◌∷◌, ◌+◌, ◌≤◌, length};
 ghost use Rattle.text.specs.Decimal.{decimal};
-ghost use Rattle.text.specs.Output.{space, line_of, longestLine, firstLine};
+ghost use Rattle.text.specs.Output.{space, line_of, longest_line, first_line};
 ghost use Rattle.text.specs.Written.{Put};
-ghost use Rattle.judge.specs.JudgeAnswer.{verdictMeaning};
+ghost use Rattle.judge.specs.JudgeAnswer.{verdict_meaning};
 ghost use Rattle.text.specs.FirstLine.{end_of};
 
 use crate::{decimal, row};
@@ -20,8 +20,8 @@ pub fn put_field(line: &mut [u8], at: usize, number: u32) -> usize
 
 // Writes a line of a word and two numbers; returns where it ends.
 pub fn put_pair(line: &mut [u8], word: &[u8], first: u32, second: u32) -> usize
-    requires { (length word.now ≤ 7) × (longestLine ≤ length line.old) }
-    ensures { (Put line.old 0 (line_of word.now (first ∷ second ∷ [])) line.new result) × (result ≤ longestLine) }
+    requires { (length word.now ≤ 7) × (longest_line ≤ length line.old) }
+    ensures { (Put line.old 0 (line_of word.now (first ∷ second ∷ [])) line.new result) × (result ≤ longest_line) }
 {
     let start = row::copy(word, 0, word.len(), line, 0);
     let middle = put_field(line, start, first);
@@ -32,8 +32,8 @@ pub fn put_pair(line: &mut [u8], word: &[u8], first: u32, second: u32) -> usize
 
 // Writes the first line, the verdict's; returns where it ends.
 pub fn put_first(line: &mut [u8], verdict: Verdict) -> usize
-    requires { longestLine ≤ length line.old }
-    ensures { (Put line.old 0 (firstLine (verdictMeaning verdict)) line.new result) × (result ≤ longestLine) }
+    requires { longest_line ≤ length line.old }
+    ensures { (Put line.old 0 (first_line (verdict_meaning verdict)) line.new result) × (result ≤ longest_line) }
 {
     match verdict {
         Verdict::Firm(start, period) => put_pair(line, b"firm", start, period),

@@ -1,6 +1,6 @@
 // The words of a table, parsed from the decimal lines that the program is given. The modules write lines.
 ghost use Rattle.std.specs.Prelude.{◌≡◌, min};
-ghost use Rattle.text.specs.Format.{noText};
+ghost use Rattle.text.specs.Format.{no_text};
 ghost use Rattle.text.specs.Input.{input_of, ReadOf};
 
 pub mod decimal; // decimal.rt: numbers in decimal
@@ -32,7 +32,7 @@ pub struct Input {
 
 // No table's text.
 fn no_text() -> Input
-    ensures { result ≡ input_of noText }
+    ensures { result ≡ input_of no_text }
 {
     let words = [0u32; NUMBERS];
     Input {

@@ -1,6 +1,6 @@
 // One line of the input: where it or a word of it ends, and the number that it represents.
 ghost use Rattle.std.specs.Prelude.{◌≡◌, ◌+◌, drop};
-ghost use Rattle.text.specs.Input.{lengthTo, parseNumber};
+ghost use Rattle.text.specs.Input.{length_to, parse_number};
 
 // The largest number of a line.
 const LARGEST: u64 = u32::MAX as u64;
@@ -14,7 +14,7 @@ pub enum ParsedNumber {
 
 // Where a line or a word that starts at `from` ends: before its mark, a newline or a space, or at the end of the bytes.
 pub fn end_from(bytes: &[u8], from: usize, mark: u8) -> usize
-    ensures { result ≡ from + lengthTo mark (drop from bytes.now) }
+    ensures { result ≡ from + length_to mark (drop from bytes.now) }
 {
     let mut end = from;
     while end < bytes.len() {
@@ -28,7 +28,7 @@ pub fn end_from(bytes: &[u8], from: usize, mark: u8) -> usize
 
 // The number of a line of one to ten digits, up to 4,294,967,295.
 pub fn number(line: &[u8]) -> ParsedNumber
-    ensures { result ≡ parseNumber line.now }
+    ensures { result ≡ parse_number line.now }
 {
     if line.len() < 1 {
         return ParsedNumber::Nothing;

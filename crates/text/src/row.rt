@@ -2,9 +2,9 @@
 ghost use Rattle.std.specs.Prelude.{[], ◌∷◌, ◌++◌, ◌+◌, ◌≤◌, length, take, drop};
 ghost use Rattle.text.specs.Decimal.{decimal};
 ghost use Rattle.text.specs.Format.{newline};
-ghost use Rattle.text.specs.Output.{fields, longestCells, longestLine};
+ghost use Rattle.text.specs.Output.{fields, longest_cells, longest_line};
 ghost use Rattle.text.specs.Written.{Put};
-ghost use Rattle.model.specs.Sizes.{mostCores};
+ghost use Rattle.model.specs.Sizes.{most_cores};
 
 use crate::decimal;
 use model::ROW;
@@ -45,24 +45,16 @@ fn put_byte(text: &mut [u8], at: usize, number: u8) -> usize
     decimal::put(text, at, number as u64)
 }
 
-// Writes a space and a byte's value in decimal into the text from `at` on; returns where they end.
-pub fn put_cell(text: &mut [u8], at: usize, number: u8) -> usize
-    requires { at + 4 ≤ length text.old }
-    ensures { (Put text.old at (fields (number ∷ [])) text.new result) × (result ≤ at + 4) }
-{
-    text[at] = b' ';
-    put_byte(text, at + 1, number)
-}
-
 // Writes the positions of the first `cores` cores, a space before each, and a newline; returns where they end.
 pub fn put_cells(row: [u8; ROW], cores: usize, text: &mut [u8]) -> usize
-    requires { (cores ≤ mostCores) × (longestCells ≤ length text.old) }
-    ensures { (Put text.old 0 (fields (take cores row) ++ (newline ∷ [])) text.new result) × (result ≤ longestCells) }
+    requires { (cores ≤ most_cores) × (longest_cells ≤ length text.old) }
+    ensures { (Put text.old 0 (fields (take cores row) ++ (newline ∷ [])) text.new result) × (result ≤ longest_cells) }
 {
     let mut at: usize = 0;
     let mut core: usize = 0;
     while core < cores {
-        at = put_cell(text, at, row[core]);
+        text[at] = b' ';
+        at = put_byte(text, at + 1, row[core]);
         core += 1;
     }
     text[at] = b'\n';
@@ -71,8 +63,8 @@ pub fn put_cells(row: [u8; ROW], cores: usize, text: &mut [u8]) -> usize
 
 // Writes the line of a row: the tick, and the text of its cores; returns where it ends.
 pub fn put_row(line: &mut [u8], tick: u32, text: &[u8], count: usize) -> usize
-    requires { (count ≤ length text.now) × (count ≤ longestCells) × (longestLine ≤ length line.old) }
-    ensures { (Put line.old 0 (decimal tick ++ take count text.now) line.new result) × (result ≤ longestLine) }
+    requires { (count ≤ length text.now) × (count ≤ longest_cells) × (longest_line ≤ length line.old) }
+    ensures { (Put line.old 0 (decimal tick ++ take count text.now) line.new result) × (result ≤ longest_line) }
 {
     let at = decimal::put(line, 0, tick as u64);
     copy(text, 0, count, line, at)

@@ -15,6 +15,9 @@ use Rattle.cores.proofs.first_cores.Tie as tie
 up_to : (m count : ℕ) → m ≤ 64 → min count 64 ≡ m → cores (2 ^ m - 1) ≡ up_from 0 (min count 64)
 up_to m count h e = cores-up m h ∙ ap (up_from 0) (sym e)
 
+shl-result : tie.Need-overflow-shl-result
+shl-result c = search rules
+
 sub-result : tie.Need-overflow-sub-result
 sub-result c =
     let n = c.before.args.count in
@@ -29,4 +32,4 @@ returns-2 : tie.Need-returns-2
 returns-2 c = up_to 64 c.before.args.count (omega arith) (omega arith)
 
 pub first-cores-spec : {M : Type 1} → statement M
-first-cores-spec = tie.close (tie.spec (λ c. search rules) sub-result returns returns-2)
+first-cores-spec = tie.close (tie.spec shl-result sub-result returns returns-2)

@@ -50,6 +50,12 @@ cast-run c = omega (arith, (run c).0)
 shr-run : tie.Need-overflow-shr-run invariant-loop decreases-loop
 shr-run c = (run c).0
 
+fewer-requires : tie.Need-fewer-requires invariant-loop decreases-loop
+fewer-requires c κs = search rules
+
+first-cores-requires : tie.Need-first-cores-requires invariant-loop decreases-loop
+first-cores-requires c κs = search rules
+
 cast-rest : tie.Need-overflow-cast-rest invariant-loop decreases-loop
 cast-rest c = omega (arith, (run c.before.before).0)
 
@@ -60,32 +66,28 @@ shl-rest c = (run c.before.before).0
 piece : (c : tie.After-first-cores invariant-loop decreases-loop)
     → ((c.first-cores.result * 2 ^ first_of (loop c).loop.rest) % 2 ^ 64 ≤ (loop c).loop.rest)
     × (cores ((loop c).loop.rest - (c.first-cores.result * 2 ^ first_of (loop c).loop.rest) % 2 ^ 64)
-    ≡ drop c.before.smaller.result (cores (loop c).loop.rest))
+    ≡ drop c.before.fewer.result (cores (loop c).loop.rest))
 piece c =
     let t = c.before.before in
-    taken-off t.before.before.loop.rest c.before.smaller.result c.first-cores.result (some t)
-    (small t) (omega (arith, c.before.smaller.ensures)) (omega (arith, c.first-cores.type-inv)) c.first-cores.ensures
+    taken-off t.before.before.loop.rest c.before.fewer.result c.first-cores.result (some t)
+    (small t) (omega (arith, c.before.fewer.ensures)) (omega (arith, c.first-cores.type-inv)) c.first-cores.ensures
 
 sub-rest : tie.Need-overflow-sub-rest invariant-loop decreases-loop
 sub-rest c = (piece c).0
 
 sub-wanted : tie.Need-overflow-sub-wanted invariant-loop decreases-loop
-sub-wanted c = omega (arith, c.before.smaller.ensures)
+sub-wanted c = omega (arith, c.before.fewer.ensures)
 
 loop-less : tie.Need-loop-smaller invariant-loop decreases-loop
-loop-less c = omega (arith, c.before.smaller.ensures, (run c.before.before).1)
+loop-less c = omega (arith, c.before.fewer.ensures, (run c.before.before).1)
 
 loop-again : tie.Need-loop-preserved invariant-loop decreases-loop
 loop-again c =
     let l = (loop c).loop in
     let s = (loop c).before.args in
-    let m = c.before.smaller.result in
-    let k : s.width - l.wanted + m ≡ s.width - (l.wanted - m) = omega (arith, c.before.smaller.ensures) in (
-      omega arith,
-      omega arith,
-      (piece c).1 ∙ ap (drop m) l.inv.2 ∙ drop-drop m (s.width - l.wanted) (cores s.free)
-          ∙ ap (λ (i : ℕ). drop i (cores s.free)) k,
-    )
+    let m = c.before.fewer.result in
+    let k : s.width - l.wanted + m ≡ s.width - (l.wanted - m) = omega (arith, c.before.fewer.ensures) in
+    (omega arith, omega arith, (piece c).1 ∙ ap (drop m) l.inv.2 ∙ drop-drop m (s.width - l.wanted) (cores s.free) ∙ ap (λ (i : ℕ). drop i (cores s.free)) k)
 
 -- nothing is left to drop
 ran_out : (l : List ℕ) (k w : ℕ) → k ≤ w → drop k l ≡ [] → drop w l ≡ []
@@ -115,5 +117,20 @@ returns c =
 
 pub lowest-spec : {M : Type 1} → statement M
 lowest-spec =
-    tie.close (tie.spec invariant-loop decreases-loop loop-holds cast-run shr-run (λ c κs. search rules) (λ c κs. search rules)
-    cast-rest shl-rest sub-rest sub-wanted loop-less loop-again sub-result returns)
+    tie.close
+    (tie.spec
+    invariant-loop
+    decreases-loop
+    loop-holds
+    cast-run
+    shr-run
+    fewer-requires
+    first-cores-requires
+    cast-rest
+    shl-rest
+    sub-rest
+    sub-wanted
+    loop-less
+    loop-again
+    sub-result
+    returns)

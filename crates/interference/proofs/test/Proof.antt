@@ -23,8 +23,29 @@ opened c = c.before.before
 abbrev start-at : tie.At-loop invariant-loop decreases-loop → tie.Start invariant-loop decreases-loop
 start-at c = c.before.before.before.before
 
+unfenced-count-requires : tie.Need-unfenced-count-requires invariant-loop decreases-loop
+unfenced-count-requires c κs = search rules
+
+ends-choosing-requires : tie.Need-ends-choosing-requires invariant-loop decreases-loop
+ends-choosing-requires c κs = search rules
+
 loop-holds : tie.Need-loop-init invariant-loop decreases-loop
 loop-holds c = let s = c.before.before.before in reached-none s.args.table s.requires
+
+mul-task : tie.Need-overflow-mul-task invariant-loop decreases-loop
+mul-task c = omega (arith, (start-at c.before).pre.few)
+
+array-copy-out-task : tie.Need-array-copy-out-task invariant-loop decreases-loop
+array-copy-out-task c = omega (arith, (start-at c.before).pre.few)
+
+larger-requires : tie.Need-larger-requires invariant-loop decreases-loop
+larger-requires c κs = search rules
+
+larger-requires-2 : tie.Need-larger-requires-2 invariant-loop decreases-loop
+larger-requires-2 c κs = search rules
+
+refused-width-requires : tie.Need-refused-width-requires invariant-loop decreases-loop
+refused-width-requires c κs = search rules
 
 need-of-requires : tie.Need-need-of-requires invariant-loop decreases-loop
 need-of-requires c κs =
@@ -45,12 +66,14 @@ bound-from-requires c κs =
       needed =
           needed t s.pre l.place (opened h).unfenced-count.result c.before.before.before.larger.result c.before.before.larger2.result
           c.before.refused-width.result c.need-of.result (opened h).unfenced-count.ensures inside c.before.before.before.larger.ensures
-          (wider-more t s.pre l.bounds l.widest l.place l.inv c.before.before.before.larger.result c.before.before.larger2.result
-          inside
+          (wider-more t s.pre l.bounds l.widest l.place l.inv c.before.before.before.larger.result c.before.before.larger2.result inside
           c.before.before.before.larger.ensures c.before.before.larger2.ensures)
           h.before.ends-choosing.result h.before.ends-choosing.ensures c.before.refused-width.ensures c.need-of.ensures.0;
       few = c.need-of.ensures.1;
     }
+
+unmet-requires : tie.Need-unmet-requires invariant-loop decreases-loop
+unmet-requires c κs = search rules
 
 returns : tie.Need-returns invariant-loop decreases-loop
 returns c =
@@ -61,8 +84,19 @@ returns c =
     let l = h.loop in
     let lim = place-limits t s.pre l.place (omega arith) in
     untested t s.pre c.unmet.result c.unmet.ensures
-    (stopped t s.pre l.bounds l.widest l.place l.inv w.bound-from.result (omega arith) w.bound-from.ensures
-    (omega (arith, lim.1, c.before.if1.true)))
+    (stopped t s.pre l.bounds l.widest l.place l.inv w.bound-from.result (omega arith) w.bound-from.ensures (omega (arith, lim.1, c.before.if1.true)))
+
+mul-bounds : tie.Need-overflow-mul-bounds invariant-loop decreases-loop
+mul-bounds c = omega (arith, (start-at (head c.before.before)).pre.few)
+
+array-write-bounds : tie.Need-array-write-bounds invariant-loop decreases-loop
+array-write-bounds c = omega (arith, (start-at (head c.before.before)).pre.few)
+
+add-place : tie.Need-overflow-add-place invariant-loop decreases-loop
+add-place c = omega (arith, (start-at (head c.before.before)).pre.few)
+
+loop-less : tie.Need-loop-smaller invariant-loop decreases-loop
+loop-less c = omega arith
 
 loop-again : tie.Need-loop-preserved invariant-loop decreases-loop
 loop-again c =
@@ -74,8 +108,7 @@ loop-again c =
     let l = h.loop in
     let lim = place-limits t s.pre l.place (omega arith) in
     reached-more t s.pre l.bounds l.widest l.place l.inv n.before.before.before.larger.result n.before.before.larger2.result
-    w.bound-from.result (omega arith) n.before.before.before.larger.ensures n.before.before.larger2.ensures w.bound-from.ensures
-    (omega (arith, lim.1))
+    w.bound-from.result (omega arith) n.before.before.before.larger.ensures n.before.before.larger2.ensures w.bound-from.ensures (omega (arith, lim.1))
 
 returns-2 : tie.Need-returns-2 invariant-loop decreases-loop
 returns-2 c =
@@ -84,9 +117,25 @@ returns-2 c =
 
 pub test-spec : {M : Type 1} → statement M
 test-spec =
-    tie.close (tie.spec invariant-loop decreases-loop (λ c κs. search rules) (λ c κs. search rules) loop-holds
-    (λ c. omega (arith, (start-at c.before).pre.few)) (λ c. omega (arith, (start-at c.before).pre.few))
-    (λ c κs. search rules) (λ c κs. search rules) (λ c κs. search rules) need-of-requires bound-from-requires
-    (λ c κs. search rules) returns (λ c. omega (arith, (start-at (head c.before.before)).pre.few))
-    (λ c. omega (arith, (start-at (head c.before.before)).pre.few))
-    (λ c. omega (arith, (start-at (head c.before.before)).pre.few)) (λ c. omega arith) loop-again returns-2)
+    tie.close
+    (tie.spec
+    invariant-loop
+    decreases-loop
+    unfenced-count-requires
+    ends-choosing-requires
+    loop-holds
+    mul-task
+    array-copy-out-task
+    larger-requires
+    larger-requires-2
+    refused-width-requires
+    need-of-requires
+    bound-from-requires
+    unmet-requires
+    returns
+    mul-bounds
+    array-write-bounds
+    add-place
+    loop-less
+    loop-again
+    returns-2)

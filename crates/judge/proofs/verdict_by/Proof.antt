@@ -2,16 +2,25 @@
 use borrow.Author.Rules.{rules}
 use mathlib.Core.Path.{sym, ap, ◌∙◌}
 use Rattle.judge.specs.declared.Missed.{Missed}
-use Rattle.judge.specs.Judged.{acceptedOf}
-use Rattle.judge.specs.FirstMiss.{byMiss}
+use Rattle.judge.specs.Judged.{accepted_of}
+use Rattle.judge.specs.FirstMiss.{by_miss}
 use Rattle.judge.proofs.verdict_by.Statement.{statement}
 use Rattle.judge.proofs.verdict_by.Tie as tie
 
+enum_told : tie.Need-enum-told
+enum_told c = search rules
+
+accepted-requires : tie.Need-accepted-requires
+accepted-requires c κs = search rules
+
+enum-known-missed : tie.Need-enum-known-missed
+enum-known-missed c = search rules
+
 returns : tie.Need-returns
-returns c = c.accepted.ensures ∙ sym (ap (λ (m : Missed). byMiss m (acceptedOf c.before.before.before.args.table)) c.before.enum_told.given.1)
+returns c = c.accepted.ensures ∙ sym (ap (λ (m : Missed). by_miss m (accepted_of c.before.before.before.args.table)) c.before.enum_told.given.1)
 
 returns-2 : tie.Need-returns-2
-returns-2 c = sym (ap (λ (m : Missed). byMiss m (acceptedOf c.before.before.before.args.table)) c.before.missed.given.1)
+returns-2 c = sym (ap (λ (m : Missed). by_miss m (accepted_of c.before.before.before.args.table)) c.before.missed.given.1)
 
 pub verdict-by-spec : {M : Type 1} → statement M
-verdict-by-spec = tie.close (tie.spec (λ c. search rules) (λ c κs. search rules) (λ c. search rules) returns returns-2)
+verdict-by-spec = tie.close (tie.spec enum_told accepted-requires enum-known-missed returns returns-2)

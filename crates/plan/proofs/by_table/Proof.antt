@@ -2,30 +2,27 @@
 use borrow.Author.Rules.{rules}
 use native.Mathlib.Omega.{arith}
 use native.Mathlib.Nat.{mul-le-mul}
-use mathlib.Core.Path.{◌≡◌, refl, sym, ap, ap₂, ◌∙◌, subst, subst₂}
-use mathlib.Core.Bool.{Bool, true, cond}
-use Prim.Native.Nat.{ℕ, ◌-◌, ◌*◌, ◌≤◌}
+use mathlib.Core.Path.{refl, sym, ◌∙◌}
+use mathlib.Core.Bool.{true, false}
+use Prim.Native.Nat.{◌-◌, ◌≤◌}
 use lib.ListN.{length}
-use Rattle.model.specs.Search.{any}
-use Rattle.model.specs.Verdict.{missedIn}
-use Rattle.table.specs.declared.Loaded.{Loaded}
-use Rattle.table.specs.Fit.{loadedTable}
-use Rattle.judge.specs.FirstMiss.{missMeaning}
-use Rattle.table.specs.declared.Answer.TheVariants.{Taken, Refused}
-use Rattle.table.specs.AnswerMeaning.{answerMeaning}
-use Rattle.plan.specs.Plan.{byPlan, bufferOf}
-use Rattle.plan.proofs.Late.{miss-decides}
+use Rattle.table.specs.Fit.{loaded_table}
+use Rattle.judge.proofs.FirstMiss.{never-found, one_found}
 use Rattle.plan.proofs.Cases.{above, beyond, too_short, long-enough}
 use Rattle.plan.proofs.by_table.Statement.{statement}
 use Rattle.plan.proofs.by_table.Tie as tie
 
--- the state where the buffer is long enough
-abbrev else3-from-start : tie.After-start → tie.Else3
-else3-from-start c = c.before.before
-
 -- the state where the test `if2` fails
-abbrev else2 : tie.Else3 → tie.Else2
-else2 c = c.before.before
+abbrev else2 : tie.After-first-miss → tie.Else2
+else2 c = c.before.before.before
+
+-- the state after `first-miss`
+abbrev first-miss : tie.After-write-arg → tie.After-first-miss
+first-miss c = c.before.before.before
+
+-- the state after `enum_told`
+abbrev enum-told-from-out : tie.After-out → tie.After-enum-told
+enum-told-from-out c = c.before.before.before
 
 -- the state at the call
 abbrev entry-from-then2 : tie.Then2 → tie.Start
@@ -37,32 +34,29 @@ entry-from-else2 c = c.before.before.before.before
 abbrev entry-from-struct-known2 : tie.After-struct-known2 → tie.Start
 entry-from-struct-known2 c = entry-from-else2 c.before
 
-abbrev entry : tie.After-start → tie.Start
-entry c = entry-from-else2 (else2 (else3-from-start c))
+abbrev entry-from-write-arg : tie.After-write-arg → tie.Start
+entry-from-write-arg c = entry-from-struct-known2 (first-miss c).before.before
 
 -- the state where the test `if1` fails
 abbrev else1 : tie.Then3 → tie.Else1
 else1 c = c.before.before.before.before
 
--- where the buffer is long enough, the answer is that by a miss before b
-by-miss : (c : tie.After-start) (w : Bool) → let x = (entry c).args in any x.b (missedIn (loadedTable x.table)) ≡ w
-    → cond w (Refused 12 0) Taken ≡ byPlan (loadedTable x.table) x.a x.b (length x.out.now)
-by-miss c w e =
-    let x = (entry c).args in
-    let f = else3-from-start c in
-    long-enough (loadedTable x.table) x.a x.b (length x.out.now) (else2 f).before.before.if1.left
-    (omega (arith, (else2 f).if2.left, (entry c).requires.0.horizon)) f.if3.left w e
-
 returns : tie.Need-returns
 returns c =
     let x = c.before.before.args in
-    (above (loadedTable x.table) x.a x.b (length x.out.now) c.if1.true, refl)
+    (above (loaded_table x.table) x.a x.b (length x.out.now) c.if1.true, refl)
 
 returns-2 : tie.Need-returns-2
 returns-2 c =
     let x = (entry-from-then2 c).args in
     let p = (entry-from-then2 c).requires in
-    (beyond (loadedTable x.table) x.a x.b (length x.out.now) c.before.before.if1.false (omega (arith, c.if2.true, p.0.horizon)), refl)
+    (beyond (loaded_table x.table) x.a x.b (length x.out.now) c.before.before.if1.false (omega (arith, c.if2.true, p.0.horizon)), refl)
+
+cast-bytes : tie.Need-overflow-cast-bytes
+cast-bytes c = search rules
+
+cast-bytes-2 : tie.Need-overflow-cast-bytes-2
+cast-bytes-2 c = search rules
 
 mul-bytes : tie.Need-overflow-mul-bytes
 mul-bytes c =
@@ -74,50 +68,68 @@ mul-bytes c =
 returns-3 : tie.Need-returns-3
 returns-3 c =
     let x = (entry-from-struct-known2 c.before).args in
-    let p = (entry-from-struct-known2 c.before).requires in (
-      too_short (loadedTable x.table) x.a x.b (length x.out.now) (else1 c).if1.false (omega (arith, c.before.before.if2.false, p.0.horizon))
-          c.if3.true,
-      refl,
+    let p = (entry-from-struct-known2 c.before).requires in
+    (too_short (loaded_table x.table) x.a x.b (length x.out.now) (else1 c).if1.false (omega (arith, c.before.before.if2.false, p.0.horizon)) c.if3.true, refl)
+
+first-miss-requires : tie.Need-first-miss-requires
+first-miss-requires c κs = search rules
+
+enum_told : tie.Need-enum-told
+enum_told c = search rules
+
+write-requires : tie.Need-write-requires
+write-requires c κs =
+    let fm = first-miss c in
+    let x = (entry-from-write-arg c).args in
+    let p = (entry-from-write-arg c).requires in (
+      p.0,
+      p.1,
+      (else2 fm).if2.left,
+      never-found (loaded_table x.table) x.b (sym fm.first-miss.ensures.value ∙ c.before.enum_told.given.1),
+      fm.before.if3.left,
     )
 
-by-cursor-requires : tie.Need-by-cursor-requires
-by-cursor-requires c κs =
-    let u = c.before.before.before in
-    let r = u.before.reach.ensures in
-    let f = else3-from-start u in
-    let x = (entry u).args in (
-      r.stands c.before.enum_told.given.1,
-      omega (arith, r.tick, (else2 f).before.before.if1.left),
-      subst (λ (t : Loaded). x.b ≤ t.horizon) (sym r.table) (else2 f).if2.left,
-      subst₂ (λ (t : Loaded) (a : ℕ). (x.b - a) * t.cores ≤ length x.out.now) (sym r.table) (sym r.tick) f.if3.left,
-    )
+enum-told-2 : tie.Need-enum-told-2
+enum-told-2 c = search rules
+
+same_length : tie.Need-same-length
+same_length c = search rules
 
 returns-4 : tie.Need-returns-4
 returns-4 c =
-    let b = c.before.before in
-    let u = b.before.before.before.before in
-    let r = u.before.reach.ensures in
-    let x = (entry u).args in (
-      b.by-cursor.ensures.0
-          ∙ (ap (λ (t : Loaded). cond (any x.b (missedIn (loadedTable t))) (Refused 12 0) Taken) r.table
-          ∙ by-miss u (any x.b (missedIn (loadedTable x.table))) refl),
-      b.by-cursor.ensures.1
-          ∙ ap₂ (λ (t : Loaded) (a : ℕ). bufferOf (answerMeaning b.by-cursor.result) (loadedTable t) a x.b x.out.now) r.table r.tick,
+    let f = (enum-told-from-out c.before).before.before in
+    let x = (entry-from-struct-known2 f.before.before).args in
+    let p = (entry-from-struct-known2 f.before.before).requires in
+    let none = never-found (loaded_table x.table) x.b (sym f.first-miss.ensures.value ∙ (enum-told-from-out c.before).enum_told.given.1) in (
+      long-enough (loaded_table x.table) x.a x.b (length x.out.now) (else2 f).before.before.if1.left (omega (arith, (else2 f).if2.left, p.0.horizon)) f.before.if3.left false none,
+      c.before.before.write.ensures,
     )
 
 returns-5 : tie.Need-returns-5
 returns-5 c =
-    let u = c.before.before in
-    let r = u.before.reach.ensures in
-    let x = (entry u).args in
-    let p = (entry u).requires in
-    let m = (r.missed.first _ _).0 (ap missMeaning c.enum-told2.given.1) in
-    let some = (miss-decides (loadedTable x.table) p.0.valid x.b).1
-    (_, _, m.0, omega (arith, m.1, (else2 (else3-from-start u)).before.before.if1.false)) in
-    (by-miss u true some, refl)
+    let f = c.before.before in
+    let x = (entry-from-struct-known2 f.before.before).args in
+    let p = (entry-from-struct-known2 f.before.before).requires in
+    let some = one_found (loaded_table x.table) x.b _ _ (sym f.first-miss.ensures.value ∙ c.enum-told2.given.1) in (
+      long-enough (loaded_table x.table) x.a x.b (length x.out.now) (else2 f).before.before.if1.false
+          (omega (arith, (else2 f).if2.false, p.0.horizon)) f.before.if3.false true some,
+      refl,
+    )
 
 pub by-table-spec : {M : Type 1} → statement M
 by-table-spec =
-    tie.close (tie.spec returns returns-2 (λ c. search rules) (λ c. search rules) mul-bytes returns-3
-    (λ c κs. search rules) (λ c. search rules) by-cursor-requires (λ c. search rules) (λ c. search rules) returns-4
+    tie.close
+    (tie.spec
+    returns
+    returns-2
+    cast-bytes
+    cast-bytes-2
+    mul-bytes
+    returns-3
+    first-miss-requires
+    enum_told
+    write-requires
+    enum-told-2
+    same_length
+    returns-4
     returns-5)

@@ -4,20 +4,19 @@ use mathlib.Core.List.{List}
 use mathlib.Core.Path.{ap, sym, ◌∙◌, ◌≡◌, subst⁻¹}
 use Prim.Native.Nat.{ℕ, ◌≤◌}
 use borrow.Author.Rules.{rules}
-use Rattle.model.specs.Sizes.{mostTasks}
+use Rattle.model.specs.Sizes.{most_tasks}
 use Rattle.table.proofs.Contract.{load-answer}
 use Rattle.table.specs.Answer.{answer_of}
-use Rattle.table.specs.AnswerMeaning.{answerMeaning}
-use Rattle.table.specs.Load.{LoadedAs}
+use Rattle.table.specs.Load.{LoadedAs, load_meaning}
 use Rattle.table.specs.Words.{rule, table_of}
 use Rattle.table.specs.declared.Answer.{Answer}
-use Rattle.table.specs.declared.Answer.TheVariants.{Taken, Refused}
+use Rattle.table.specs.declared.Answer.TheVariants.{Passed, Refused}
 use Rattle.table.specs.declared.Loaded.{Loaded}
-use Rattle.run.specs.Start.{startedRun}
+use Rattle.run.specs.Start.{started_run}
 use Rattle.run.specs.declared.Run.{Run}
-use Rattle.run.specs.declared.RunAnswer.{RunAnswer}
-use Rattle.plan_check.specs.Begin.{firstState}
-use Rattle.plan_check.specs.State.{stateAt, start_in}
+use Rattle.run.specs.declared.Started.{Started}
+use Rattle.plan_check.specs.Begin.{first_state}
+use Rattle.plan_check.specs.State.{state_at, start_in}
 use Rattle.plan_check.specs.declared.Begun.{Begun}
 use Rattle.plan_check.specs.declared.Note.{Note}
 use Rattle.plan_check.specs.declared.SuppliedPlan.{SuppliedPlan}
@@ -30,24 +29,32 @@ answered : (c : tie.After-load) (a : Answer) → c.load.result.answer ≡ a → 
 answered c a e = sym (load-answer c.before.before.args.words.now) ∙ (sym (ap (λ (l : Loaded). l.answer) c.load.ensures.value) ∙ e)
 
 -- where it passed, what was loaded is the table
-held : (c : tie.After-load) → c.load.result.answer ≡ Taken → LoadedAs c.before.before.args.words.now c.load.result
-held c e = c.load.ensures.holds (ap answerMeaning e)
+held : (c : tie.After-load) → c.load.result.answer ≡ Passed → LoadedAs c.before.before.args.words.now c.load.result
+held c e = c.load.ensures.holds (ap load_meaning e)
 
 -- a table that passes, and one that is turned down
 abbrev passed : SuppliedPlan → Begun
-passed w = record { answer = Taken; plan = w }
+passed w = record { answer = Passed; plan = w }
 
 abbrev turned : ℕ → ℕ → SuppliedPlan → Begun
 turned n p w = record { answer = Refused n p; plan = w }
 
 -- its run is that of the table as it starts
-begun :
-    (c : tie.After-begun) → (let ws = c.before.before.before.before.before.args.words.now in c.begun.result.run ≡ startedRun (rule ws) (table_of ws))
-begun c = ap (λ (s : RunAnswer). s.run) c.begun.ensures
+begun : (c : tie.After-begun) → (let ws = c.before.before.before.before.before.args.words.now in c.begun.result.run ≡ started_run (rule ws) (table_of ws))
+begun c = ap (λ (s : Started). s.run) c.begun.ensures
+
+load-requires : tie.Need-load-requires
+load-requires c κs = search rules
+
+enum_told : tie.Need-enum-told
+enum_told c = search rules
 
 begun-requires : tie.Need-begun-requires
 begun-requires c κs =
-    c.before.before.load.ensures.passed.0 (ap answerMeaning c.enum_told.given.1)
+    c.before.before.load.ensures.passed.0 (ap load_meaning c.enum_told.given.1)
+
+blank-requires : tie.Need-blank-requires
+blank-requires c κs = search rules
 
 state-at-requires : tie.Need-state-at-requires
 state-at-requires c κs =
@@ -55,9 +62,15 @@ state-at-requires c κs =
     let l = t.before.before.before in
     let ws = l.before.before.args.words.now in
     let h = held l t.before.enum_told.given.1 in (
-      subst⁻¹ (λ (r : Run). r.count ≤ mostTasks) (begun t) (loaded-few ws l.load.result h),
+      subst⁻¹ (λ (r : Run). r.count ≤ most_tasks) (begun t) (loaded-few ws l.load.result h),
       loaded-start ws l.load.result h ∙ sym (ap start_in (begun t)),
     )
+
+enum-known-answer : tie.Need-enum-known-answer
+enum-known-answer c = search rules
+
+empty-requires : tie.Need-empty-requires
+empty-requires c κs = search rules
 
 returns : tie.Need-returns
 returns c =
@@ -65,11 +78,11 @@ returns c =
     let t = b.before.before in
     let l = t.before.before.before in
     let ws = l.before.before.args.words.now in
-    let first : c.state-at.result ≡ firstState ws =
+    let first : c.state-at.result ≡ first_state ws =
     c.state-at.ensures
-    ∙ (ap (λ (r : Run). stateAt r 0 b.blank.result) (begun t)
-    ∙ ap (λ (ns : List Note). stateAt (startedRun (rule ws) (table_of ws)) 0 ns) b.blank.ensures) in
-    begin-of ws (passed c.state-at.result) (ap passed first ∙ sym (begin-passed ws (answered l Taken t.before.enum_told.given.1)))
+    ∙ (ap (λ (r : Run). state_at r 0 b.blank.result) (begun t)
+    ∙ ap (λ (ns : List Note). state_at (started_run (rule ws) (table_of ws)) 0 ns) b.blank.ensures) in
+    begin-of ws (passed c.state-at.result) (ap passed first ∙ sym (begin-passed ws (answered l Passed t.before.enum_told.given.1)))
 
 returns-2 : tie.Need-returns-2
 returns-2 c =
@@ -80,5 +93,14 @@ returns-2 c =
 
 pub begin-spec : {M : Type 1} → statement M
 begin-spec =
-    tie.close (tie.spec (λ c κs. search rules) (λ c. search rules) begun-requires (λ c κs. search rules)
-    state-at-requires (λ c. search rules) (λ c κs. search rules) returns returns-2)
+    tie.close
+    (tie.spec
+    load-requires
+    enum_told
+    begun-requires
+    blank-requires
+    state-at-requires
+    enum-known-answer
+    empty-requires
+    returns
+    returns-2)

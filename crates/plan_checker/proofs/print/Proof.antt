@@ -11,6 +11,9 @@ use Rattle.text.proofs.Writing.{put_front, put-length}
 use Rattle.plan_checker.proofs.print.Statement.{statement}
 use Rattle.plan_checker.proofs.print.Tie as tie
 
+put-requires : tie.Need-put-requires
+put-requires c κs = search rules
+
 array-share-prefix-line : tie.Need-array-share-prefix-line
 array-share-prefix-line c = let n = put-length c.put.ensures.0 c.put.ensures.1 in omega (arith, n, c.put.ensures.1)
 
@@ -19,10 +22,13 @@ slice-aggregate-send c =
     let n = put-length c.before.put.ensures.0 c.before.put.ensures.1 in
     sym (length-take-le _ _ (omega (arith, n, c.before.put.ensures.1)))
 
+send-requires : tie.Need-send-requires
+send-requires c κs = search rules
+
 returns : tie.Need-returns
 returns c = subst (λ (l : List ℕ). SentOf 0 l c.send.result) (put_front c.before.before.put.ensures.0) c.send.ensures
 
 pub print-spec : {M : Type 1} → statement M
 print-spec =
-    tie.close (tie.spec (λ c κs. search rules) array-share-prefix-line slice-aggregate-send (λ c κs. search rules)
-    returns)
+    tie.close
+    (tie.spec put-requires array-share-prefix-line slice-aggregate-send send-requires returns)

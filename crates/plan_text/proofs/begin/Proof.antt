@@ -5,8 +5,8 @@ use native.Mathlib.Omega.{arith}
 use mathlib.Core.Path.{◌∙◌, ◌≡◌, ap, sym}
 use lib.ListN.{length}
 use lib.Seq.{length-take-le}
-use Rattle.plan_check.specs.Begin.{beginOf}
-use Rattle.text.specs.Format.{mostNumbers, numbersIn, words_of}
+use Rattle.plan_check.specs.Begin.{begin_of}
+use Rattle.text.specs.Format.{most_numbers, numbers_in, words_of}
 use Rattle.text.proofs.ReadOf.{numbers-read}
 use Rattle.plan_text.proofs.Answers.{opened-passed, opened-refused}
 use Rattle.plan_text.proofs.begin.Statement.{statement}
@@ -15,16 +15,28 @@ use Rattle.plan_text.proofs.begin.Tie as tie
 -- what was begun is the beginning of the text's numbers
 begun :
     (c : tie.After-begin)
-    → c.begin.result ≡ beginOf (numbersIn (words_of c.before.before.before.before.before.args.table.now))
-begun c = let r = c.before.before.before.read in c.begin.ensures.value ∙ ap beginOf (numbers-read r.result _ r.ensures.value)
+    → c.begin.result ≡ begin_of (numbers_in (words_of c.before.before.before.before.before.args.table.now))
+begun c = let r = c.before.before.before.read in c.begin.ensures.value ∙ ap begin_of (numbers-read r.result _ r.ensures.value)
+
+read-requires : tie.Need-read-requires
+read-requires c κs = search rules
 
 array-share-prefix-words : tie.Need-array-share-prefix-words
-array-share-prefix-words c = let w : length c.before.read.result.words ≡ mostNumbers = search rules in omega (arith, c.before.read.ensures.most, w)
+array-share-prefix-words c = let w : length c.before.read.result.words ≡ most_numbers = search rules in omega (arith, c.before.read.ensures.most, w)
 
 slice-aggregate-begin : tie.Need-slice-aggregate-begin
 slice-aggregate-begin c =
-    let w : length c.before.before.read.result.words ≡ mostNumbers = search rules in
+    let w : length c.before.before.read.result.words ≡ most_numbers = search rules in
     sym (length-take-le c.before.before.read.result.count _ (omega (arith, c.before.before.read.ensures.most, w)))
+
+begin-requires : tie.Need-begin-requires
+begin-requires c κs = search rules
+
+enum_told : tie.Need-enum-told
+enum_told c = search rules
+
+enum-known-answer : tie.Need-enum-known-answer
+enum-known-answer c = search rules
 
 returns : tie.Need-returns
 returns c =
@@ -38,5 +50,13 @@ returns-2 c =
 
 pub begin-spec : {M : Type 1} → statement M
 begin-spec =
-    tie.close (tie.spec (λ c κs. search rules) array-share-prefix-words slice-aggregate-begin (λ c κs. search rules)
-    (λ c. search rules) (λ c. search rules) returns returns-2)
+    tie.close
+    (tie.spec
+    read-requires
+    array-share-prefix-words
+    slice-aggregate-begin
+    begin-requires
+    enum_told
+    enum-known-answer
+    returns
+    returns-2)

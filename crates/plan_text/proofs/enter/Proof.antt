@@ -5,6 +5,18 @@ use Rattle.plan_text.proofs.Answers.{entered-accepted, entered-refused, entered-
 use Rattle.plan_text.proofs.enter.Statement.{statement}
 use Rattle.plan_text.proofs.enter.Tie as tie
 
+enum_told : tie.Need-enum-told
+enum_told c = search rules
+
+enum-told-2 : tie.Need-enum-told-2
+enum-told-2 c = search rules
+
+enum-known-answer : tie.Need-enum-known-answer
+enum-known-answer c = search rules
+
+refusal-of-requires : tie.Need-refusal-of-requires
+refusal-of-requires c κs = search rules
+
 returns : tie.Need-returns
 returns c = entered-taken _ _ _ c.enum_told.given.1
 
@@ -16,5 +28,12 @@ returns-3 c = entered-refused _ _ _ _ _ _ c.before.before.answer.given.1 c.refus
 
 pub enter_spec : {M : Type 1} → statement M
 enter_spec =
-    tie.close (tie.spec (λ c. search rules) (λ c. search rules) (λ c. search rules) (λ c κs. search rules) returns
-    returns-2 returns-3)
+    tie.close
+    (tie.spec
+    enum_told
+    enum-told-2
+    enum-known-answer
+    refusal-of-requires
+    returns
+    returns-2
+    returns-3)

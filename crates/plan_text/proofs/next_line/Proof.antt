@@ -6,6 +6,9 @@ use Rattle.plan_text.proofs.Answers.{next_more, next-most}
 use Rattle.plan_text.proofs.next_line.Statement.{statement}
 use Rattle.plan_text.proofs.next_line.Tie as tie
 
+add-result : tie.Need-overflow-add-result
+add-result c = search rules
+
 returns : tie.Need-returns
 returns c = next_more c.before.args.lines c.if1.true
 
@@ -13,4 +16,4 @@ returns-2 : tie.Need-returns-2
 returns-2 c = next-most c.before.args.lines (omega (arith, c.if1.false))
 
 pub next-line-spec : {M : Type 1} → statement M
-next-line-spec = tie.close (tie.spec (λ c. search rules) returns returns-2)
+next-line-spec = tie.close (tie.spec add-result returns returns-2)

@@ -9,8 +9,14 @@ use Rattle.plan_text.proofs.take.Tie as tie
 enter-requires : tie.Need-enter-requires
 enter-requires c κs = c.before.before.requires c.if1.true
 
+returns : tie.Need-returns
+returns c = search rules
+
+check-row-requires : tie.Need-check-row-requires
+check-row-requires c κs = search rules
+
 returns-2 : tie.Need-returns-2
 returns-2 c = (c.check-row.ensures.value, λ e. absurd (false≢true (sym c.before.if1.false ∙ e)))
 
 pub take_spec : {M : Type 1} → statement M
-take_spec = tie.close (tie.spec enter-requires (λ c. search rules) (λ c κs. search rules) returns-2)
+take_spec = tie.close (tie.spec enter-requires returns check-row-requires returns-2)

@@ -7,7 +7,7 @@ use mathlib.Core.Logic.{⊎_elim}
 use mathlib.Core.Path.{◌≡◌, sym, ◌∙◌, subst₂}
 use Prim.Native.Nat.{ℕ}
 use lib.ListN.{take}
-use Rattle.simulation.specs.TickState.{Numbers, numbersBy, TickState, tickStateOf, afterEvents, evenAtTick}
+use Rattle.simulation.specs.TickState.{Numbers, numbers_by, TickState, tick_state_of, after_events, even_at_tick}
 use Rattle.simulation.proofs.Steps.{chosen_on, even-on}
 use Rattle.text.proofs.Writing.{put-length}
 use Rattle.printer.proofs.Safe.{safe-steppable}
@@ -36,20 +36,20 @@ entry-from-joined1 c = entry-from-step (step-from-joined1 c)
 
 -- the table's numbers, the run where the function begins, and the text that it keeps
 abbrev nums : tie.Start → Numbers
-nums s = numbersBy s.args.setting s.args.widths.now s.args.times.now
+nums s = numbers_by s.args.setting s.args.widths.now s.args.times.now
 
 abbrev state : tie.Start → TickState
-state s = tickStateOf s.args.stage.registers s.args.places.now
+state s = tick_state_of s.args.stage.registers s.args.places.now
 
 abbrev kept : tie.Start → List ℕ
 kept s = take s.args.stage.text s.args.text.now
 
 -- the choice of the step is for the claimants of the tick
-claims : (c : tie.After-step) → c.step.result.chosen ≡ (afterEvents (nums (entry-from-step c)) (state (entry-from-step c))).claiming
+claims : (c : tie.After-step) → c.step.result.chosen ≡ (after_events (nums (entry-from-step c)) (state (entry-from-step c))).claiming
 claims c = chosen_on _ _ _ c.step.ensures
 
 -- .. and for their widths in it
-turned : (c : tie.After-step) → c.step.result.even ≡ evenAtTick (nums (entry-from-step c)) (state (entry-from-step c))
+turned : (c : tie.After-step) → c.step.result.even ≡ even_at_tick (nums (entry-from-step c)) (state (entry-from-step c))
 turned c = even-on _ _ _ c.step.ensures
 
 -- the text of the row: kept, or made anew

@@ -16,6 +16,15 @@ load c = c.before.before.before
 abbrev entry : tie.After-rows-end → tie.Start
 entry c = c.before.before.before.before
 
+load-requires : tie.Need-load-requires
+load-requires c κs = search rules
+
+judge-requires : tie.Need-judge-requires
+judge-requires c κs = search rules
+
+rows-end-requires : tie.Need-rows-end-requires
+rows-end-requires c κs = search rules
+
 start-requires : tie.Need-start-requires
 start-requires c κs = load-small (entry c).args.words.now c.before.before.load.result c.before.before.load.ensures
 
@@ -28,4 +37,4 @@ returns c =
 
 pub of-words-spec : {M : Type 1} → statement M
 of-words-spec =
-    tie.close (tie.spec (λ c κs. search rules) (λ c κs. search rules) (λ c κs. search rules) start-requires returns)
+    tie.close (tie.spec load-requires judge-requires rows-end-requires start-requires returns)

@@ -19,6 +19,24 @@ start c = (put-allocation c).before.before.before.before.before
 abbrev columns_of : tie.After-line2 → tie.After-columns-of
 columns_of c = (start c).before.before
 
+columns-of-requires : tie.Need-columns-of-requires
+columns-of-requires c κs = search rules
+
+start-requires : tie.Need-start-requires
+start-requires c κs = search rules
+
+slice-aggregate-put-allocation : tie.Need-slice-aggregate-put-allocation
+slice-aggregate-put-allocation c = search rules
+
+put-allocation-requires : tie.Need-put-allocation-requires
+put-allocation-requires c κs = search rules
+
+slice-aggregate-put-first : tie.Need-slice-aggregate-put-first
+slice-aggregate-put-first c = search rules
+
+put-first-requires : tie.Need-put-first-requires
+put-first-requires c κs = search rules
+
 returns : tie.Need-returns
 returns c =
     let s = (columns_of c).before in
@@ -32,5 +50,12 @@ returns c =
 
 pub start_spec : {M : Type 1} → statement M
 start_spec =
-    tie.close (tie.spec (λ c κs. search rules) (λ c κs. search rules) (λ c. search rules) (λ c κs. search rules)
-    (λ c. search rules) (λ c κs. search rules) returns)
+    tie.close
+    (tie.spec
+    columns-of-requires
+    start-requires
+    slice-aggregate-put-allocation
+    put-allocation-requires
+    slice-aggregate-put-first
+    put-first-requires
+    returns)

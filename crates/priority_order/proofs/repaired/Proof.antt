@@ -5,10 +5,10 @@ use mathlib.Core.Path.{◌≡◌, ap, subst, sym, ◌∙◌}
 use Prim.Native.Nat.{ℕ, ◌-◌}
 use borrow.Author.Tests.{not-false, not-true}
 use Rattle.table.specs.Words.{count}
-use Rattle.priority_order.specs.Answer.{givenOrder, positionsOf}
+use Rattle.priority_order.specs.Answer.{given_order, positions_of}
 use Rattle.priority_order.specs.Orders.{OrderIn, Permutation}
-use Rattle.priority_order.specs.Repair.{just, nextOrder, same}
-use Rattle.priority_order.specs.Tried.{isAccepted}
+use Rattle.priority_order.specs.Repair.{just, next_order, same}
+use Rattle.priority_order.specs.Tried.{is_accepted}
 use Rattle.priority_order.proofs.Choosing.{Going, going-given, going-kept, going-none, going_on, going-spent, going_start}
 use Rattle.priority_order.proofs.Reordering.{tasks-few}
 use Rattle.priority_order.proofs.Repairing.{next-permutation}
@@ -36,7 +36,7 @@ abbrev order : tie.After-next-order invariant-loop decreases-loop → List ℕ
 order c = c.next-order.result.order
 
 follows : (c : tie.After-next-order invariant-loop decreases-loop) → c.next-order.result.some ≡ true
-    → nextOrder (words c.before.before) c.before.before.loop.late.order ≡ just (order c)
+    → next_order (words c.before.before) c.before.before.loop.late.order ≡ just (order c)
 follows c e = sym c.next-order.ensures ∙ simp e
 
 -- it is one of the table's tasks
@@ -74,6 +74,9 @@ next-order-requires c κs = (c.before.loop.invariant.order, c.before.loop.invari
 add-t16 : tie.Need-overflow-add-t16 invariant-loop decreases-loop
 add-t16 c = let l = c.before.before.before.before in omega (arith, l.loop.invariant.within, (entry l).requires.2)
 
+without-requires : tie.Need-without-requires invariant-loop decreases-loop
+without-requires c κs = search rules
+
 returns : tie.Need-returns invariant-loop decreases-loop
 returns c =
     let n = c.before.before.before in
@@ -89,6 +92,9 @@ equal-requires c κs =
 add-t19 : tie.Need-overflow-add-t19 invariant-loop decreases-loop
 add-t19 c = let l = c.before.before.before.before.before.before.before in omega (arith, l.loop.invariant.within, (entry l).requires.2)
 
+without-requires-2 : tie.Need-without-requires-2 invariant-loop decreases-loop
+without-requires-2 c κs = search rules
+
 returns-2 : tie.Need-returns-2 invariant-loop decreases-loop
 returns-2 c =
     let q = c.before.before in
@@ -102,6 +108,9 @@ verdict-in-requires : tie.Need-verdict-in-requires invariant-loop decreases-loop
 verdict-in-requires c κs =
     let n = c.before.before.before.before.before in
     order-in n (not-false _ c.before.before.before.if1.false)
+
+is-accepted-requires : tie.Need-is-accepted-requires invariant-loop decreases-loop
+is-accepted-requires c κs = search rules
 
 given-requires : tie.Need-given-requires invariant-loop decreases-loop
 given-requires c κs =
@@ -117,13 +126,19 @@ returns-3 c =
     let x = order-in n (some v) in
     let value = v.verdict-in.ensures.value in
     c.given.ensures
-    ∙ ((λ i. givenOrder (value i) (positionsOf (x.size i) (order n)))
+    ∙ ((λ i. given_order (value i) (positions_of (x.size i) (order n)))
     ∙ going-given _ _ _ _ _ _ _ _ _ _ _ l.loop.inv n.before.loop-test.taken (order n) (follows n (some v)) (other v)
-    (sym (ap isAccepted value) ∙ (sym c.before.before.is-accepted.ensures ∙ c.before.if3.true)))
+    (sym (ap is_accepted value) ∙ (sym c.before.before.is-accepted.ensures ∙ c.before.if3.true)))
+
+kept-after-requires : tie.Need-kept-after-requires invariant-loop decreases-loop
+kept-after-requires c κs = search rules
 
 power-after-requires : tie.Need-power-after-requires invariant-loop decreases-loop
 power-after-requires c κs =
     let l = (next c.before.before.before).before.before in omega (arith, l.loop.inv.powers, l.loop.inv.counts, l.loop.inv.within, (entry l).pre.2)
+
+late-of-requires : tie.Need-late-of-requires invariant-loop decreases-loop
+late-of-requires c κs = search rules
 
 add-number : tie.Need-overflow-add-number invariant-loop decreases-loop
 add-number c =
@@ -151,6 +166,9 @@ loop-again c =
 add-t22 : tie.Need-overflow-add-t22 invariant-loop decreases-loop
 add-t22 c = let l = c.before in omega (arith, l.loop.invariant.within, (entry l).requires.2)
 
+without-requires-3 : tie.Need-without-requires-3 invariant-loop decreases-loop
+without-requires-3 c κs = search rules
+
 returns-4 : tie.Need-returns-4 invariant-loop decreases-loop
 returns-4 c =
     let l = c.before.before in
@@ -158,7 +176,30 @@ returns-4 c =
 
 pub repaired-spec : {M : Type 1} → statement M
 repaired-spec =
-    tie.close (tie.spec invariant-loop decreases-loop loop-holds next-order-requires add-t16 (λ c κs. search rules) returns
-    equal-requires add-t19 (λ c κs. search rules) returns-2 verdict-in-requires (λ c κs. search rules) given-requires
-    returns-3 (λ c κs. search rules) power-after-requires (λ c κs. search rules) add-number add-made loop-less
-    loop-again add-t22 (λ c κs. search rules) returns-4)
+    tie.close
+    (tie.spec
+    invariant-loop
+    decreases-loop
+    loop-holds
+    next-order-requires
+    add-t16
+    without-requires
+    returns
+    equal-requires
+    add-t19
+    without-requires-2
+    returns-2
+    verdict-in-requires
+    is-accepted-requires
+    given-requires
+    returns-3
+    kept-after-requires
+    power-after-requires
+    late-of-requires
+    add-number
+    add-made
+    loop-less
+    loop-again
+    add-t22
+    without-requires-3
+    returns-4)

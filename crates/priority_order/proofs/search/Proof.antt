@@ -6,19 +6,19 @@ use Prim.Native.Nat.{ℕ, min, ◌-◌, ◌≤◌}
 use native.Mathlib.Nat.{min-le_left}
 use borrow.Author.Tests.{not-false, not-true}
 use Rattle.model.specs.Task.{Table}
-use Rattle.table.specs.declared.Answer.TheVariants.{Taken}
+use Rattle.table.specs.declared.Answer.TheVariants.{Passed}
 use Rattle.table.proofs.Tasks.{table-length}
-use Rattle.table.specs.AnswerMeaning.{answerMeaning}
+use Rattle.table.specs.Load.{load_meaning}
 use Rattle.table.specs.Words.{count, table_of}
 use Rattle.table.proofs.Fit.{fit, same-table}
 use Rattle.judge.specs.declared.Verdict.TheVariants.{Refused}
 use Rattle.table.specs.Fit.{Fit}
 use Rattle.priority_order.specs.declared.Outcome.TheVariants.{None}
-use Rattle.priority_order.specs.Answer.{answer_in, givenOrder, no_order, positionsOf}
+use Rattle.priority_order.specs.Answer.{answer_in, given_order, no_order, positions_of}
 use Rattle.priority_order.specs.Orders.{OrderIn, Permutation}
-use Rattle.priority_order.specs.Repair.{laterOf, noMiss, repairs}
-use Rattle.priority_order.specs.Sorted.{sortedOrder, sortedOrders}
-use Rattle.priority_order.specs.Tried.{isFirm}
+use Rattle.priority_order.specs.Repair.{later_of, no_miss, repairs}
+use Rattle.priority_order.specs.Sorted.{sorted_order, sorted_orders}
+use Rattle.priority_order.specs.Tried.{is_firm}
 use Rattle.priority_order.proofs.Repairing.{passed-answer}
 use Rattle.priority_order.proofs.Searching.{Seen, judgings-left, search-firm, search-full}
 use Rattle.priority_order.proofs.Searching.{search-none, search-repair, seen_more, seen_start, sorted-order}
@@ -41,14 +41,14 @@ abbrev words : tie.Start invariant-loop decreases-loop → List ℕ
 words s = s.args.words.now
 
 -- the table that was loaded
-passed : (s : tie.Start invariant-loop decreases-loop) → s.args.table.answer ≡ Taken
+passed : (s : tie.Start invariant-loop decreases-loop) → s.args.table.answer ≡ Passed
 passed s = passed-answer (words s) s.args.table s.requires.1 s.requires.0
 
 fits : (s : tie.Start invariant-loop decreases-loop) → Fit s.args.table
 fits s = fit (words s) s.args.table s.requires.1 (passed s)
 
 counted : (s : tie.Start invariant-loop decreases-loop) → s.args.table.count ≡ count (words s)
-counted s = (s.requires.1.holds (ap answerMeaning (passed s))).count ∙ table-length (words s)
+counted s = (s.requires.1.holds (ap load_meaning (passed s))).count ∙ table-length (words s)
 
 -- an order of its tasks
 in_order : (s : tie.Start invariant-loop decreases-loop) (o : List ℕ) → Permutation (count (words s)) o → OrderIn (words s) s.args.table.count o
@@ -56,10 +56,10 @@ in_order s o x = record { passes = s.requires.0; size = counted s; permutation =
 
 -- a sorted order
 sorted : (c : tie.After-sorted invariant-loop decreases-loop)
-    → c.sorted.result ≡ sortedOrder (table_of (words (entry c.before.before))) c.before.before.loop.number
+    → c.sorted.result ≡ sorted_order (table_of (words (entry c.before.before))) c.before.before.loop.number
 sorted c =
     let s = entry c.before.before in
-    c.sorted.ensures ∙ ap (λ (t : Table). sortedOrder t c.before.before.loop.number) (same-table (words s) s.args.table s.pre.1 (passed s))
+    c.sorted.ensures ∙ ap (λ (t : Table). sorted_order t c.before.before.loop.number) (same-table (words s) s.args.table s.pre.1 (passed s))
 
 order-in : (c : tie.After-sorted invariant-loop decreases-loop)
     → OrderIn (words (entry c.before.before)) (entry c.before.before).args.table.count c.sorted.result
@@ -70,16 +70,22 @@ order-in c =
 
 -- all of the five are tried
 all : (c : tie.After-loop invariant-loop decreases-loop)
-    → Seen (words (entry c.before)) (min (entry c.before).args.judgings sortedOrders) c.before.loop.accepted c.before.loop.late
+    → Seen (words (entry c.before)) (min (entry c.before).args.judgings sorted_orders) c.before.loop.accepted c.before.loop.late
 all c =
     let l = c.before.loop in
-    let e : l.number ≡ c.before.before.smaller.result = omega (arith, l.invariant.1, c.loop-test.false) in
-    subst (λ (k : ℕ). Seen (words (entry c.before)) k l.accepted l.late) (e ∙ c.before.before.smaller.ensures) l.invariant.0
+    let e : l.number ≡ c.before.before.narrower.result = omega (arith, l.invariant.1, c.loop-test.false) in
+    subst (λ (k : ℕ). Seen (words (entry c.before)) k l.accepted l.late) (e ∙ c.before.before.narrower.ensures) l.invariant.0
+
+own-requires : tie.Need-own-requires invariant-loop decreases-loop
+own-requires c κs = search rules
+
+narrower-requires : tie.Need-narrower-requires invariant-loop decreases-loop
+narrower-requires c κs = search rules
 
 loop-holds : tie.Need-loop-init invariant-loop decreases-loop
 loop-holds c =
     let s = c.before.before.before in (
-      subst (λ (o : List ℕ). Seen (words s) 0 (record { some = false; verdict = Refused 0 0; order = o }) (noMiss o)) (sym c.before.own.ensures)
+      subst (λ (o : List ℕ). Seen (words s) 0 (record { some = false; verdict = Refused 0 0; order = o }) (no_miss o)) (sym c.before.own.ensures)
           (seen_start (words s) s.requires.0),
       omega arith,
     )
@@ -89,6 +95,9 @@ sorted-requires c κs = let f = fits (entry c.before) in (f.few, omega (arith, f
 
 verdict-in-requires : tie.Need-verdict-in-requires invariant-loop decreases-loop
 verdict-in-requires c κs = order-in c
+
+is-firm-requires : tie.Need-is-firm-requires invariant-loop decreases-loop
+is-firm-requires c κs = search rules
 
 given-requires : tie.Need-given-requires invariant-loop decreases-loop
 given-requires c κs =
@@ -103,10 +112,19 @@ returns c =
     let s = entry l in
     let value = v.verdict-in.ensures.value in
     c.given.ensures
-    ∙ ((λ i. givenOrder (value i) (positionsOf (counted s i) o.sorted.result))
+    ∙ ((λ i. given_order (value i) (positions_of (counted s i) o.sorted.result))
     ∙ search-firm (words s) s.pre.0 s.args.judgings l.loop.number l.loop.accepted l.loop.late l.loop.invariant.0
-    (rw (← l.before.smaller.ensures) o.before.loop-test.true) o.sorted.result (sorted o)
-    (ap isFirm (sym value) ∙ (sym c.before.before.is-firm.ensures ∙ c.before.if1.true)))
+    (rw (← l.before.narrower.ensures) o.before.loop-test.true) o.sorted.result (sorted o)
+    (ap is_firm (sym value) ∙ (sym c.before.before.is-firm.ensures ∙ c.before.if1.true)))
+
+first-accepted-requires : tie.Need-first-accepted-requires invariant-loop decreases-loop
+first-accepted-requires c κs = search rules
+
+late-of-requires : tie.Need-late-of-requires invariant-loop decreases-loop
+late-of-requires c κs = search rules
+
+later-requires : tie.Need-later-requires invariant-loop decreases-loop
+later-requires c κs = search rules
 
 add-number : tie.Need-overflow-add-number invariant-loop decreases-loop
 add-number c =
@@ -129,7 +147,7 @@ loop-again c =
       seen_more (words s) s.pre.0 l.loop.number l.loop.accepted l.loop.late l.loop.invariant.0 o.sorted.result (sorted o)
           v.verdict-in.result v.verdict-in.ensures.value (sym f.is-firm.ensures ∙ a.before.if1.false)
           a.first-accepted.result a.first-accepted.ensures c.later.result (c.later.ensures
-          ∙ ap (laterOf l.loop.late) c.before.late_of.ensures),
+          ∙ ap (later_of l.loop.late) c.before.late_of.ensures),
       omega (arith, o.before.loop-test.true),
     )
 
@@ -146,8 +164,11 @@ returns-2 c =
     let a = l.before.loop.accepted in
     let h = c.before.before.if2.true in
     c.given2.ensures
-    ∙ ((λ i. givenOrder ((all l).verdict h i) (positionsOf (counted s i) a.order))
+    ∙ ((λ i. given_order ((all l).verdict h i) (positions_of (counted s i) a.order))
     ∙ search-full (words s) s.pre.0 s.args.judgings a l.before.loop.late (all l) h)
+
+without-requires : tie.Need-without-requires invariant-loop decreases-loop
+without-requires c κs = search rules
 
 returns-3 : tie.Need-returns-3 invariant-loop decreases-loop
 returns-3 c =
@@ -155,14 +176,14 @@ returns-3 c =
     let l = e.before in
     let s = entry l.before in
     c.without.ensures
-    ∙ (ap (λ (n : ℕ). no_order (None n)) l.before.before.smaller.ensures
+    ∙ (ap (λ (n : ℕ). no_order (None n)) l.before.before.narrower.ensures
     ∙ search-none (words s) s.pre.0 s.args.judgings l.before.loop.accepted l.before.loop.late (all l) e.if2.false
     (not-true l.before.loop.late.some c.before.if3.true))
 
 sub-repaired : tie.Need-overflow-sub-repaired invariant-loop decreases-loop
 sub-repaired c =
     let l = c.before.before.before.before in
-    omega (arith, l.before.smaller.ensures, min-le_left (entry l).args.judgings sortedOrders)
+    omega (arith, l.before.narrower.ensures, min-le_left (entry l).args.judgings sorted_orders)
 
 repaired-requires : tie.Need-repaired-requires invariant-loop decreases-loop
 repaired-requires c κs =
@@ -170,7 +191,7 @@ repaired-requires c κs =
     let s = entry l.before in (
       in_order s _ (all l).late-permutation,
       (all l).says (not-false l.before.loop.late.some c.if3.false),
-      omega (arith, l.before.before.smaller.ensures, min-le_left s.args.judgings sortedOrders),
+      omega (arith, l.before.before.narrower.ensures, min-le_left s.args.judgings sorted_orders),
     )
 
 returns-4 : tie.Need-returns-4 invariant-loop decreases-loop
@@ -180,15 +201,36 @@ returns-4 c =
     let s = entry l.before in
     let x = l.before.loop.late in
     let m = s.args.judgings in
-    let first = l.before.before.smaller.ensures in
-    let left : m - l.before.before.smaller.result ≡ m - sortedOrders = ap (λ (n : ℕ). m - n) first ∙ judgings-left m in
+    let first = l.before.before.narrower.ensures in
+    let left : m - l.before.before.narrower.result ≡ m - sorted_orders = ap (λ (n : ℕ). m - n) first ∙ judgings-left m in
     c.repaired.ensures
     ∙ ((λ i. answer_in (words s) (first i) (repairs (words s) (left i) x.order 1 1 x.order))
     ∙ search-repair (words s) s.pre.0 m l.before.loop.accepted x (all l) e.if2.false (not-false x.some c.before.if3.false))
 
 pub search-spec : {M : Type 1} → statement M
 search-spec =
-    tie.close (tie.spec invariant-loop decreases-loop (λ c κs. search rules) (λ c κs. search rules) loop-holds sorted-requires
-    verdict-in-requires (λ c κs. search rules) given-requires returns (λ c κs. search rules) (λ c κs. search rules)
-    (λ c κs. search rules) add-number loop-less loop-again given-requires-2 returns-2 (λ c κs. search rules) returns-3
-    sub-repaired repaired-requires returns-4)
+    tie.close
+    (tie.spec
+    invariant-loop
+    decreases-loop
+    own-requires
+    narrower-requires
+    loop-holds
+    sorted-requires
+    verdict-in-requires
+    is-firm-requires
+    given-requires
+    returns
+    first-accepted-requires
+    late-of-requires
+    later-requires
+    add-number
+    loop-less
+    loop-again
+    given-requires-2
+    returns-2
+    without-requires
+    returns-3
+    sub-repaired
+    repaired-requires
+    returns-4)

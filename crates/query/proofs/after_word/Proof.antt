@@ -6,6 +6,9 @@ use borrow.Author.Rules.{rules}
 use Rattle.query.proofs.after_word.Statement.{statement}
 use Rattle.query.proofs.after_word.Tie as tie
 
+begins-with-requires : tie.Need-begins-with-requires
+begins-with-requires c κs = search rules
+
 returns : tie.Need-returns
 returns c =
     let w = c.before.before.before.before.args.word in
@@ -17,4 +20,4 @@ returns-2 c =
     ap (λ (t : Bool). cond t (length w.now) 0) (sym c.if1.false ∙ c.before.begins-with.ensures)
 
 pub after-word-spec : {M : Type 1} → statement M
-after-word-spec = tie.close (tie.spec (λ c κs. search rules) returns returns-2)
+after-word-spec = tie.close (tie.spec begins-with-requires returns returns-2)

@@ -1,7 +1,7 @@
 -- `query::put` meets its contract: each question has its function. Assumes nothing.
 use mathlib.Core.Path.{sym, ap, ◌∙◌}
 use Rattle.query.specs.declared.Question.{Question}
-use Rattle.query.specs.Query.{answerTo}
+use Rattle.query.specs.Query.{answer_to}
 use borrow.Author.Rules.{rules}
 use Rattle.query.proofs.put.Statement.{statement}
 use Rattle.query.proofs.put.Tie as tie
@@ -25,12 +25,6 @@ told-5 c = c.before.before
 abbrev told-6 : tie.After-verdict → tie.After-enum-told6
 told-6 c = c.before.before
 
-abbrev told-7 : tie.After-order → tie.After-enum-told7
-told-7 c = c.before.before
-
-abbrev told-8 : tie.After-ordered → tie.After-enum-told8
-told-8 c = c.before.before
-
 -- the state at the call
 abbrev entry : tie.After-enum-told → tie.Start
 entry c = c.before.before.before.before
@@ -50,73 +44,127 @@ entry-5 c = c.before.before.before.before
 abbrev entry-6 : tie.After-enum-told6 → tie.Start
 entry-6 c = c.before.before.before.before
 
-abbrev entry-7 : tie.After-enum-told7 → tie.Start
-entry-7 c = c.before.before.before.before
+enum_told : tie.Need-enum-told
+enum_told c = search rules
 
-abbrev entry-8 : tie.After-enum-told8 → tie.Start
-entry-8 c = c.before.before.before.before
+why-requires : tie.Need-why-requires
+why-requires c κs = search rules
+
+enum-told-2 : tie.Need-enum-told-2
+enum-told-2 c = search rules
+
+response-times-requires : tie.Need-response-times-requires
+response-times-requires c κs = search rules
+
+enum-told-3 : tie.Need-enum-told-3
+enum-told-3 c = search rules
+
+conflict-requires : tie.Need-conflict-requires
+conflict-requires c κs = search rules
+
+enum-told-4 : tie.Need-enum-told-4
+enum-told-4 c = search rules
+
+slack-requires : tie.Need-slack-requires
+slack-requires c κs = search rules
+
+enum-told-5 : tie.Need-enum-told-5
+enum-told-5 c = search rules
+
+bounds-requires : tie.Need-bounds-requires
+bounds-requires c κs = search rules
+
+enum-told-6 : tie.Need-enum-told-6
+enum-told-6 c = search rules
+
+verdict-requires : tie.Need-verdict-requires
+verdict-requires c κs = search rules
+
+same_length : tie.Need-same-length
+same_length c = search rules
 
 returns : tie.Need-returns
 returns c =
     let y = c.before.before in
     let t = told y in
     let ws = (entry t).args.words.now in
-    (y.why.ensures.0, y.why.ensures.1 ∙ ap (λ (q : Question). answerTo q ws) (sym t.enum_told.given.1))
+    (y.why.ensures.0, y.why.ensures.1 ∙ ap (λ (q : Question). answer_to q ws) (sym t.enum_told.given.1))
+
+same-length-2 : tie.Need-same-length-2
+same-length-2 c = search rules
 
 returns-2 : tie.Need-returns-2
 returns-2 c =
     let y = c.before.before in
     let t = told-2 y in
     let ws = (entry-2 t).args.words.now in
-    (y.response-times.ensures.0, y.response-times.ensures.1 ∙ ap (λ (q : Question). answerTo q ws) (sym t.enum-told2.given.1))
+    (y.response-times.ensures.0, y.response-times.ensures.1 ∙ ap (λ (q : Question). answer_to q ws) (sym t.enum-told2.given.1))
+
+same-length-3 : tie.Need-same-length-3
+same-length-3 c = search rules
 
 returns-3 : tie.Need-returns-3
 returns-3 c =
     let y = c.before.before in
     let t = told-3 y in
     let ws = (entry-3 t).args.words.now in
-    (y.conflict.ensures.0, y.conflict.ensures.1 ∙ ap (λ (q : Question). answerTo q ws) (sym t.enum-told3.given.1))
+    (y.conflict.ensures.0, y.conflict.ensures.1 ∙ ap (λ (q : Question). answer_to q ws) (sym t.enum-told3.given.1))
+
+same-length-4 : tie.Need-same-length-4
+same-length-4 c = search rules
 
 returns-4 : tie.Need-returns-4
 returns-4 c =
     let y = c.before.before in
     let t = told-4 y in
     let ws = (entry-4 t).args.words.now in
-    (y.slack.ensures.0, y.slack.ensures.1 ∙ ap (λ (q : Question). answerTo q ws) (sym t.enum-told4.given.1))
+    (y.slack.ensures.0, y.slack.ensures.1 ∙ ap (λ (q : Question). answer_to q ws) (sym t.enum-told4.given.1))
+
+same-length-5 : tie.Need-same-length-5
+same-length-5 c = search rules
 
 returns-5 : tie.Need-returns-5
 returns-5 c =
     let y = c.before.before in
     let t = told-5 y in
     let ws = (entry-5 t).args.words.now in
-    (y.bounds.ensures.0, y.bounds.ensures.1 ∙ ap (λ (q : Question). answerTo q ws) (sym t.enum-told5.given.1))
+    (y.bounds.ensures.0, y.bounds.ensures.1 ∙ ap (λ (q : Question). answer_to q ws) (sym t.enum-told5.given.1))
+
+same-length-6 : tie.Need-same-length-6
+same-length-6 c = search rules
 
 returns-6 : tie.Need-returns-6
 returns-6 c =
     let y = c.before.before in
     let t = told-6 y in
     let ws = (entry-6 t).args.words.now in
-    (y.verdict.ensures.0, y.verdict.ensures.1 ∙ ap (λ (q : Question). answerTo q ws) (sym t.enum-told6.given.1))
-
-returns-7 : tie.Need-returns-7
-returns-7 c =
-    let y = c.before.before in
-    let t = told-7 y in
-    let ws = (entry-7 t).args.words.now in
-    (y.order.ensures.0, y.order.ensures.1 ∙ ap (λ (q : Question). answerTo q ws) (sym t.enum-told7.given.1))
-
-returns-8 : tie.Need-returns-8
-returns-8 c =
-    let y = c.before.before in
-    let t = told-8 y in
-    let ws = (entry-8 t).args.words.now in
-    (y.ordered.ensures.0, y.ordered.ensures.1 ∙ ap (λ (q : Question). answerTo q ws) (sym t.enum-told8.given.1))
+    (y.verdict.ensures.0, y.verdict.ensures.1 ∙ ap (λ (q : Question). answer_to q ws) (sym t.enum-told6.given.1))
 
 pub put_spec : {M : Type 1} → statement M
 put_spec =
-    tie.close (tie.spec (λ c. search rules) (λ c κs. search rules) (λ c. search rules) (λ c κs. search rules)
-    (λ c. search rules) (λ c κs. search rules) (λ c. search rules) (λ c κs. search rules) (λ c. search rules)
-    (λ c κs. search rules) (λ c. search rules) (λ c κs. search rules) (λ c. search rules) (λ c κs. search rules)
-    (λ c. search rules) (λ c κs. search rules) (λ c. search rules) returns (λ c. search rules) returns-2
-    (λ c. search rules) returns-3 (λ c. search rules) returns-4 (λ c. search rules) returns-5 (λ c. search rules)
-    returns-6 (λ c. search rules) returns-7 (λ c. search rules) returns-8)
+    tie.close
+    (tie.spec
+    enum_told
+    why-requires
+    enum-told-2
+    response-times-requires
+    enum-told-3
+    conflict-requires
+    enum-told-4
+    slack-requires
+    enum-told-5
+    bounds-requires
+    enum-told-6
+    verdict-requires
+    same_length
+    returns
+    same-length-2
+    returns-2
+    same-length-3
+    returns-3
+    same-length-4
+    returns-4
+    same-length-5
+    returns-5
+    same-length-6
+    returns-6)

@@ -30,11 +30,29 @@ entry-2 c = c.before.before.before.before
 none : (c : tie.After-load) → NoneApplies (entry (told c)).args.words.now
 none c = (entry (told c)).requires.0 (told c).enum_told.given.1
 
+enum_told : tie.Need-enum-told
+enum_told c = search rules
+
+load-requires : tie.Need-load-requires
+load-requires c κs = search rules
+
 put-figures-requires : tie.Need-put-figures-requires
 put-figures-requires c κs =
     let l = c.before in
     let k = loads (entry (told l)).args.words.now (none l) l.load.result l.load.ensures in
     (k.count-from.1, (entry (told l)).requires.1)
+
+enum-known-answer : tie.Need-enum-known-answer
+enum-known-answer c = search rules
+
+slice-aggregate-put-pair : tie.Need-slice-aggregate-put-pair
+slice-aggregate-put-pair c = search rules
+
+put-pair-requires : tie.Need-put-pair-requires
+put-pair-requires c κs = search rules
+
+same_length : tie.Need-same-length
+same_length c = search rules
 
 returns : tie.Need-returns
 returns c =
@@ -45,6 +63,9 @@ returns c =
       put_front f.put-figures.ensures.0
           ∙ lines-text a.words.now (none l) l.load.result l.load.ensures a.answer a.figures (told l).enum_told.given.1,
     )
+
+same-length-2 : tie.Need-same-length-2
+same-length-2 c = search rules
 
 returns-2 : tie.Need-returns-2
 returns-2 c =
@@ -57,5 +78,15 @@ returns-2 c =
 
 pub put-answer-spec : {M : Type 1} → statement M
 put-answer-spec =
-    tie.close (tie.spec (λ c. search rules) (λ c κs. search rules) put-figures-requires (λ c. search rules)
-    (λ c. search rules) (λ c κs. search rules) (λ c. search rules) returns (λ c. search rules) returns-2)
+    tie.close
+    (tie.spec
+    enum_told
+    load-requires
+    put-figures-requires
+    enum-known-answer
+    slice-aggregate-put-pair
+    put-pair-requires
+    same_length
+    returns
+    same-length-2
+    returns-2)

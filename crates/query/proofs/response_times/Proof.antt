@@ -5,22 +5,24 @@ use borrow.Author.Rules.{rules}
 use Rattle.query.proofs.response_times.Statement.{statement}
 use Rattle.query.proofs.response_times.Tie as tie
 
--- the state at the call
-abbrev entry : tie.After-response-times → tie.Start
-entry c = c.before.before.before
+response-times-requires : tie.Need-response-times-requires
+response-times-requires c κs = search rules
 
 put-answer-requires : tie.Need-put-answer-requires
 put-answer-requires c κs =
     let g = c.before.before in
-    let s = entry g in
-    (response-times-none s.args.words.now g.response-times.result g.response-times.ensures, s.pre)
+    let s = g.before.before.before in
+    (response-times-none s.args.words.now g.response-times.result g.response-times.ensures, s.requires)
+
+same_length : tie.Need-same-length
+same_length c = search rules
 
 returns : tie.Need-returns
 returns c =
     let f = c.before.before in
     let g = f.before.before.before in
-    let s = entry g in
+    let s = g.before.before.before in
     (f.put-answer.ensures.0, f.put-answer.ensures.1 ∙ response-times-by s.args.words.now g.response-times.result g.response-times.ensures)
 
 pub response-times-spec : {M : Type 1} → statement M
-response-times-spec = tie.close (tie.spec (λ c κs. search rules) put-answer-requires (λ c. search rules) returns)
+response-times-spec = tie.close (tie.spec response-times-requires put-answer-requires same_length returns)

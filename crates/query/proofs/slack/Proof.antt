@@ -5,22 +5,24 @@ use borrow.Author.Rules.{rules}
 use Rattle.query.proofs.slack.Statement.{statement}
 use Rattle.query.proofs.slack.Tie as tie
 
--- the state at the call
-abbrev entry : tie.After-slack → tie.Start
-entry c = c.before.before.before
+slack-requires : tie.Need-slack-requires
+slack-requires c κs = search rules
 
 put-answer-requires : tie.Need-put-answer-requires
 put-answer-requires c κs =
     let g = c.before.before in
-    let s = entry g in
-    (slack-none s.args.words.now g.slack.result g.slack.ensures, s.pre)
+    let s = g.before.before.before in
+    (slack-none s.args.words.now g.slack.result g.slack.ensures, s.requires)
+
+same_length : tie.Need-same-length
+same_length c = search rules
 
 returns : tie.Need-returns
 returns c =
     let f = c.before.before in
     let g = f.before.before.before in
-    let s = entry g in
+    let s = g.before.before.before in
     (f.put-answer.ensures.0, f.put-answer.ensures.1 ∙ slack-by s.args.words.now g.slack.result g.slack.ensures)
 
 pub slack-spec : {M : Type 1} → statement M
-slack-spec = tie.close (tie.spec (λ c κs. search rules) put-answer-requires (λ c. search rules) returns)
+slack-spec = tie.close (tie.spec slack-requires put-answer-requires same_length returns)

@@ -22,6 +22,12 @@ sentence-2 c = c.before.before.before.before
 abbrev refused : tie.After-put-pair → tie.After-outcome2
 refused c = c.before.before.before.before
 
+sentence-requires : tie.Need-sentence-requires
+sentence-requires c κs = search rules
+
+enum-known-outcome : tie.Need-enum-known-outcome
+enum-known-outcome c = search rules
+
 slice-write-line : tie.Need-slice-write-line
 slice-write-line c =
     let s = sentence c in
@@ -35,11 +41,26 @@ add-result c =
     let k = why-sentence g.args.words.now g.args.line.now _ s.sentence.result s.sentence.ensures g.pre _ c.before.outcome.given.1 in
     omega (arith, k.0)
 
+enum-known-outcome-2 : tie.Need-enum-known-outcome-2
+enum-known-outcome-2 c = search rules
+
+slice-aggregate-put-pair : tie.Need-slice-aggregate-put-pair
+slice-aggregate-put-pair c = search rules
+
+put-pair-requires : tie.Need-put-pair-requires
+put-pair-requires c κs = search rules
+
+same_length : tie.Need-same-length
+same_length c = search rules
+
 returns : tie.Need-returns
 returns c =
     let s = sentence c in
     let g = entry s in
     why-sentence g.args.words.now g.args.line.now _ s.sentence.result s.sentence.ensures g.pre _ c.before.outcome.given.1
+
+same-length-2 : tie.Need-same-length-2
+same-length-2 c = search rules
 
 returns-2 : tie.Need-returns-2
 returns-2 c =
@@ -54,5 +75,16 @@ returns-2 c =
 
 pub why-spec : {M : Type 1} → statement M
 why-spec =
-    tie.close (tie.spec (λ c κs. search rules) (λ c. search rules) slice-write-line add-result (λ c. search rules)
-    (λ c. search rules) (λ c κs. search rules) (λ c. search rules) returns (λ c. search rules) returns-2)
+    tie.close
+    (tie.spec
+    sentence-requires
+    enum-known-outcome
+    slice-write-line
+    add-result
+    enum-known-outcome-2
+    slice-aggregate-put-pair
+    put-pair-requires
+    same_length
+    returns
+    same-length-2
+    returns-2)

@@ -2,11 +2,11 @@
 -- Assumes nothing.
 use mathlib.Core.Path.{◌≡◌, sym, ap, ◌∙◌}
 use borrow.Author.Rules.{rules}
-use Rattle.table.specs.declared.Answer.{Answer}
+use Rattle.run.specs.declared.Answer.{Answer}
 use Rattle.run.specs.declared.Run.{Run}
-use Rattle.run.specs.declared.RunAnswer.{RunAnswer}
+use Rattle.run.specs.declared.Started.{Started}
 use Rattle.run.specs.Start.{start_of}
-use Rattle.refinement.specs.Replay.{replayedRun}
+use Rattle.refinement.specs.Replay.{replayed_run}
 use Rattle.refinement.proofs.Outcomes.{replay-refused, replay-taken, replay-of}
 use Rattle.refinement.proofs.replay.Statement.{statement}
 use Rattle.refinement.proofs.replay.Tie as tie
@@ -32,7 +32,19 @@ entry-from-start c = entry-from-slice-known2 c.before
 
 -- the answer of the start is the definition's
 told : (c : tie.After-start) (a : Answer) → c.start.result.answer ≡ a → (start_of (entry-from-start c).args.words.now).answer ≡ a
-told c a e = ap (λ (s : RunAnswer). s.answer) (sym c.start.ensures.value) ∙ e
+told c a e = ap (λ (s : Started). s.answer) (sym c.start.ensures.value) ∙ e
+
+start-requires : tie.Need-start-requires
+start-requires c κs = search rules
+
+enum-known-answer : tie.Need-enum-known-answer
+enum-known-answer c = search rules
+
+enum_told : tie.Need-enum-told
+enum_told c = search rules
+
+replay-run-requires : tie.Need-replay-run-requires
+replay-run-requires c κs = search rules
 
 returns : tie.Need-returns
 returns c =
@@ -41,18 +53,23 @@ returns c =
     replay-of a.words.now a.entries.now a.numbers.now a.bytes.now _
     (sym (replay-refused a.words.now a.entries.now a.numbers.now a.bytes.now _ _ (told s _ c.before.answer.given.1)))
 
+same_length : tie.Need-same-length
+same_length c = search rules
+
+same-length-2 : tie.Need-same-length-2
+same-length-2 c = search rules
+
 returns-2 : tie.Need-returns-2
 returns-2 c =
     let p = replay-run c.before in
     let t = (run-from-replay-run p).before in
     let s = t.before.before in
     let a = (entry-from-start s).args in
-    let run : s.start.result.run ≡ (start_of a.words.now).run = ap (λ (q : RunAnswer). q.run) s.start.ensures.value in
+    let run : s.start.result.run ≡ (start_of a.words.now).run = ap (λ (q : Started). q.run) s.start.ensures.value in
     replay-of a.words.now a.entries.now a.numbers.now a.bytes.now _
-    (p.replay-run.ensures ∙ (ap (λ (r : Run). replayedRun r a.entries.now a.numbers.now a.bytes.now) run
+    (p.replay-run.ensures ∙ (ap (λ (r : Run). replayed_run r a.entries.now a.numbers.now a.bytes.now) run
     ∙ sym (replay-taken a.words.now a.entries.now a.numbers.now a.bytes.now (told s _ t.enum_told.given.1))))
 
 pub replay-spec : {M : Type 1} → statement M
 replay-spec =
-    tie.close (tie.spec (λ c κs. search rules) (λ c. search rules) (λ c. search rules) (λ c κs. search rules) returns
-    (λ c. search rules) (λ c. search rules) returns-2)
+    tie.close (tie.spec start-requires enum-known-answer enum_told replay-run-requires returns same_length same-length-2 returns-2)

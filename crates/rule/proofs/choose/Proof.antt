@@ -11,14 +11,14 @@ use lib.Bits.{bit_or}
 use lib.Count.{count_trailing_zeros}
 use lib.Dec.{eqb, ltb}
 use lib.ListN.{get_or}
-use Rattle.model.specs.Task.{Rule, ruleOf}
+use Rattle.model.specs.Task.{Rule, rule_of}
 use Rattle.model.specs.Search.{bit}
-use Rattle.model.specs.Grants.{claimants, endsChoosing}
+use Rattle.model.specs.Grants.{claimants, ends_choosing}
 use Rattle.model.proofs.Digits.{Lowest, LowestDigit, lowest-digit, shifted_one, or-bit, bit-power, bit-none}
 use Rattle.rule.proofs.Choosing.{places, places-on, places-none, places-fits, places-passed, places-ended}
 use Rattle.cores.specs.Cores.{cores}
 use Rattle.rule.specs.Granted.{selection, granted}
-use Rattle.rule.specs.Widths.{widthsIn}
+use Rattle.rule.specs.Widths.{widths_in}
 use Rattle.cores.proofs.Cores.{cores-length}
 use Rattle.rule.proofs.Granting.{takes, passes, ends}
 use Rattle.rule.proofs.choose.Statement.{statement}
@@ -28,8 +28,8 @@ abbrev invariant-loop : tie.invariant-loop
 invariant-loop rule free claims even widths chosen₀ left₀ rest₀ chosen left rest =
     (rest < 2 ^ 32)
     × ((p : ℕ)
-    → bit chosen p || places (ruleOf rule) (widthsIn even widths) rest left p
-    ≡ granted (ruleOf rule) (claimants (widthsIn even widths) (bit claims)) (cores free) p)
+    → bit chosen p || places (rule_of rule) (widths_in even widths) rest left p
+    ≡ granted (rule_of rule) (claimants (widths_in even widths) (bit claims)) (cores free) p)
 
 abbrev decreases-loop : tie.decreases-loop
 decreases-loop rule free claims even widths chosen₀ left₀ rest₀ chosen left rest = rest
@@ -54,8 +54,8 @@ loop-holds c =
     let a = c.args in (
       c.ranges.claims.fits,
       λ p. rw bit-none
-          (ap (λ (n : ℕ). places (ruleOf a.rule) (widthsIn a.even a.widths.now) a.claims n p) (sym (cores-length a.free c.ranges.free.fits))
-          ∙ places-on (ruleOf a.rule) (widthsIn a.even a.widths.now) a.claims p (cores a.free)),
+          (ap (λ (n : ℕ). places (rule_of a.rule) (widths_in a.even a.widths.now) a.claims n p) (sym (cores-length a.free c.ranges.free.fits))
+          ∙ places-on (rule_of a.rule) (widths_in a.even a.widths.now) a.claims p (cores a.free)),
     )
 
 -- ---- one iteration, at the lowest digit q of the rest x, of width v; y is the rest after it
@@ -68,8 +68,7 @@ module _ (r : Rule) (ws : List ℕ) (x y q v n chosen : ℕ) (l : Lowest x q) (e
   given-step : (m : ℕ) → m ≡ 2 ^ q → v ≤ n → 0 < v → bit (bit_or chosen m) p || places r ws y (n - v) p ≡ bit chosen p || places r ws x n p
   given-step m d k w =
       let g = places r ws y (n - v) p in
-      let b : bit (bit_or chosen m) p ≡ bit chosen p || eqb p q = or-bit chosen m p ∙ ap (λ (y : ℕ). bit chosen p || bit y p) d
-      ∙ ap (λ (t : Bool). bit chosen p || t) (bit-power q p) in
+      let b : bit (bit_or chosen m) p ≡ bit chosen p || eqb p q = or-bit chosen m p ∙ ap (λ (y : ℕ). bit chosen p || bit y p) d ∙ ap (λ (t : Bool). bit chosen p || t) (bit-power q p) in
       let h : places r ws x n p ≡ eqb p q || g =
       fits-step k ∙ ap (λ (t : Bool). eqb p q && t || g) (lt-ltb 0 v w) ∙ ap (λ (t : Bool). t || g) (and-true (eqb p q)) in
       ap (λ (t : Bool). t || g) b ∙ or_assoc (bit chosen p) (eqb p q) g ∙ ap (λ (t : Bool). bit chosen p || t) (sym h)
@@ -80,10 +79,10 @@ module _ (r : Rule) (ws : List ℕ) (x y q v n chosen : ℕ) (l : Lowest x q) (e
       let h : places r ws x n p ≡ g = fits-step k ∙ ap (λ (t : Bool). eqb p q && t || g) (le-ltb 0 v w) ∙ ap (λ (t : Bool). t || g) (and-false (eqb p q)) in
       ap (λ (t : Bool). bit chosen p || t) (sym h)
 
-  ended-step : n < v → endsChoosing r ≡ true → bit chosen p ≡ bit chosen p || places r ws x n p
+  ended-step : n < v → ends_choosing r ≡ true → bit chosen p ≡ bit chosen p || places r ws x n p
   ended-step k t = sym (or-false (bit chosen p)) ∙ ap (λ (u : Bool). bit chosen p || u) (sym (places-ended r ws x q n p l (rw (← f) k) t))
 
-  passed-step : n < v → endsChoosing r ≡ false → bit chosen p || places r ws y n p ≡ bit chosen p || places r ws x n p
+  passed-step : n < v → ends_choosing r ≡ false → bit chosen p || places r ws y n p ≡ bit chosen p || places r ws x n p
   passed-step k t = ap (λ (u : Bool). bit chosen p || u) (rw e (sym (places-passed r ws x q n p l (rw (← f) k) t)))
 
 -- ---- the needs
@@ -91,21 +90,30 @@ module _ (r : Rule) (ws : List ℕ) (x y q v n chosen : ℕ) (l : Lowest x q) (e
 at-step : (c : tie.In-loop invariant-loop decreases-loop) → LowestDigit 32 c.before.loop.rest
 at-step c = lowest-digit 32 c.before.loop.rest c.loop-test.true c.before.loop.invariant.0
 
+sub-rest : tie.Need-overflow-sub-rest invariant-loop decreases-loop
+sub-rest c = omega arith
+
 width-at-requires : tie.Need-width-at-requires invariant-loop decreases-loop
 width-at-requires c κs = (at-step c).place
+
+select-requires : tie.Need-select-requires invariant-loop decreases-loop
+select-requires c κs = search rules
+
+enum_told : tie.Need-enum-told invariant-loop decreases-loop
+enum_told c = search rules
 
 -- the width that is read, and the rule's answer to it
 abbrev width : tie.After-select invariant-loop decreases-loop → ℕ
 width c = c.before.width-at.result
 
-said : (c : tie.After-select invariant-loop decreases-loop) → c.select.result ≡ selection (ruleOf (loop c).before.args.rule) (loop c).loop.left (width c)
+said : (c : tie.After-select invariant-loop decreases-loop) → c.select.result ≡ selection (rule_of (loop c).before.args.rule) (loop c).loop.left (width c)
 said c = c.select.ensures
 
 sub-left : tie.Need-overflow-sub-left invariant-loop decreases-loop
 sub-left c =
     let l = (in-loop-from-enum-told c).before.loop in
     let a = (in-loop-from-enum-told c).before.before.args in
-    takes (ruleOf a.rule) l.left (width c.before.before) (sym (said c.before.before) ∙ c.enum_told.given.1)
+    takes (rule_of a.rule) l.left (width c.before.before) (sym (said c.before.before) ∙ c.enum_told.given.1)
 
 shl-chosen : tie.Need-overflow-shl-chosen invariant-loop decreases-loop
 shl-chosen c = (at-step (in-loop-from-enum-told c.before)).place
@@ -119,7 +127,7 @@ loop-again c =
     let a = t.before.before.args in
     let l = t.before.loop in (
       omega (arith, (at-step t).falls),
-      λ p. given-step (ruleOf a.rule) (widthsIn a.even a.widths.now) l.rest _ (count_trailing_zeros 32 l.rest) _ l.left l.chosen
+      λ p. given-step (rule_of a.rule) (widths_in a.even a.widths.now) l.rest _ (count_trailing_zeros 32 l.rest) _ l.left l.chosen
           (at-step t).lowest (at-step t).after c.before.before.before.before.width-at.ensures p _
           (shifted_one 32 (count_trailing_zeros 32 l.rest) (at-step t).place) (sub-left c.before) c.if1.true ∙ l.inv.1 p,
     )
@@ -133,10 +141,13 @@ loop-again-2 c =
     let a = t.before.before.args in
     let l = t.before.loop in (
       omega (arith, (at-step t).falls),
-      λ p. empty-step (ruleOf a.rule) (widthsIn a.even a.widths.now) l.rest _ (count_trailing_zeros 32 l.rest) _ l.left
+      λ p. empty-step (rule_of a.rule) (widths_in a.even a.widths.now) l.rest _ (count_trailing_zeros 32 l.rest) _ l.left
           l.chosen (at-step t).lowest (at-step t).after c.before.before.before.before.width-at.ensures p
           (sub-left c.before) c.if1.false ∙ l.inv.1 p,
     )
+
+enum-told-2 : tie.Need-enum-told-2 invariant-loop decreases-loop
+enum-told-2 c = search rules
 
 loop-less-3 : tie.Need-loop-smaller-3 invariant-loop decreases-loop
 loop-less-3 c = (at-step (in-loop-from-enum-told2 c)).falls
@@ -147,11 +158,14 @@ loop-again-3 c =
     let a = t.before.before.args in
     let l = t.before.loop in
     let q = count_trailing_zeros 32 l.rest in
-    let w = passes (ruleOf a.rule) l.left (width c.before.before) (sym (said c.before.before) ∙ c.enum-told2.given.1) in (
+    let w = passes (rule_of a.rule) l.left (width c.before.before) (sym (said c.before.before) ∙ c.enum-told2.given.1) in (
       omega (arith, (at-step t).falls),
-      λ p. passed-step (ruleOf a.rule) (widthsIn a.even a.widths.now) l.rest _ q (width c.before.before) l.left l.chosen
+      λ p. passed-step (rule_of a.rule) (widths_in a.even a.widths.now) l.rest _ q (width c.before.before) l.left l.chosen
           (at-step t).lowest (at-step t).after c.before.before.before.width-at.ensures p w.0 w.1 ∙ l.inv.1 p,
     )
+
+enum-told-3 : tie.Need-enum-told-3 invariant-loop decreases-loop
+enum-told-3 c = search rules
 
 returns : tie.Need-returns invariant-loop decreases-loop
 returns c p =
@@ -159,8 +173,8 @@ returns c p =
     let a = t.before.before.args in
     let l = t.before.loop in
     let q = count_trailing_zeros 32 l.rest in
-    let w = ends (ruleOf a.rule) l.left (width c.before.before) (sym (said c.before.before) ∙ c.enum-told3.given.1) in
-    ended-step (ruleOf a.rule) (widthsIn a.even a.widths.now) l.rest _ q (width c.before.before) l.left l.chosen
+    let w = ends (rule_of a.rule) l.left (width c.before.before) (sym (said c.before.before) ∙ c.enum-told3.given.1) in
+    ended-step (rule_of a.rule) (widths_in a.even a.widths.now) l.rest _ q (width c.before.before) l.left l.chosen
     (at-step t).lowest (at-step t).after c.before.before.before.width-at.ensures p w.0 w.1 ∙ l.inv.1 p
 
 returns-2 : tie.Need-returns-2 invariant-loop decreases-loop
@@ -169,11 +183,29 @@ returns-2 c p =
     let a = c.before.before.args in
     let z : l.rest ≡ 0 = omega arith in
     sym (or-false (bit l.chosen p))
-    ∙ ap (λ (t : Bool). bit l.chosen p || t) (sym (places-none (ruleOf a.rule) (widthsIn a.even a.widths.now) l.left p))
-    ∙ ap (λ (x : ℕ). bit l.chosen p || places (ruleOf a.rule) (widthsIn a.even a.widths.now) x l.left p) (sym z) ∙ l.invariant.1 p
+    ∙ ap (λ (t : Bool). bit l.chosen p || t) (sym (places-none (rule_of a.rule) (widths_in a.even a.widths.now) l.left p))
+    ∙ ap (λ (x : ℕ). bit l.chosen p || places (rule_of a.rule) (widths_in a.even a.widths.now) x l.left p) (sym z) ∙ l.invariant.1 p
 
 pub choose_spec : {M : Type 1} → statement M
 choose_spec =
-    tie.close (tie.spec invariant-loop decreases-loop loop-holds (λ c. omega arith) width-at-requires (λ c κs. search rules)
-    (λ c. search rules) sub-left shl-chosen loop-less loop-again loop-less-2 loop-again-2 (λ c. search rules)
-    loop-less-3 loop-again-3 (λ c. search rules) returns returns-2)
+    tie.close
+    (tie.spec
+    invariant-loop
+    decreases-loop
+    loop-holds
+    sub-rest
+    width-at-requires
+    select-requires
+    enum_told
+    sub-left
+    shl-chosen
+    loop-less
+    loop-again
+    loop-less-2
+    loop-again-2
+    enum-told-2
+    loop-less-3
+    loop-again-3
+    enum-told-3
+    returns
+    returns-2)

@@ -7,10 +7,10 @@ use Prim.Native.Nat.{ℕ}
 use lib.Count.{ones, count_trailing_zeros}
 use lib.ListN.{get_or, take, length-take}
 use lib.Seq.{get_or-take}
-use Rattle.model.specs.Task.{ruleOf}
+use Rattle.model.specs.Task.{rule_of}
 use Rattle.model.proofs.Digits.{LowestDigit, lowest-digit}
 use Rattle.rule.specs.Granted.{selection}
-use Rattle.rule.specs.Widths.{widthsIn}
+use Rattle.rule.specs.Widths.{widths_in}
 use Rattle.cores.proofs.Cores.{front-le}
 use Rattle.rule.proofs.Serving.{Held, begun, taken, passed_over, over, skipped, all-granted}
 use Rattle.rule.proofs.Widths.{widths-length}
@@ -19,7 +19,7 @@ use Rattle.rule.proofs.grants.Tie as tie
 
 abbrev invariant-loop : tie.invariant-loop
 invariant-loop rule free claims even widths count sets₀ set₀ rest₀ sets set rest =
-    Held (ruleOf rule) (take count (widthsIn even widths)) claims free count sets rest set
+    Held (rule_of rule) (take count (widths_in even widths)) claims free count sets rest set
 
 abbrev decreases-loop : tie.decreases-loop
 decreases-loop rule free claims even widths count sets₀ set₀ rest₀ sets set rest = rest
@@ -47,7 +47,7 @@ entry-from-select c = entry-from-loop (in-loop-from-select c).before
 loop-holds : tie.Need-loop-init invariant-loop decreases-loop
 loop-holds c =
     let a = c.args in
-    begun (ruleOf a.rule) (take a.count (widthsIn a.even a.widths.now)) a.claims a.free a.count
+    begun (rule_of a.rule) (take a.count (widths_in a.even a.widths.now)) a.claims a.free a.count
     c.ranges.claims.fits c.ranges.free.fits
 
 at-step : (c : tie.In-loop invariant-loop decreases-loop) → LowestDigit 32 c.before.loop.rest
@@ -56,8 +56,20 @@ at-step c = lowest-digit 32 c.before.loop.rest c.loop-test.true c.before.loop.in
 cast-at : tie.Need-overflow-cast-at invariant-loop decreases-loop
 cast-at c = omega (arith, (at-step c).place)
 
+sub-rest : tie.Need-overflow-sub-rest invariant-loop decreases-loop
+sub-rest c = omega arith
+
 width-at-requires : tie.Need-width-at-requires invariant-loop decreases-loop
 width-at-requires c κs = (at-step c.before).place
+
+select-requires : tie.Need-select-requires invariant-loop decreases-loop
+select-requires c κs = search rules
+
+enum_told : tie.Need-enum-told invariant-loop decreases-loop
+enum_told c = search rules
+
+lowest-requires : tie.Need-lowest-requires invariant-loop decreases-loop
+lowest-requires c κs = search rules
 
 mul-sets : tie.Need-overflow-mul-sets invariant-loop decreases-loop
 mul-sets c = omega (arith, (at-step (in-loop-from-lowest c)).place)
@@ -73,19 +85,19 @@ width c = c.before.width-at.result
 abbrev own : tie.After-select invariant-loop decreases-loop → ℕ
 own c =
     let a = (entry-from-select c).args in
-    get_or (take a.count (widthsIn a.even a.widths.now)) (count_trailing_zeros 32 (in-loop-from-select c).before.loop.rest) 0
+    get_or (take a.count (widths_in a.even a.widths.now)) (count_trailing_zeros 32 (in-loop-from-select c).before.loop.rest) 0
 
 read : (c : tie.After-select invariant-loop decreases-loop) → own c ≡ width c
 read c =
     let a = (entry-from-select c).args in
-    get_or-take a.count (widthsIn a.even a.widths.now) (count_trailing_zeros 32 (in-loop-from-select c).before.loop.rest) 0 c.before.before.if1.true
+    get_or-take a.count (widths_in a.even a.widths.now) (count_trailing_zeros 32 (in-loop-from-select c).before.loop.rest) 0 c.before.before.if1.true
     ∙ sym c.before.width-at.ensures
 
 -- the rule's answer to it
 said : (c : tie.After-select invariant-loop decreases-loop)
-    → selection (ruleOf (entry-from-select c).args.rule) (ones (in-loop-from-select c).before.loop.set) (own c) ≡ c.select.result
+    → selection (rule_of (entry-from-select c).args.rule) (ones (in-loop-from-select c).before.loop.set) (own c) ≡ c.select.result
 said c =
-    let r = ruleOf (entry-from-select c).args.rule in
+    let r = rule_of (entry-from-select c).args.rule in
     ap (selection r (ones (in-loop-from-select c).before.loop.set)) (read c) ∙ sym c.select.ensures
 
 sub-set : tie.Need-overflow-sub-set invariant-loop decreases-loop
@@ -104,9 +116,12 @@ loop-again c =
     let l = t.before.loop in
     let q = count_trailing_zeros 32 l.rest in
     let w = read n in
-    taken (ruleOf a.rule) (take a.count (widthsIn a.even a.widths.now)) a.claims a.free a.count l.sets l.rest l.set
+    taken (rule_of a.rule) (take a.count (widths_in a.even a.widths.now)) a.claims a.free a.count l.sets l.rest l.set
     q _ l.inv (at-step t).lowest (at-step t).after n.before.before.if1.taken c.lowest.result (omega (arith, c.lowest.type-inv))
     (rw w c.lowest.ensures) (said n ∙ c.before.enum_told.given.1) (at-step t).place
+
+enum-told-2 : tie.Need-enum-told-2 invariant-loop decreases-loop
+enum-told-2 c = search rules
 
 loop-less-2 : tie.Need-loop-smaller-2 invariant-loop decreases-loop
 loop-less-2 c = (at-step (in-loop-from-select c.before.before)).falls
@@ -117,8 +132,11 @@ loop-again-2 c =
     let t = in-loop-from-select n in
     let a = (entry-from-loop t.before).args in
     let l = t.before.loop in
-    passed_over (ruleOf a.rule) (take a.count (widthsIn a.even a.widths.now)) a.claims a.free a.count l.sets l.rest l.set
+    passed_over (rule_of a.rule) (take a.count (widths_in a.even a.widths.now)) a.claims a.free a.count l.sets l.rest l.set
     (count_trailing_zeros 32 l.rest) _ l.inv (at-step t).lowest (at-step t).after (said n ∙ c.enum-told2.given.1)
+
+enum-told-3 : tie.Need-enum-told-3 invariant-loop decreases-loop
+enum-told-3 c = search rules
 
 returns : tie.Need-returns invariant-loop decreases-loop
 returns c =
@@ -126,9 +144,9 @@ returns c =
     let t = in-loop-from-select n in
     let a = (entry-from-loop t.before).args in
     let l = t.before.loop in
-    let h = over (ruleOf a.rule) (take a.count (widthsIn a.even a.widths.now)) a.claims a.free a.count l.sets l.rest l.set
+    let h = over (rule_of a.rule) (take a.count (widths_in a.even a.widths.now)) a.claims a.free a.count l.sets l.rest l.set
     (count_trailing_zeros 32 l.rest) _ l.inv (at-step t).lowest (at-step t).after (said n ∙ c.enum-told3.given.1) in
-    all-granted (ruleOf a.rule) (widthsIn a.even a.widths.now) a.claims a.free a.count l.sets l.set
+    all-granted (rule_of a.rule) (widths_in a.even a.widths.now) a.claims a.free a.count l.sets l.set
     (widths-length a.even a.widths.now) h
 
 loop-less-3 : tie.Need-loop-smaller-3 invariant-loop decreases-loop
@@ -139,22 +157,43 @@ loop-again-3 c =
     let t = c.before in
     let a = (entry-from-loop t.before).args in
     let l = t.before.loop in
-    skipped (ruleOf a.rule) (take a.count (widthsIn a.even a.widths.now)) a.claims a.free a.count l.sets l.rest l.set
+    skipped (rule_of a.rule) (take a.count (widths_in a.even a.widths.now)) a.claims a.free a.count l.sets l.rest l.set
     (count_trailing_zeros 32 l.rest) _ l.invariant (at-step t).lowest (at-step t).after
-    (omega (arith, length-take a.count (widthsIn a.even a.widths.now), c.if1.false))
+    (omega (arith, length-take a.count (widths_in a.even a.widths.now), c.if1.false))
 
 returns-2 : tie.Need-returns-2 invariant-loop decreases-loop
 returns-2 c =
     let a = (entry-from-loop c.before).args in
     let l = c.before.loop in
     let z : l.rest ≡ 0 = omega arith in
-    let h : Held (ruleOf a.rule) (take a.count (widthsIn a.even a.widths.now)) a.claims a.free a.count l.sets 0 l.set =
+    let h : Held (rule_of a.rule) (take a.count (widths_in a.even a.widths.now)) a.claims a.free a.count l.sets 0 l.set =
     rw (← z) l.invariant in
-    all-granted (ruleOf a.rule) (widthsIn a.even a.widths.now) a.claims a.free a.count l.sets l.set
+    all-granted (rule_of a.rule) (widths_in a.even a.widths.now) a.claims a.free a.count l.sets l.set
     (widths-length a.even a.widths.now) h
 
 pub grants-spec : {M : Type 1} → statement M
 grants-spec =
-    tie.close (tie.spec invariant-loop decreases-loop loop-holds cast-at (λ c. omega arith) width-at-requires (λ c κs. search rules)
-    (λ c. search rules) (λ c κs. search rules) mul-sets array-write-sets sub-set loop-less loop-again
-    (λ c. search rules) loop-less-2 loop-again-2 (λ c. search rules) returns loop-less-3 loop-again-3 returns-2)
+    tie.close
+    (tie.spec
+    invariant-loop
+    decreases-loop
+    loop-holds
+    cast-at
+    sub-rest
+    width-at-requires
+    select-requires
+    enum_told
+    lowest-requires
+    mul-sets
+    array-write-sets
+    sub-set
+    loop-less
+    loop-again
+    enum-told-2
+    loop-less-2
+    loop-again-2
+    enum-told-3
+    returns
+    loop-less-3
+    loop-again-3
+    returns-2)

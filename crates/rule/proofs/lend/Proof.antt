@@ -3,13 +3,14 @@
 use borrow.Author.Rules.{rules}
 use native.Mathlib.Omega.{arith}
 use native.Mathlib.Numerals.{add-one}
-use mathlib.Core.Path.{◌≡◌, refl, sym, ◌∙◌, subst, subst₂}
+use mathlib.Core.Path.{◌≡◌, refl, sym, subst, subst₂}
 use mathlib.Core.Logic.{⊎_elim}
 use mathlib.Core.List.{List}
 use Prim.Native.Nat.{ℕ, suc, ◌*◌, ◌-◌, ◌^◌, ◌%◌, ◌≤◌, ◌<◌}
 use lib.Bits.{bit_and, bit_xor}
 use lib.ListN.{take}
-use Rattle.rule.specs.Widths.{widthsIn}
+use borrow.Author.Tests.{eq-eqb, ne_eqb}
+use Rattle.rule.specs.Widths.{widths_in}
 use Rattle.rule.proofs.Lending.{Lending, all-lent, lending-begun, lends, lends_none}
 use Rattle.rule.proofs.Widths.{front_length}
 use Rattle.rule.proofs.lend.Statement.{statement}
@@ -17,7 +18,7 @@ use Rattle.rule.proofs.lend.Tie as tie
 
 abbrev invariant-loop : tie.invariant-loop
 invariant-loop reserved holders seekers even widths count sets₀ seeking₀ i₀ sets seeking i =
-    (i ≤ count) × Lending (take count (widthsIn even widths)) reserved holders seekers count sets seeking i
+    (i ≤ count) × Lending (take count (widths_in even widths)) reserved holders seekers count sets seeking i
 
 abbrev decreases-loop : tie.decreases-loop
 decreases-loop reserved holders seekers even widths count sets₀ seeking₀ i₀ sets seeking i = count - i
@@ -25,36 +26,65 @@ decreases-loop reserved holders seekers even widths count sets₀ seeking₀ i�
 loop-holds : tie.Need-loop-init invariant-loop decreases-loop
 loop-holds c =
     let a = c.args in
-    let ws = take a.count (widthsIn a.even a.widths.now) in
+    let ws = take a.count (widths_in a.even a.widths.now) in
     (omega arith, lending-begun ws a.reserved.now a.holders a.seekers a.count c.ranges.seekers.fits)
+
+cast-place : tie.Need-overflow-cast-place invariant-loop decreases-loop
+cast-place c = omega arith
+
+shl-seeking : tie.Need-overflow-shl-seeking invariant-loop decreases-loop
+shl-seeking c = omega arith
+
+shr-if1 : tie.Need-overflow-shr-if1 invariant-loop decreases-loop
+shr-if1 c = omega arith
+
+mul-grants : tie.Need-overflow-mul-grants invariant-loop decreases-loop
+mul-grants c = omega arith
+
+element-copy-out-grants : tie.Need-element-copy-out-grants invariant-loop decreases-loop
+element-copy-out-grants c = omega arith
+
+grants-requires : tie.Need-grants-requires invariant-loop decreases-loop
+grants-requires c κs = search rules
+
+owners-requires : tie.Need-owners-requires invariant-loop decreases-loop
+owners-requires c κs = search rules
+
+merged-requires : tie.Need-merged-requires invariant-loop decreases-loop
+merged-requires c κs = search rules
+
+add-i : tie.Need-overflow-add-i invariant-loop decreases-loop
+add-i c = omega arith
+
+loop-less : tie.Need-loop-smaller invariant-loop decreases-loop
+loop-less c = omega arith
 
 -- the state before the iteration
 abbrev loop : tie.Joined1 invariant-loop decreases-loop → tie.At-loop invariant-loop decreases-loop
-loop c = c.before.before.before
+loop c = c.before.before
 
 -- what holds at place i, with these sets and these seekers
 abbrev Holds : tie.Joined1 invariant-loop decreases-loop → List ℕ → ℕ → ℕ → Type 0
 Holds c =
     let a = (loop c).before.args in
-    Lending (take a.count (widthsIn a.even a.widths.now)) a.reserved.now a.holders a.seekers a.count
+    Lending (take a.count (widths_in a.even a.widths.now)) a.reserved.now a.holders a.seekers a.count
 
 -- one iteration
 turned : (c : tie.Joined1 invariant-loop decreases-loop) → Holds c c.if1.sets c.if1.seeking (suc (loop c).loop.i)
 turned c =
     let a = (loop c).before.args in
     let l = (loop c).loop in
-    let ws = take a.count (widthsIn a.even a.widths.now) in
+    let ws = take a.count (widths_in a.even a.widths.now) in
     let y = bit_and l.seeking (bit_xor l.seeking ((1 * 2 ^ l.i) % 2 ^ 32)) in
     let inside : l.i < 32 = omega (arith, (loop c).before.requires) in
     ⊎_elim
     (λ w.
     let all = lends ws a.reserved.now a.holders a.seekers a.count l.sets l.seeking l.i l.inv.1 inside y refl
-    (sym c.before.has.ensures ∙ w.0.taken) w.2.result w.2.ensures w.4.result w.4.ensures w.6.result
-    (search (rules, w.6.ok)) w.6.ensures in
+    (eq-eqb _ _ w.0.taken) w.2.result w.2.ensures w.4.result w.4.ensures w.6.result (search (rules, w.6.ok)) w.6.ensures in
     subst₂ (λ (sets : List ℕ) (seeking : ℕ). Holds c sets seeking (suc l.i)) (sym w.7) (sym w.8) all)
     (λ w.
     let all = lends_none ws a.reserved.now a.holders a.seekers a.count l.sets l.seeking l.i l.inv.1 inside y refl
-    (sym c.before.has.ensures ∙ w.0.left) in
+    (ne_eqb _ _ w.0.left) in
     subst₂ (λ (sets : List ℕ) (seeking : ℕ). Holds c sets seeking (suc l.i)) (sym w.1) (sym w.2) all)
     c.if1.branch
 
@@ -65,7 +95,7 @@ returns : tie.Need-returns invariant-loop decreases-loop
 returns c =
     let a = c.before.before.args in
     let l = c.before.loop in
-    let ws = take a.count (widthsIn a.even a.widths.now) in
+    let ws = take a.count (widths_in a.even a.widths.now) in
     let few : a.count ≤ 32 = c.before.before.requires in
     let e : l.i ≡ a.count = omega arith in
     all-lent ws a.reserved.now a.holders a.seekers a.count l.sets l.seeking (front_length a.even a.widths.now a.count few) few
@@ -73,6 +103,20 @@ returns c =
 
 pub lend_spec : {M : Type 1} → statement M
 lend_spec =
-    tie.close (tie.spec invariant-loop decreases-loop loop-holds (λ c. omega arith) (λ c. omega arith) (λ c κs. omega arith)
-    (λ c. omega arith) (λ c. omega arith) (λ c κs. search rules) (λ c κs. search rules) (λ c κs. search rules)
-    (λ c. omega arith) (λ c. omega arith) loop-again returns)
+    tie.close
+    (tie.spec
+    invariant-loop
+    decreases-loop
+    loop-holds
+    cast-place
+    shl-seeking
+    shr-if1
+    mul-grants
+    element-copy-out-grants
+    grants-requires
+    owners-requires
+    merged-requires
+    add-i
+    loop-less
+    loop-again
+    returns)

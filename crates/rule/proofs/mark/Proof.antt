@@ -31,18 +31,21 @@ cast-c c = omega (arith, (at-step c).core)
 array-write-out : tie.Need-array-write-out invariant-loop decreases-loop
 array-write-out c = omega (arith, (at-step c).core)
 
+shl-rest : tie.Need-overflow-shl-rest invariant-loop decreases-loop
+shl-rest c = (at-step c).core
+
 sub-rest : tie.Need-overflow-sub-rest invariant-loop decreases-loop
-sub-rest c = omega (arith, c.loop-test.true)
+sub-rest c = omega (arith, (at-step c).within)
 
 loop-less : tie.Need-loop-smaller invariant-loop decreases-loop
-loop-less c = (at-step c).falls
+loop-less c = omega (arith, (at-step c).some, (at-step c).within)
 
 loop-again : tie.Need-loop-preserved invariant-loop decreases-loop
 loop-again c =
     let l = c.before.loop in
     let m = c.before.before.args.mark in
     let q = count_trailing_zeros 64 l.rest in (
-      omega (arith, (at-step c).falls, l.invariant.0),
+      omega (arith, (at-step c).within),
       length-set l.out q m ∙ l.invariant.1,
       sym (ap (marked l.out m) (at-step c).rest ∙ marked_more l.out m q _) ∙ l.invariant.2,
     )
@@ -55,5 +58,4 @@ returns c =
     sym (ap (marked l.out m) (ap cores z ∙ cores-none) ∙ marked-none l.out m) ∙ l.invariant.2
 
 pub mark_spec : {M : Type 1} → statement M
-mark_spec = tie.close (tie.spec invariant-loop decreases-loop loop-holds cast-c array-write-out sub-rest loop-less loop-again
-    returns)
+mark_spec = tie.close (tie.spec invariant-loop decreases-loop loop-holds cast-c array-write-out shl-rest sub-rest loop-less loop-again returns)

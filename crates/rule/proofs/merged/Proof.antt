@@ -52,6 +52,27 @@ decreases-loop more out₀ i₀ out i = 32 - i
 loop-holds : tie.Need-loop-init invariant-loop decreases-loop
 loop-holds c = record { size = search rules; below = λ p h. absurd (omega arith); above = λ p h. refl }
 
+mul-out : tie.Need-overflow-mul-out invariant-loop decreases-loop
+mul-out c = omega arith
+
+element-copy-out-out : tie.Need-element-copy-out-out invariant-loop decreases-loop
+element-copy-out-out c = omega arith
+
+mul-out-2 : tie.Need-overflow-mul-out-2 invariant-loop decreases-loop
+mul-out-2 c = omega arith
+
+array-read-out : tie.Need-array-read-out invariant-loop decreases-loop
+array-read-out c = omega arith
+
+array-write-out : tie.Need-array-write-out invariant-loop decreases-loop
+array-write-out c = omega arith
+
+add-i : tie.Need-overflow-add-i invariant-loop decreases-loop
+add-i c = omega arith
+
+loop-less : tie.Need-loop-smaller invariant-loop decreases-loop
+loop-less c = omega arith
+
 loop-again : tie.Need-loop-preserved invariant-loop decreases-loop
 loop-again c =
     let l = c.before.before.loop in
@@ -63,5 +84,17 @@ returns c p h = c.before.loop.invariant.below p (omega arith)
 
 pub merged-spec : {M : Type 1} → statement M
 merged-spec =
-    tie.close (tie.spec invariant-loop decreases-loop loop-holds (λ c. omega arith) (λ c. omega arith) (λ c. omega arith)
-    (λ c. omega arith) (λ c. omega arith) (λ c. omega arith) (λ c. omega arith) loop-again returns)
+    tie.close
+    (tie.spec
+    invariant-loop
+    decreases-loop
+    loop-holds
+    mul-out
+    element-copy-out-out
+    mul-out-2
+    array-read-out
+    array-write-out
+    add-i
+    loop-less
+    loop-again
+    returns)

@@ -23,6 +23,27 @@ decreases-loop sets owners₀ i₀ owners i = 32 - i
 loop-holds : tie.Need-loop-init invariant-loop decreases-loop
 loop-holds c = (omega arith, gathered_none (λ p. some (cores (get_or c.args.sets.now p 0))))
 
+mul-any : tie.Need-overflow-mul-any invariant-loop decreases-loop
+mul-any c = omega arith
+
+element-copy-out-any : tie.Need-element-copy-out-any invariant-loop decreases-loop
+element-copy-out-any c = omega arith
+
+any-requires : tie.Need-any-requires invariant-loop decreases-loop
+any-requires c κs = search rules
+
+cast-owners : tie.Need-overflow-cast-owners invariant-loop decreases-loop
+cast-owners c = omega arith
+
+shl-owners : tie.Need-overflow-shl-owners invariant-loop decreases-loop
+shl-owners c = omega arith
+
+add-i : tie.Need-overflow-add-i invariant-loop decreases-loop
+add-i c = omega arith
+
+loop-less : tie.Need-loop-smaller invariant-loop decreases-loop
+loop-less c = omega arith
+
 loop-again : tie.Need-loop-preserved invariant-loop decreases-loop
 loop-again c =
     let l = c.before.before.before.before.loop in
@@ -46,5 +67,17 @@ returns c p =
 
 pub owners-spec : {M : Type 1} → statement M
 owners-spec =
-    tie.close (tie.spec invariant-loop decreases-loop loop-holds (λ c. omega arith) (λ c. omega arith) (λ c κs. search rules)
-    (λ c. omega arith) (λ c. omega arith) (λ c. omega arith) (λ c. omega arith) loop-again returns)
+    tie.close
+    (tie.spec
+    invariant-loop
+    decreases-loop
+    loop-holds
+    mul-any
+    element-copy-out-any
+    any-requires
+    cast-owners
+    shl-owners
+    add-i
+    loop-less
+    loop-again
+    returns)

@@ -8,13 +8,28 @@ use Prim.Native.Nat.{ℕ, min}
 use lib.ListN.{take, replicate}
 use Rattle.model.specs.Fence.{outside, unfenced}
 use Rattle.model.specs.Search.{up_from}
-use Rattle.model.specs.Sizes.{fencedByte}
+use Rattle.model.specs.Sizes.{fenced_byte}
 use Rattle.cores.specs.Cores.{cores}
 use Rattle.cores.proofs.Unfenced.{memb-fenced, open_of}
-use Rattle.rule.specs.Marked.{marked, shownBytes}
+use Rattle.rule.specs.Marked.{marked, shown_bytes}
 use Rattle.rule.proofs.Rows.{shown-row}
 use Rattle.rule.proofs.row_in.Statement.{statement}
 use Rattle.rule.proofs.row_in.Tie as tie
+
+unfenced-cores-requires : tie.Need-unfenced-cores-requires
+unfenced-cores-requires c κs = search rules
+
+first-cores-requires : tie.Need-first-cores-requires
+first-cores-requires c κs = search rules
+
+difference-requires : tie.Need-difference-requires
+difference-requires c κs = search rules
+
+mark-requires : tie.Need-mark-requires
+mark-requires c κs = search rules
+
+row-of-requires : tie.Need-row-of-requires
+row-of-requires c κs = search rules
 
 returns : tie.Need-returns
 returns c =
@@ -30,10 +45,9 @@ returns c =
     w.difference.ensures ∙ ap (outside free) (w.before.first-cores.ensures ∙ ap (up_from 0) all) in
     let gs = map cores (take a.count a.sets.now) in
     c.row-of.ensures
-    ∙ (ap (λ (start : List ℕ). shownBytes start 1 gs) (p.mark.ensures ∙ ap (marked (replicate 64 0) fencedByte) fenced)
+    ∙ (ap (λ (start : List ℕ). shown_bytes start 1 gs) (p.mark.ensures ∙ ap (marked (replicate 64 0) fenced_byte) fenced)
     ∙ shown-row 64 a.cores a.fence (outside free (up_from 0 a.cores)) (omega arith)
     (λ x l. memb-fenced free a.fence a.cores x l opened) gs s.requires.1.apart s.requires.1.unfenced-only)
 
 pub row-in-spec : {M : Type 1} → statement M
-row-in-spec = tie.close (tie.spec (λ c κs. search rules) (λ c κs. search rules) (λ c κs. search rules)
-    (λ c κs. search rules) (λ c κs. search rules) returns)
+row-in-spec = tie.close (tie.spec unfenced-cores-requires first-cores-requires difference-requires mark-requires row-of-requires returns)

@@ -10,14 +10,13 @@ use Prim.Native.Nat.{ℕ, suc, ◌+◌, ◌-◌, ◌≤◌}
 use lib.ListN.{length, get_or, take, drop, length-take}
 use lib.Seq.{get_or-take}
 use Rattle.cores.specs.Cores.{cores}
-use Rattle.rule.specs.Marked.{shownBytes}
+use Rattle.rule.specs.Marked.{shown_bytes}
 use Rattle.rule.proofs.Rows.{shown-next, shown-end}
 use Rattle.rule.proofs.row_of.Statement.{statement}
 use Rattle.rule.proofs.row_of.Tie as tie
 
 abbrev invariant-loop : tie.invariant-loop
-invariant-loop first sets count out₀ i₀ out i =
-    (i ≤ count) × (shownBytes out (first + i) (map cores (drop i (take count sets))) ≡ shownBytes out₀ first (map cores (take count sets)))
+invariant-loop first sets count out₀ i₀ out i = (i ≤ count) × (shown_bytes out (first + i) (map cores (drop i (take count sets))) ≡ shown_bytes out₀ first (map cores (take count sets)))
 
 abbrev decreases-loop : tie.decreases-loop
 decreases-loop first sets count out₀ i₀ out i = count - i
@@ -27,8 +26,28 @@ abbrev loop : tie.After-mark invariant-loop decreases-loop → tie.At-loop invar
 loop c = c.before.before.before
 
 loop-holds : tie.Need-loop-init invariant-loop decreases-loop
-loop-holds c =
-    (search rules, ap (λ (p : ℕ). shownBytes c.args.start p (map cores (take c.args.count c.args.sets.now))) (add-zero c.args.first))
+loop-holds c = (search rules, ap (λ (p : ℕ). shown_bytes c.args.start p (map cores (take c.args.count c.args.sets.now))) (add-zero c.args.first))
+
+mul-mark : tie.Need-overflow-mul-mark invariant-loop decreases-loop
+mul-mark c = omega arith
+
+element-copy-out-mark : tie.Need-element-copy-out-mark invariant-loop decreases-loop
+element-copy-out-mark c = omega arith
+
+add-mark : tie.Need-overflow-add-mark invariant-loop decreases-loop
+add-mark c = omega arith
+
+cast-mark : tie.Need-overflow-cast-mark invariant-loop decreases-loop
+cast-mark c = omega arith
+
+mark-requires : tie.Need-mark-requires invariant-loop decreases-loop
+mark-requires c κs = search rules
+
+add-i : tie.Need-overflow-add-i invariant-loop decreases-loop
+add-i c = omega arith
+
+loop-less : tie.Need-loop-smaller invariant-loop decreases-loop
+loop-less c = omega arith
 
 loop-again : tie.Need-loop-preserved invariant-loop decreases-loop
 loop-again c =
@@ -38,8 +57,7 @@ loop-again c =
     let ss = take a.count a.sets.now in
     let w : get_or ss l.i 0 ≡ get_or a.sets.now l.i 0 = get_or-take a.count a.sets.now l.i 0 (omega arith) in
     let p : a.first + (l.i + 1) ≡ suc (a.first + l.i) = omega arith in
-    let next : shownBytes l.out (a.first + l.i) (map cores (drop l.i ss))
-    ≡ shownBytes c.mark.result (a.first + (l.i + 1)) (map cores (drop (l.i + 1) ss)) =
+    let next : shown_bytes l.out (a.first + l.i) (map cores (drop l.i ss)) ≡ shown_bytes c.mark.result (a.first + (l.i + 1)) (map cores (drop (l.i + 1) ss)) =
     shown-next l.out (a.first + l.i) l.i ss ∙ cc (w, p, add-one l.i, c.mark.ensures) in
     (omega arith, sym next ∙ l.inv.1)
 
@@ -52,5 +70,17 @@ returns c =
 
 pub row-of-spec : {M : Type 1} → statement M
 row-of-spec =
-    tie.close (tie.spec invariant-loop decreases-loop loop-holds (λ c. omega arith) (λ c. omega arith) (λ c. omega arith)
-    (λ c. omega arith) (λ c κs. search rules) (λ c. omega arith) (λ c. omega arith) loop-again returns)
+    tie.close
+    (tie.spec
+    invariant-loop
+    decreases-loop
+    loop-holds
+    mul-mark
+    element-copy-out-mark
+    add-mark
+    cast-mark
+    mark-requires
+    add-i
+    loop-less
+    loop-again
+    returns)

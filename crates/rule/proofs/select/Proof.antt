@@ -9,6 +9,9 @@ use Rattle.rule.proofs.select.Tie as tie
 returns : tie.Need-returns
 returns c = rw (le-leb _ _ c.if1.true)
 
+ends-choosing-requires : tie.Need-ends-choosing-requires
+ends-choosing-requires c κs = search rules
+
 returns-2 : tie.Need-returns-2
 returns-2 c = rw (lt-leb _ _ c.before.before.if1.false, sym c.before.ends-choosing.ensures ∙ c.if2.true)
 
@@ -16,4 +19,4 @@ returns-3 : tie.Need-returns-3
 returns-3 c = rw (lt-leb _ _ c.before.before.if1.false, sym c.before.ends-choosing.ensures ∙ c.if2.false)
 
 pub select-spec : {M : Type 1} → statement M
-select-spec = tie.close (tie.spec returns (λ c κs. search rules) returns-2 returns-3)
+select-spec = tie.close (tie.spec returns ends-choosing-requires returns-2 returns-3)

@@ -9,13 +9,19 @@ use Rattle.model.specs.Fence.{unfenced}
 use Rattle.model.specs.Grants.{claimants, grants}
 use Rattle.model.specs.Row.{row}
 use Rattle.model.specs.Search.{bit}
-use Rattle.model.specs.Task.{ruleOf}
+use Rattle.model.specs.Task.{rule_of}
 use Rattle.cores.specs.Cores.{cores}
 use Rattle.cores.proofs.Unfenced.{open_of}
-use Rattle.rule.specs.Widths.{widthsIn}
+use Rattle.rule.specs.Widths.{widths_in}
 use Rattle.rule.proofs.Sets.{sets-showable}
 use Rattle.rule.proofs.show.Statement.{statement}
 use Rattle.rule.proofs.show.Tie as tie
+
+unfenced-cores-requires : tie.Need-unfenced-cores-requires
+unfenced-cores-requires c κs = search rules
+
+grants-requires : tie.Need-grants-requires
+grants-requires c κs = search rules
 
 -- the cores that are free are the unfenced ones
 opened : (c : tie.After-unfenced-cores) → cores c.unfenced-cores.result ≡ unfenced c.before.args.fence c.before.args.cores
@@ -26,9 +32,9 @@ row-in-requires c κs =
     let g = c.before in
     let o = g.before in
     let a = o.before.args in
-    let bs = claimants (take a.count (widthsIn a.even a.widths.now)) (bit a.claiming) in (
+    let bs = claimants (take a.count (widths_in a.even a.widths.now)) (bit a.claiming) in (
       o.before.requires,
-      sets-showable (ruleOf a.rule) bs a.count o.unfenced-cores.result g.grants.result g.grants.ensures a.fence a.cores (opened o),
+      sets-showable (rule_of a.rule) bs a.count o.unfenced-cores.result g.grants.result g.grants.ensures a.fence a.cores (opened o),
     )
 
 returns : tie.Need-returns
@@ -36,10 +42,10 @@ returns c =
     let g = c.before.before in
     let o = g.before in
     let a = o.before.args in
-    let bs = claimants (take a.count (widthsIn a.even a.widths.now)) (bit a.claiming) in
+    let bs = claimants (take a.count (widths_in a.even a.widths.now)) (bit a.claiming) in
     c.row_in.ensures
     ∙ ap (λ (gs : List (List ℕ)). row a.fence a.cores gs ++ replicate (64 - a.cores) 0)
-    (g.grants.ensures.gives ∙ ap (grants (ruleOf a.rule) bs) (opened o))
+    (g.grants.ensures.gives ∙ ap (grants (rule_of a.rule) bs) (opened o))
 
 pub show-spec : {M : Type 1} → statement M
-show-spec = tie.close (tie.spec (λ c κs. search rules) (λ c κs. search rules) row-in-requires returns)
+show-spec = tie.close (tie.spec unfenced-cores-requires grants-requires row-in-requires returns)

@@ -15,11 +15,11 @@ use borrow.Author.Tests.{eqb-true, eqb-false}
 use Rattle.model.specs.Fence.{outside}
 use Rattle.model.specs.Lending.{among, unlent}
 use Rattle.model.specs.Search.{bit, filtered}
-use Rattle.model.proofs.Lists.{getD-zeros}
+use Rattle.model.proofs.Lists.{get_d-zeros}
 use Rattle.cores.specs.Cores.{cores}
 use Rattle.cores.proofs.Ascending.{kept_same}
 use Rattle.cores.proofs.Cores.{cores-range}
-use Rattle.rule.specs.Lent.{NotBoth, shownAt}
+use Rattle.rule.specs.Lent.{NotBoth, shown_at}
 use Rattle.rule.proofs.Unions.{cores-or}
 use Rattle.rule.proofs.shown.Statement.{statement}
 use Rattle.rule.proofs.shown.Tie as tie
@@ -27,7 +27,7 @@ use Rattle.rule.proofs.shown.Tie as tie
 -- the places below i are as they are shown, the others have no set yet
 pub record Shows (reserved borrowed : List ℕ) (count : ℕ) (sets : List ℕ) (i : ℕ) : Type 0 where
   pub size : length sets ≡ 32
-  pub below : (p : ℕ) → p < i → cores (get_or sets p 0) ≡ shownAt reserved borrowed count p
+  pub below : (p : ℕ) → p < i → cores (get_or sets p 0) ≡ shown_at reserved borrowed count p
   pub above : (p : ℕ) → i ≤ p → get_or sets p 0 ≡ 0
 
 -- one place more; w is the set of what no place borrows of its own
@@ -48,7 +48,7 @@ module _ (reserved borrowed : List ℕ) (count : ℕ) (sets : List ℕ) (i lent 
   unfolding filtered
   one-empty = ⊎_elim (λ e. inr (own ∙ ap (outside lent) e)) inl (once i)
 
-  here : cores x ≡ shownAt reserved borrowed count i
+  here : cores x ≡ shown_at reserved borrowed count i
   here = cores-or (get_or borrowed i 0) w one-empty ∙ ap (λ (l : List ℕ). cores (get_or borrowed i 0) ++ l) own-kept
 
   pub shows_more : Shows reserved borrowed count (set sets i (bit_or (get_or borrowed i 0) w)) (i + 1)
@@ -58,10 +58,10 @@ module _ (reserved borrowed : List ℕ) (count : ℕ) (sets : List ℕ) (i lent 
     above = λ p l. get_or-set_other sets i p x 0 (λ (e : p ≡ i). omega arith) ∙ h.above p (omega arith);
   }
     where
-      go : (p : ℕ) → p < i + 1 → (t : Bool) → eqb p i ≡ t → cores (get_or (set sets i x) p 0) ≡ shownAt reserved borrowed count p
+      go : (p : ℕ) → p < i + 1 → (t : Bool) → eqb p i ≡ t → cores (get_or (set sets i x) p 0) ≡ shown_at reserved borrowed count p
       go p l true e =
           let q : p ≡ i = eqb-true p i e in
-          subst (λ (n : ℕ). cores (get_or (set sets i x) n 0) ≡ shownAt reserved borrowed count n) (sym q)
+          subst (λ (n : ℕ). cores (get_or (set sets i x) n 0) ≡ shown_at reserved borrowed count n) (sym q)
           (ap cores (get_or-set_same sets i x 0 (omega (arith, h.size))) ∙ here)
       go p l false e =
           let n : p ≡ i → ⊥ = eqb-false p i e in
@@ -77,7 +77,34 @@ union-requires : tie.Need-union-requires invariant-loop decreases-loop
 union-requires c κs = c.requires.0
 
 loop-holds : tie.Need-loop-init invariant-loop decreases-loop
-loop-holds c = (omega arith, record { size = refl; below = λ p h. absurd (omega arith); above = λ p h. getD-zeros 32 p })
+loop-holds c = (omega arith, record { size = refl; below = λ p h. absurd (omega arith); above = λ p h. get_d-zeros 32 p })
+
+mul-sets : tie.Need-overflow-mul-sets invariant-loop decreases-loop
+mul-sets c = omega arith
+
+element-copy-out-sets : tie.Need-element-copy-out-sets invariant-loop decreases-loop
+element-copy-out-sets c = omega arith
+
+mul-difference : tie.Need-overflow-mul-difference invariant-loop decreases-loop
+mul-difference c = omega arith
+
+element-copy-out-difference : tie.Need-element-copy-out-difference invariant-loop decreases-loop
+element-copy-out-difference c = omega arith
+
+difference-requires : tie.Need-difference-requires invariant-loop decreases-loop
+difference-requires c κs = search rules
+
+mul-sets-2 : tie.Need-overflow-mul-sets-2 invariant-loop decreases-loop
+mul-sets-2 c = omega arith
+
+array-write-sets : tie.Need-array-write-sets invariant-loop decreases-loop
+array-write-sets c = omega arith
+
+add-i : tie.Need-overflow-add-i invariant-loop decreases-loop
+add-i c = omega arith
+
+loop-less : tie.Need-loop-smaller invariant-loop decreases-loop
+loop-less c = omega arith
 
 loop-again : tie.Need-loop-preserved invariant-loop decreases-loop
 loop-again c =
@@ -103,6 +130,20 @@ returns c =
 
 pub shown-spec : {M : Type 1} → statement M
 shown-spec =
-    tie.close (tie.spec invariant-loop decreases-loop union-requires loop-holds (λ c. omega arith) (λ c. omega arith)
-    (λ c. omega arith) (λ c. omega arith) (λ c κs. search rules) (λ c. omega arith) (λ c. omega arith)
-    (λ c. omega arith) (λ c. omega arith) loop-again returns)
+    tie.close
+    (tie.spec
+    invariant-loop
+    decreases-loop
+    union-requires
+    loop-holds
+    mul-sets
+    element-copy-out-sets
+    mul-difference
+    element-copy-out-difference
+    difference-requires
+    mul-sets-2
+    array-write-sets
+    add-i
+    loop-less
+    loop-again
+    returns)

@@ -27,6 +27,18 @@ decreases-loop sets count all₀ i₀ all i = count - i
 loop-holds : tie.Need-loop-init invariant-loop decreases-loop
 loop-holds c = (search rules, λ x h. ap (λ (t : Bool). t || among x (map cores (take c.args.count c.args.sets.now))) (bit-none x))
 
+mul-all : tie.Need-overflow-mul-all invariant-loop decreases-loop
+mul-all c = omega arith
+
+element-copy-out-all : tie.Need-element-copy-out-all invariant-loop decreases-loop
+element-copy-out-all c = omega arith
+
+add-i : tie.Need-overflow-add-i invariant-loop decreases-loop
+add-i c = omega arith
+
+loop-less : tie.Need-loop-smaller invariant-loop decreases-loop
+loop-less c = omega arith
+
 loop-again : tie.Need-loop-preserved invariant-loop decreases-loop
 loop-again c =
     let l = c.before.before.loop in
@@ -50,5 +62,14 @@ returns c x h =
 
 pub union-spec : {M : Type 1} → statement M
 union-spec =
-    tie.close (tie.spec invariant-loop decreases-loop loop-holds (λ c. omega arith) (λ c. omega arith) (λ c. omega arith)
-    (λ c. omega arith) loop-again returns)
+    tie.close
+    (tie.spec
+    invariant-loop
+    decreases-loop
+    loop-holds
+    mul-all
+    element-copy-out-all
+    add-i
+    loop-less
+    loop-again
+    returns)

@@ -7,6 +7,24 @@ use Rattle.rule.proofs.Widths.{read_at, widths-at}
 use Rattle.rule.proofs.width_at.Statement.{statement}
 use Rattle.rule.proofs.width_at.Tie as tie
 
+shr-shifted : tie.Need-overflow-shr-shifted
+shr-shifted c = search rules
+
+cast-result : tie.Need-overflow-cast-result
+cast-result c = search rules
+
+mul-result : tie.Need-overflow-mul-result
+mul-result c = search rules
+
+add-result : tie.Need-overflow-add-result
+add-result c = search rules
+
+mul-result-2 : tie.Need-overflow-mul-result-2
+mul-result-2 c = search rules
+
+element-copy-out-result : tie.Need-element-copy-out-result
+element-copy-out-result c = search rules
+
 returns : tie.Need-returns
 returns c =
     let a = c.before.args in
@@ -14,5 +32,12 @@ returns c =
 
 pub width-at-spec : {M : Type 1} → statement M
 width-at-spec =
-    tie.close (tie.spec (λ c. search rules) (λ c. search rules) (λ c. search rules) (λ c. search rules)
-    (λ c. search rules) (λ c. search rules) returns)
+    tie.close
+    (tie.spec
+    shr-shifted
+    cast-result
+    mul-result
+    add-result
+    mul-result-2
+    element-copy-out-result
+    returns)

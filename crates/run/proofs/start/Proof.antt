@@ -4,8 +4,8 @@ use mathlib.Core.Path.{◌≡◌, sym, ap, ◌∙◌}
 use mathlib.Core.Logic.{inl, inr}
 use borrow.Author.Rules.{rules}
 use Rattle.judge.specs.declared.Verdict.{Verdict}
-use Rattle.judge.specs.JudgeAnswer.{verdictMeaning}
-use Rattle.run.specs.Start.{byVerdict, startAnswer}
+use Rattle.judge.specs.JudgeAnswer.{verdict_meaning}
+use Rattle.run.specs.Start.{by_verdict, start_answer}
 use Rattle.run.proofs.ByVerdict.{start-answer, start-taken, start-refused}
 use Rattle.run.proofs.StartExact.{start-of}
 use Rattle.run.proofs.start.Statement.{statement}
@@ -25,14 +25,35 @@ abbrev judge-from-refused2 : tie.After-refused2 → tie.After-judge
 judge-from-refused2 c = c.before.before.before.before
 
 -- the answer is the verdict's
-by-verdict : (c : tie.After-judge) (v : Verdict) → c.judge.result ≡ v → startAnswer c.before.before.args.words.now ≡ byVerdict v
+by-verdict : (c : tie.After-judge) (v : Verdict) → c.judge.result ≡ v → start_answer c.before.before.args.words.now ≡ by_verdict v
 by-verdict c v e = start-answer c.before.before.args.words.now v (sym e ∙ c.judge.ensures.value)
 
+judge-requires : tie.Need-judge-requires
+judge-requires c κs = search rules
+
+enum_told : tie.Need-enum-told
+enum_told c = search rules
+
 begun-requires : tie.Need-begun-requires
-begun-requires c κs = (c.before.before.judge.ensures.accepted.0 (_, _, inl (ap verdictMeaning c.enum_told.given.1))).0
+begun-requires c κs = (c.before.before.judge.ensures.accepted.0 (_, _, inl (ap verdict_meaning c.enum_told.given.1))).0
+
+enum-told-2 : tie.Need-enum-told-2
+enum-told-2 c = search rules
 
 begun-requires-2 : tie.Need-begun-requires-2
-begun-requires-2 c κs = (c.before.before.judge.ensures.accepted.0 (_, _, inr (ap verdictMeaning c.enum-told2.given.1))).0
+begun-requires-2 c κs = (c.before.before.judge.ensures.accepted.0 (_, _, inr (ap verdict_meaning c.enum-told2.given.1))).0
+
+enum-told-3 : tie.Need-enum-told-3
+enum-told-3 c = search rules
+
+refused-requires : tie.Need-refused-requires
+refused-requires c κs = search rules
+
+enum-known-verdict : tie.Need-enum-known-verdict
+enum-known-verdict c = search rules
+
+refused-requires-2 : tie.Need-refused-requires-2
+refused-requires-2 c κs = search rules
 
 returns : tie.Need-returns
 returns c =
@@ -60,6 +81,18 @@ returns-4 c =
 
 pub start_spec : {M : Type 1} → statement M
 start_spec =
-    tie.close (tie.spec (λ c κs. search rules) (λ c. search rules) begun-requires (λ c. search rules) begun-requires-2
-    (λ c. search rules) (λ c κs. search rules) (λ c. search rules) (λ c κs. search rules) returns returns-2 returns-3
+    tie.close
+    (tie.spec
+    judge-requires
+    enum_told
+    begun-requires
+    enum-told-2
+    begun-requires-2
+    enum-told-3
+    refused-requires
+    enum-known-verdict
+    refused-requires-2
+    returns
+    returns-2
+    returns-3
     returns-4)

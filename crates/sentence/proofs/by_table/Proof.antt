@@ -8,14 +8,14 @@ use lib.ListN.{length}
 use Rattle.model.specs.Horizon.{horizon}
 use Rattle.model.specs.Verdict.{FirstMiss}
 use Rattle.table.specs.declared.Loaded.{Loaded}
-use Rattle.table.specs.Fit.{loadedTable, Fit}
+use Rattle.table.specs.Fit.{loaded_table, Fit}
 use Rattle.judge.specs.declared.Missed.{Missed}
 use Rattle.judge.specs.declared.Missed.TheVariants.{Never, At}
-use Rattle.judge.specs.FirstMiss.{missedBefore, MissedOf, missMeaning}
+use Rattle.judge.specs.FirstMiss.{missed_before, MissedOf, miss_meaning}
 use Rattle.judge.proofs.FirstMiss.{never-found, one_found}
 use Rattle.sentence.specs.Facts.{Facts}
-use Rattle.sentence.specs.Waiting.{factsIn}
-use Rattle.sentence.specs.SentenceAnswer.{byBuffer, sentenceMeaning, leftIn}
+use Rattle.sentence.specs.Waiting.{facts_in}
+use Rattle.sentence.specs.SentenceAnswer.{by_buffer, sentence_meaning, left_in}
 use Rattle.sentence.proofs.WritingSentence.{by-never, by-found, found-facts}
 use Rattle.sentence.proofs.by_table.Statement.{statement}
 use Rattle.sentence.proofs.by_table.Tie as tie
@@ -42,17 +42,31 @@ abbrev missed-from-slice-known2 : tie.After-slice-known2 → tie.After-missed
 missed-from-slice-known2 c = missed-from-buffer c.before
 
 -- what the search found, up to and including the horizon
-to-horizon :
-    (t : Loaded) → Fit t → (m : Missed) → MissedOf (loadedTable t) (t.horizon + 1) m → m ≡ missedBefore (loadedTable t) (suc (horizon (loadedTable t)))
-to-horizon t fit m o = let e : t.horizon + 1 ≡ suc (horizon (loadedTable t)) = omega (arith, fit.horizon) in o.value ∙ ap (missedBefore (loadedTable t)) e
+to-horizon : (t : Loaded) → Fit t → (m : Missed) → MissedOf (loaded_table t) (t.horizon + 1) m → m ≡ missed_before (loaded_table t) (suc (horizon (loaded_table t)))
+to-horizon t fit m o = let e : t.horizon + 1 ≡ suc (horizon (loaded_table t)) = omega (arith, fit.horizon) in o.value ∙ ap (missed_before (loaded_table t)) e
 
-first_of : (t : Loaded) (m : Missed) → MissedOf (loadedTable t) (t.horizon + 1) m → (u p : ℕ) → m ≡ At u p
-    → FirstMiss (loadedTable t) u (suc (p - 1)) × (u ≤ t.horizon) × (1 ≤ p)
+first_of : (t : Loaded) (m : Missed) → MissedOf (loaded_table t) (t.horizon + 1) m → (u p : ℕ) → m ≡ At u p
+    → FirstMiss (loaded_table t) u (suc (p - 1)) × (u ≤ t.horizon) × (1 ≤ p)
 first_of t m o u p e =
-    let f = (o.first u p).0 (ap missMeaning e) in
+    let f = (o.first u p).0 (ap miss_meaning e) in
     let some : 1 ≤ p = omega (arith, f.0.place.1) in
     let same : p ≡ suc (p - 1) = omega arith in
-    (subst (FirstMiss (loadedTable t) u) same f.0, omega (arith, f.1), some)
+    (subst (FirstMiss (loaded_table t) u) same f.0, omega (arith, f.1), some)
+
+add-first-miss : tie.Need-overflow-add-first-miss
+add-first-miss c = search rules
+
+first-miss-requires : tie.Need-first-miss-requires
+first-miss-requires c κs = search rules
+
+enum_told : tie.Need-enum-told
+enum_told c = search rules
+
+enum-known-missed : tie.Need-enum-known-missed
+enum-known-missed c = search rules
+
+cast-write-miss : tie.Need-overflow-cast-write-miss
+cast-write-miss c = search rules
 
 sub-write-miss : tie.Need-overflow-sub-write-miss
 sub-write-miss c =
@@ -71,10 +85,13 @@ returns : tie.Need-returns
 returns c =
     let x = entry-from-arm1 c.before in
     let k = c.before.before in (
-      by-never (loadedTable x.args.table) (length x.args.buffer.now)
+      by-never (loaded_table x.args.table) (length x.args.buffer.now)
           (never-found _ _ (sym (to-horizon x.args.table x.pre.0 k.first-miss.result k.first-miss.ensures) ∙ c.enum_told.given.1)),
       refl,
     )
+
+same_length : tie.Need-same-length
+same_length c = search rules
 
 returns-2 : tie.Need-returns-2
 returns-2 c =
@@ -82,14 +99,23 @@ returns-2 c =
     let k = (missed-from-slice-known2 c).before.before in
     let t = x.args.table in
     let e = sym (to-horizon t x.pre.0 k.first-miss.result k.first-miss.ensures) ∙ (missed-from-slice-known2 c).missed.given.1 in
-    let same = found-facts (loadedTable t) _ _ e in
+    let same = found-facts (loaded_table t) _ _ e in
     let done = c.before.before.write-miss.ensures in (
-      done.0 ∙ ap (λ (f : Facts). byBuffer f (length x.args.buffer.now)) same
-          ∙ by-found (loadedTable t) (length x.args.buffer.now) (one_found _ _ _ _ e),
-      done.1 ∙ ap (λ (f : Facts). leftIn (sentenceMeaning c.before.before.write-miss.result) f x.args.buffer.now) same,
+      done.0 ∙ ap (λ (f : Facts). by_buffer f (length x.args.buffer.now)) same ∙ by-found (loaded_table t) (length x.args.buffer.now) (one_found _ _ _ _ e),
+      done.1 ∙ ap (λ (f : Facts). left_in (sentence_meaning c.before.before.write-miss.result) f x.args.buffer.now) same,
     )
 
 pub by-table-spec : {M : Type 1} → statement M
 by-table-spec =
-    tie.close (tie.spec (λ c. search rules) (λ c κs. search rules) (λ c. search rules) (λ c. search rules)
-    (λ c. search rules) sub-write-miss write-miss-requires returns (λ c. search rules) returns-2)
+    tie.close
+    (tie.spec
+    add-first-miss
+    first-miss-requires
+    enum_told
+    enum-known-missed
+    cast-write-miss
+    sub-write-miss
+    write-miss-requires
+    returns
+    same_length
+    returns-2)

@@ -26,6 +26,12 @@ read-head-from-no-facts2 c = (read-parts-from-no-facts2 c).before.before.before
 abbrev read-head-from-struct-known3 : tie.After-struct-known3 → tie.After-read-head
 read-head-from-struct-known3 c = (read-parts-from-struct-known3 c).before.before.before
 
+read-head-requires : tie.Need-read-head-requires
+read-head-requires c κs = search rules
+
+no-facts-requires : tie.Need-no-facts-requires
+no-facts-requires c κs = search rules
+
 returns : tie.Need-returns
 returns c =
     let bs = (read-head-from-no-facts c).before.before.args.bytes.now in
@@ -36,6 +42,9 @@ read-parts-requires : tie.Need-read-parts-requires
 read-parts-requires c κs =
     let h = c.before.before.read_head in
     (h.ensures.within, (h.ensures.there (not-false _ c.if1.false)).0.last)
+
+no-facts-requires-2 : tie.Need-no-facts-requires-2
+no-facts-requires-2 c κs = search rules
 
 returns-2 : tie.Need-returns-2
 returns-2 c =
@@ -55,10 +64,17 @@ returns-3 c =
     let bs = (read-head-from-struct-known3 c).before.before.args.bytes.now in
     let h = (read-head-from-struct-known3 c).read_head in
     let p = (read-parts-from-struct-known3 c).read-parts in
-    facts-found bs _ refl (whole bs h.result h.ensures p.result p.ensures (not-false _ (read-parts-from-struct-known3 c).before.if1.false)
-    (not-false _ c.before.before.if2.false))
+    facts-found bs _ refl (whole bs h.result h.ensures p.result p.ensures (not-false _ (read-parts-from-struct-known3 c).before.if1.false) (not-false _ c.before.before.if2.false))
 
 pub facts-of-spec : {M : Type 1} → statement M
 facts-of-spec =
-    tie.close (tie.spec (λ c κs. search rules) (λ c κs. search rules) returns read-parts-requires (λ c κs. search rules)
-    returns-2 cast-t6 returns-3)
+    tie.close
+    (tie.spec
+    read-head-requires
+    no-facts-requires
+    returns
+    read-parts-requires
+    no-facts-requires-2
+    returns-2
+    cast-t6
+    returns-3)

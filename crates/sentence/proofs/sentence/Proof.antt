@@ -31,6 +31,9 @@ entry-from-by-table-arg c = (load-from-by-table-arg c).before.before.before
 abbrev entry-from-buffer : tie.After-buffer → tie.Start
 entry-from-buffer c = entry-from-by-table-arg c.before.before
 
+load-requires : tie.Need-load-requires
+load-requires c κs = search rules
+
 enum_told : tie.Need-enum-told
 enum_told c = search rules
 
@@ -41,13 +44,18 @@ by-table-requires c κs =
     let e = c.before.enum_told.given.1 in
     (fit ws l.result l.ensures e, short-table ws l.result l.ensures e)
 
+enum-known-answer : tie.Need-enum-known-answer
+enum-known-answer c = search rules
+
+same_length : tie.Need-same-length
+same_length c = search rules
+
 returns : tie.Need-returns
 returns c =
     let l = (enum-told-from-buffer c.before).before.before.load in
     let x = (entry-from-buffer c.before).args in
     let t = c.before.before.by-table in
-    passed-sentence x.words.now l.result l.ensures x.buffer.now _ t.result (enum-told-from-buffer c.before).enum_told.given.1
-    t.ensures
+    passed-sentence x.words.now l.result l.ensures x.buffer.now _ t.result (enum-told-from-buffer c.before).enum_told.given.1 t.ensures
 
 returns-2 : tie.Need-returns-2
 returns-2 c =
@@ -57,5 +65,12 @@ returns-2 c =
 
 pub sentence-spec : {M : Type 1} → statement M
 sentence-spec =
-    tie.close (tie.spec (λ c κs. search rules) enum_told by-table-requires (λ c. search rules) (λ c. search rules)
-    returns returns-2)
+    tie.close
+    (tie.spec
+    load-requires
+    enum_told
+    by-table-requires
+    enum-known-answer
+    same_length
+    returns
+    returns-2)

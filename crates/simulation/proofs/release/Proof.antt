@@ -8,7 +8,7 @@ use lib.Bits.{bit_or}
 use lib.ListN.{get_or, set}
 use Rattle.model.proofs.Digits.{shifted_one}
 use Rattle.simulation.specs.Places.{segment}
-use Rattle.simulation.specs.Machine.{machine, withRelease}
+use Rattle.simulation.specs.Machine.{machine, with_release}
 use Rattle.simulation.proofs.Sets.{set-with}
 use Rattle.simulation.proofs.Parts.{front_at, part_at, stored-all}
 use Rattle.simulation.proofs.release.Statement.{statement}
@@ -18,14 +18,68 @@ use Rattle.simulation.proofs.release.Tie as tie
 abbrev entry : tie.After-places → tie.Start
 entry c = c.before.before.before
 
+add-deadline : tie.Need-overflow-add-deadline
+add-deadline c = search rules
+
+mul-deadline : tie.Need-overflow-mul-deadline
+mul-deadline c = search rules
+
+element-copy-out-deadline : tie.Need-element-copy-out-deadline
+element-copy-out-deadline c = omega arith
+
+add-period : tie.Need-overflow-add-period
+add-period c = search rules
+
+mul-period : tie.Need-overflow-mul-period
+mul-period c = search rules
+
+element-copy-out-period : tie.Need-element-copy-out-period
+element-copy-out-period c = omega arith
+
+mul-places : tie.Need-overflow-mul-places
+mul-places c = search rules
+
+element-copy-out-places : tie.Need-element-copy-out-places
+element-copy-out-places c = omega arith
+
+mul-places-2 : tie.Need-overflow-mul-places-2
+mul-places-2 c = search rules
+
+element-write-places : tie.Need-element-write-places
+element-write-places c = omega arith
+
 add-places : tie.Need-overflow-add-places
 add-places c = let s = entry c in omega (arith, s.pre.1, part_at 32 s.args.times.now s.args.place s.pre.0)
+
+add-places-2 : tie.Need-overflow-add-places-2
+add-places-2 c = search rules
+
+mul-places-3 : tie.Need-overflow-mul-places-3
+mul-places-3 c = search rules
+
+element-write-places-2 : tie.Need-element-write-places-2
+element-write-places-2 c = omega arith
 
 add-places-3 : tie.Need-overflow-add-places-3
 add-places-3 c = let s = entry c in omega (arith, s.pre.2, part_at 64 s.args.times.now s.args.place s.pre.0)
 
+add-places-4 : tie.Need-overflow-add-places-4
+add-places-4 c = search rules
+
+mul-places-4 : tie.Need-overflow-mul-places-4
+mul-places-4 c = search rules
+
+element-write-places-3 : tie.Need-element-write-places-3
+element-write-places-3 c = omega arith
+
+cast-result : tie.Need-overflow-cast-result
+cast-result c = search rules
+
+shl-result : tie.Need-overflow-shl-result
+shl-result c = search rules
+
 returns : tie.Need-returns
-unfolding withRelease
+unfolding with_release
 returns c =
     let s = entry c in
     let a = s.args in
@@ -42,7 +96,26 @@ returns c =
 
 pub release_spec : {M : Type 1} → statement M
 release_spec =
-    tie.close (tie.spec (λ c. search rules) (λ c. search rules) (λ c. omega arith) (λ c. search rules)
-    (λ c. search rules) (λ c. omega arith) (λ c. search rules) (λ c. omega arith) (λ c. search rules) (λ c. omega arith)
-    add-places (λ c. search rules) (λ c. search rules) (λ c. omega arith) add-places-3 (λ c. search rules)
-    (λ c. search rules) (λ c. omega arith) (λ c. search rules) (λ c. search rules) returns)
+    tie.close
+    (tie.spec
+    add-deadline
+    mul-deadline
+    element-copy-out-deadline
+    add-period
+    mul-period
+    element-copy-out-period
+    mul-places
+    element-copy-out-places
+    mul-places-2
+    element-write-places
+    add-places
+    add-places-2
+    mul-places-3
+    element-write-places-2
+    add-places-3
+    add-places-4
+    mul-places-4
+    element-write-places-3
+    cast-result
+    shl-result
+    returns)

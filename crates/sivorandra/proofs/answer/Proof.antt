@@ -9,6 +9,7 @@ use Rattle.text.specs.Output.{output}
 use Rattle.text.proofs.Exact.{output-enough}
 use Rattle.stream.specs.Sent.{SentOf}
 use Rattle.stream.proofs.Answering.{answered, unanswered}
+use borrow.Author.Rules.{rules}
 use Rattle.sivorandra.proofs.answer.Statement.{statement}
 use Rattle.sivorandra.proofs.answer.Tie as tie
 
@@ -23,13 +24,34 @@ fill-from-report-unread c = c.before.before.before.before
 abbrev else1 : tie.After-print → tie.Else1
 else1 c = c.before.before.before
 
+slice-aggregate-fill : tie.Need-slice-aggregate-fill
+slice-aggregate-fill c = search rules
+
+fill-requires : tie.Need-fill-requires
+fill-requires c κs = search rules
+
+slice-aggregate-report-unread : tie.Need-slice-aggregate-report-unread
+slice-aggregate-report-unread c = search rules
+
+report-unread-requires : tie.Need-report-unread-requires
+report-unread-requires c κs = search rules
+
 returns : tie.Need-returns
 returns c = unanswered output _ (fill-from-report-unread c).fill.result _ c.before.before.if1.true refl
+
+array-share-prefix-bytes : tie.Need-array-share-prefix-bytes
+array-share-prefix-bytes c = search rules
 
 slice-aggregate-new : tie.Need-slice-aggregate-new
 slice-aggregate-new c =
     let h = fill-from-bytes3 c in
     sym (length-take-le h.fill.result.held h.fill.last.0 (omega (arith, h.fill.ensures.behind.most, h.fill.ensures.behind.same)))
+
+new-requires : tie.Need-new-requires
+new-requires c κs = search rules
+
+print-requires : tie.Need-print-requires
+print-requires c κs = search rules
 
 returns-2 : tie.Need-returns-2
 returns-2 c =
@@ -39,5 +61,15 @@ returns-2 c =
 
 pub answer-spec : {M : Type 1} → statement M
 answer-spec =
-    tie.close (tie.spec (λ c. search rules) (λ c κs. search rules) (λ c. search rules) (λ c κs. search rules) returns
-    (λ c. search rules) slice-aggregate-new (λ c κs. search rules) (λ c κs. search rules) returns-2)
+    tie.close
+    (tie.spec
+    slice-aggregate-fill
+    fill-requires
+    slice-aggregate-report-unread
+    report-unread-requires
+    returns
+    array-share-prefix-bytes
+    slice-aggregate-new
+    new-requires
+    print-requires
+    returns-2)

@@ -12,10 +12,22 @@ begin l = l.before.before
 abbrev loaded : tie.After-refused → tie.After-load
 loaded c = c.before.before.before.before
 
+load-requires : tie.Need-load-requires
+load-requires c κs = search rules
+
+enum_told : tie.Need-enum-told
+enum_told c = search rules
+
 by-table-requires : tie.Need-by-table-requires
 by-table-requires c κs =
     let l = c.before.before in
     fit (begin l).args.words.now l.load.result l.load.ensures c.enum_told.given.1
+
+enum-known-answer : tie.Need-enum-known-answer
+enum-known-answer c = search rules
+
+refused-requires : tie.Need-refused-requires
+refused-requires c κs = search rules
 
 returns : tie.Need-returns
 returns c =
@@ -26,10 +38,16 @@ returns c =
 returns-2 : tie.Need-returns-2
 returns-2 c =
     let l = loaded c in
-    refused_all (begin l).args.words.now l.load.result l.load.ensures _ _ c.before.before.answer.given.1 c.refused.result
-    c.refused.ensures
+    refused_all (begin l).args.words.now l.load.result l.load.ensures _ _ c.before.before.answer.given.1 c.refused.result c.refused.ensures
 
 pub slack-spec : {M : Type 1} → statement M
 slack-spec =
-    tie.close (tie.spec (λ c κs. search rules) (λ c. search rules) by-table-requires (λ c. search rules)
-    (λ c κs. search rules) returns returns-2)
+    tie.close
+    (tie.spec
+    load-requires
+    enum_told
+    by-table-requires
+    enum-known-answer
+    refused-requires
+    returns
+    returns-2)

@@ -9,6 +9,12 @@ use Rattle.splitter.proofs.is_dashes.Tie as tie
 abbrev entry : tie.After-shared-slice-known2 → tie.Start
 entry c = c.before.before.before
 
+shared-slice-read-result : tie.Need-shared-slice-read-result
+shared-slice-read-result c = search rules
+
+shared-slice-read-result-2 : tie.Need-shared-slice-read-result-2
+shared-slice-read-result-2 c = search rules
+
 returns : tie.Need-returns
 returns c = dashes-of (entry c).args.line.now c.before.before.if1.true
 
@@ -17,4 +23,4 @@ returns-2 c = no-dashes c.before.args.line.now c.if1.false
 
 pub is-dashes-spec : {M : Type 1} → statement M
 is-dashes-spec =
-    tie.close (tie.spec (λ c. search rules) (λ c. search rules) returns returns-2)
+    tie.close (tie.spec shared-slice-read-result shared-slice-read-result-2 returns returns-2)

@@ -31,11 +31,23 @@ loop-from-read c = c.before.before.before.before
 abbrev loop-from-slice-known2 : tie.After-slice-known2 invariant-loop decreases-loop → tie.At-loop invariant-loop decreases-loop
 loop-from-slice-known2 c = loop-from-read c.before.before
 
+loop-holds : tie.Need-loop-init invariant-loop decreases-loop
+loop-holds c = search rules
+
+read-requires : tie.Need-read-requires invariant-loop decreases-loop
+read-requires c κs = search rules
+
+same_length : tie.Need-same-length invariant-loop decreases-loop
+same_length c = search rules
+
 returns : tie.Need-returns invariant-loop decreases-loop
 returns c = record {
   behind = behind-on (loop-from-slice-known2 c.before).loop.inv (read-from-then2 c).read.ensures.behind;
   full = λ e f. absurd (false≢true (sym e ∙ c.if2.true));
 }
+
+same-length-2 : tie.Need-same-length-2 invariant-loop decreases-loop
+same-length-2 c = search rules
 
 returns-2 : tie.Need-returns-2 invariant-loop decreases-loop
 returns-2 c = record {
@@ -51,6 +63,9 @@ loop-less c =
 loop-again : tie.Need-loop-preserved invariant-loop decreases-loop
 loop-again c = behind-on (loop-from-slice-known2 c.before.before).loop.inv (read-from-else2 c.before).read.ensures.behind
 
+same-length-3 : tie.Need-same-length-3 invariant-loop decreases-loop
+same-length-3 c = search rules
+
 returns-3 : tie.Need-returns-3 invariant-loop decreases-loop
 returns-3 c =
     let i = c.before.before.loop.invariant in
@@ -58,5 +73,17 @@ returns-3 c =
 
 pub fill_spec : {M : Type 1} → statement M
 fill_spec =
-    tie.close (tie.spec invariant-loop decreases-loop (λ c. search rules) (λ c κs. search rules) (λ c. search rules) returns
-    (λ c. search rules) returns-2 loop-less loop-again (λ c. search rules) returns-3)
+    tie.close
+    (tie.spec
+    invariant-loop
+    decreases-loop
+    loop-holds
+    read-requires
+    same_length
+    returns
+    same-length-2
+    returns-2
+    loop-less
+    loop-again
+    same-length-3
+    returns-3)

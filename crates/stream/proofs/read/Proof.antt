@@ -26,6 +26,18 @@ entry-from-then1 c = (read-from-then1 c).before.before.before
 abbrev entry-from-count : tie.After-count → tie.Start
 entry-from-count c = (read-from-count c).before.before.before
 
+sub_read : tie.Need-overflow-sub-read
+sub_read c = search rules
+
+part-read-start : tie.Need-slice-bounds-read-start
+part-read-start c = search rules
+
+part-read-end : tie.Need-slice-bounds-read-end
+part-read-end c = search rules
+
+read-requires : tie.Need-read-requires
+read-requires c κs = search rules
+
 same_length : tie.Need-same-length
 same_length c = search rules
 
@@ -38,6 +50,21 @@ returns c =
       none = λ e. refl;
     }
 
+sub-count : tie.Need-overflow-sub-count
+sub-count c = search rules
+
+part-count-start : tie.Need-slice-bounds-count-start
+part-count-start c = search rules
+
+part-count-end : tie.Need-slice-bounds-count-end
+part-count-end c = search rules
+
+count-requires : tie.Need-count-requires
+count-requires c κs = search rules
+
+add-t6 : tie.Need-overflow-add-t6
+add-t6 c = search rules
+
 same-length-2 : tie.Need-same-length-2
 same-length-2 c = search rules
 
@@ -45,15 +72,25 @@ returns-2 : tie.Need-returns-2
 returns-2 c =
     let a = entry-from-count c in
     record {
-      behind =
-          part-behind a.args.held a.args.buffer.now (read-from-count c).read.new.1.0 _ a.pre (same-length-2 c) (omega arith)
-          (omega (arith, c.count.ensures.0.0));
+      behind = part-behind a.args.held a.args.buffer.now (read-from-count c).read.new.1.0 _ a.pre (same-length-2 c) (omega arith) (omega (arith, c.count.ensures.0.0));
       more = λ e f. omega (arith, eqb-false c.count.result 0 e);
       none = λ e. omega (arith, eqb-true c.count.result 0 e);
     }
 
 pub read_spec : {M : Type 1} → statement M
 read_spec =
-    tie.close (tie.spec (λ c. search rules) (λ c. search rules) (λ c. search rules) (λ c κs. search rules) same_length
-    returns (λ c. search rules) (λ c. search rules) (λ c. search rules) (λ c κs. search rules) (λ c. search rules)
-    same-length-2 returns-2)
+    tie.close
+    (tie.spec
+    sub_read
+    part-read-start
+    part-read-end
+    read-requires
+    same_length
+    returns
+    sub-count
+    part-count-start
+    part-count-end
+    count-requires
+    add-t6
+    same-length-2
+    returns-2)

@@ -6,12 +6,12 @@ use borrow.Author.Rules.{rules}
 use native.Mathlib.Omega.{arith}
 use lib.ListN.{length}
 use Rattle.table.specs.declared.chain.Ending.TheVariants.{Whole}
-use Rattle.model.specs.Sizes.{mostCores}
-use Rattle.table.specs.Words.{headerWords, coreCount, rule}
+use Rattle.model.specs.Sizes.{most_cores}
+use Rattle.table.specs.Words.{header_words, core_count, rule}
 use Rattle.table.specs.Limits.{InRange, in_range}
-use Rattle.table.specs.Task.{tasksOf}
-use Rattle.table.specs.Answer.{headerNumber, endingOf, byTasks}
-use Rattle.table.specs.Load.{loadedBy, passing, codeTasks, refusal, tableWith}
+use Rattle.table.specs.Task.{tasks_of}
+use Rattle.table.specs.Answer.{header_number, ending_of, by_tasks}
+use Rattle.table.specs.Load.{loaded_by, passing, code_tasks, refusal, table_with}
 use Rattle.table.proofs.Decide.{stable}
 use Rattle.table.proofs.Tests.{from-decides}
 use Rattle.table.proofs.HeaderPasses.{header-passes, words_long}
@@ -51,21 +51,45 @@ abbrev else1 : tie.After-tasks → tie.Else1
 else1 c = c.before.before.before.before
 
 -- the header passes
-fine : (c : tie.Else1) → headerNumber (entry-from-else1 c).args.words.now ≡ 0
+fine : (c : tie.Else1) → header_number (entry-from-else1 c).args.words.now ≡ 0
 fine c = sym c.before.header-number.ensures ∙ c.if1.false
 
-long : (c : tie.Else1) → headerWords ≤ length (entry-from-else1 c).args.words.now
+long : (c : tie.Else1) → header_words ≤ length (entry-from-else1 c).args.words.now
 long c = let ws = (entry-from-else1 c).args.words.now in words_long ws (header-passes ws (fine c)).words-in
 
 -- the chain ends at the zero
-whole : (c : tie.After-enum-told3) → endingOf (entry-from-arm3 c.before).args.words.now ≡ Whole
+whole : (c : tie.After-enum-told3) → ending_of (entry-from-arm3 c.before).args.words.now ≡ Whole
 whole c = sym c.before.before.walk.ensures.ending ∙ c.enum-told3.given.1
+
+header-number-requires : tie.Need-header-number-requires
+header-number-requires c κs = search rules
+
+refused-requires : tie.Need-refused-requires
+refused-requires c κs = search rules
 
 returns : tie.Need-returns
 returns c =
     let h = c.before.before.header-number.ensures in
     let ws = (entry-from-refused c).args.words.now in
     contract-of ws c.refused.result (c.refused.ensures ∙ ap (λ n. refusal n 0) h ∙ sym (load-header ws (λ e. c.before.if1.true (h ∙ e))))
+
+walk-requires : tie.Need-walk-requires
+walk-requires c κs = search rules
+
+enum_told : tie.Need-enum-told
+enum_told c = search rules
+
+refused-requires-2 : tie.Need-refused-requires-2
+refused-requires-2 c κs = search rules
+
+enum-told-2 : tie.Need-enum-told-2
+enum-told-2 c = search rules
+
+refused-requires-3 : tie.Need-refused-requires-3
+refused-requires-3 c κs = search rules
+
+enum-told-3 : tie.Need-enum-told-3
+enum-told-3 c = search rules
 
 fence-in-requires : tie.Need-fence-in-requires
 fence-in-requires c κs = long (else1 c)
@@ -85,23 +109,20 @@ by-tasks-requires c κs =
     let counted = w.walk.ensures.counted told in
     let many = whole-count ws (fine w.before) (whole e) in
     let kept = w.walk.ensures.placed told in
-    let narrow : InRange 1 mostCores (coreCount ws) = stable (in_range 1 mostCores (coreCount ws)) (InRange 1 mostCores (coreCount ws))
-    (from-decides 1 mostCores (coreCount ws)) (header-passes ws (fine w.before)).cores-in in
-    (narrow.1, (omega arith, (omega arith, kept ∙ ap codeTasks (sym (walked-tasks ws w.walk.result.tasks w.walk.result.count kept counted)))))
+    let narrow : InRange 1 most_cores (core_count ws) = stable (in_range 1 most_cores (core_count ws)) (InRange 1 most_cores (core_count ws)) (from-decides 1 most_cores (core_count ws)) (header-passes ws (fine w.before)).cores-in in
+    (narrow.1, (omega arith, (omega arith, kept ∙ ap code_tasks (sym (walked-tasks ws w.walk.result.tasks w.walk.result.count kept counted)))))
 
 returns-2 : tie.Need-returns-2
 returns-2 c =
     let w = walk-from-refused2 c in
     let ws = (entry-from-else1 w.before).args.words.now in
-    contract-of ws c.refused2.result (c.refused2.ensures ∙ sym
-    (load_past ws (fine w.before) (sym w.walk.ensures.ending ∙ c.before.enum_told.given.1)))
+    contract-of ws c.refused2.result (c.refused2.ensures ∙ sym (load_past ws (fine w.before) (sym w.walk.ensures.ending ∙ c.before.enum_told.given.1)))
 
 returns-3 : tie.Need-returns-3
 returns-3 c =
     let w = walk-from-refused3 c in
     let ws = (entry-from-else1 w.before).args.words.now in
-    contract-of ws c.refused3.result (c.refused3.ensures ∙ sym
-    (load_again ws (fine w.before) (sym w.walk.ensures.ending ∙ c.before.enum-told2.given.1)))
+    contract-of ws c.refused3.result (c.refused3.ensures ∙ sym (load_again ws (fine w.before) (sym w.walk.ensures.ending ∙ c.before.enum-told2.given.1)))
 
 returns-4 : tie.Need-returns-4
 returns-4 c =
@@ -112,13 +133,27 @@ returns-4 c =
     let fenced = (fence-in c).fence-in.ensures in
     contract-of ws c.by-tasks.result
     (c.by-tasks.ensures
-    ∙ ap (λ (f : ℕ). loadedBy (byTasks (tableWith (coreCount ws) f (rule ws) (tasksOf w.walk.result.tasks w.walk.result.count)))
-    (passing (rule ws) (tableWith (coreCount ws) f (rule ws) (tasksOf w.walk.result.tasks w.walk.result.count)))) fenced
-    ∙ load-whole ws (fine w.before) (whole e) w.walk.result.tasks w.walk.result.count (w.walk.ensures.placed told)
-    (w.walk.ensures.counted told))
+    ∙ ap (λ (f : ℕ). loaded_by (by_tasks (table_with (core_count ws) f (rule ws) (tasks_of w.walk.result.tasks w.walk.result.count)))
+    (passing (rule ws) (table_with (core_count ws) f (rule ws) (tasks_of w.walk.result.tasks w.walk.result.count)))) fenced
+    ∙ load-whole ws (fine w.before) (whole e) w.walk.result.tasks w.walk.result.count (w.walk.ensures.placed told) (w.walk.ensures.counted told))
 
 pub load_spec : {M : Type 1} → statement M
 load_spec =
-    tie.close (tie.spec (λ c κs. search rules) (λ c κs. search rules) returns (λ c κs. search rules) (λ c. search rules)
-    (λ c κs. search rules) (λ c. search rules) (λ c κs. search rules) (λ c. search rules) fence-in-requires
-    shared-slice-read-by-tasks shared-slice-read-by-tasks-2 by-tasks-requires returns-2 returns-3 returns-4)
+    tie.close
+    (tie.spec
+    header-number-requires
+    refused-requires
+    returns
+    walk-requires
+    enum_told
+    refused-requires-2
+    enum-told-2
+    refused-requires-3
+    enum-told-3
+    fence-in-requires
+    shared-slice-read-by-tasks
+    shared-slice-read-by-tasks-2
+    by-tasks-requires
+    returns-2
+    returns-3
+    returns-4)

@@ -6,18 +6,18 @@ use Prim.Native.Nat.{ℕ, ◌+◌, ◌-◌, ◌≤◌}
 use native.Mathlib.Omega.{arith}
 use borrow.Author.Rules.{rules}
 use lib.ListN.{length, take, drop, set, length-drop, length-append}
-use Rattle.text.specs.Format.{readWords, words_of, lines, mostNumbers}
-use Rattle.text.specs.Input.{lineLength, parseNumber, padNumbers, input_of}
+use Rattle.text.specs.Format.{read_words, words_of, lines, most_numbers}
+use Rattle.text.specs.Input.{line_length, parse_number, pad_numbers, input_of}
 use Rattle.text.proofs.Lines.{line-within}
 use Rattle.text.proofs.Numbers.{nothing-found, value_found}
 use Rattle.text.proofs.ReadOf.{read_of}
-use Rattle.text.proofs.Reading.{wordsFrom, from_start, from_end, from_wrong, from-full, from_more, lines_from, lines-past, placed-more, input-of}
+use Rattle.text.proofs.Reading.{words_from, from_start, from_end, from_wrong, from-full, from_more, lines_from, lines-past, placed-more, input-of}
 use Rattle.text.proofs.read.Statement.{statement}
 use Rattle.text.proofs.read.Tie as tie
 
 abbrev invariant-loop : tie.invariant-loop
 invariant-loop bytes places₀ count₀ at₀ places count at =
-    (ws : List ℕ) × (places ≡ padNumbers ws) × (count ≡ length ws) × (length ws ≤ mostNumbers) × (wordsFrom ws (lines (drop at bytes)) ≡ words_of bytes)
+    (ws : List ℕ) × (places ≡ pad_numbers ws) × (count ≡ length ws) × (length ws ≤ most_numbers) × (words_from ws (lines (drop at bytes)) ≡ words_of bytes)
 
 abbrev decreases-loop : tie.decreases-loop
 decreases-loop bytes places₀ count₀ at₀ places count at = length bytes - at
@@ -61,26 +61,43 @@ ends c =
 found : (c : tie.After-number invariant-loop decreases-loop) →
     let bytes = (entry-from-end-from c.before.before).args.bytes.now in
     let at = (loop c).loop.at in
-    c.number.result ≡ parseNumber (take (lineLength (drop at bytes)) (drop at bytes))
+    c.number.result ≡ parse_number (take (line_length (drop at bytes)) (drop at bytes))
 found c =
     let bytes = (entry-from-end-from c.before.before).args.bytes.now in
     let at = (loop c).loop.at in
-    let n : c.before.before.end-from.result - at ≡ lineLength (drop at bytes) = omega arith in
-    c.number.ensures ∙ ap (λ (k : ℕ). parseNumber (take k (drop at bytes))) n
+    let n : c.before.before.end-from.result - at ≡ line_length (drop at bytes) = omega arith in
+    c.number.ensures ∙ ap (λ (k : ℕ). parse_number (take k (drop at bytes))) n
 
 -- the answer for that line and the lines after it
 here : (c : tie.After-number invariant-loop decreases-loop) →
     let bytes = (entry-from-end-from c.before.before).args.bytes.now in
     let l = (loop c).loop in
-    wordsFrom l.inv.0 (take (lineLength (drop l.at bytes)) (drop l.at bytes) ∷ lines (drop (l.at + lineLength (drop l.at bytes) + 1) bytes))
-    ≡ words_of bytes
+    words_from l.inv.0 (take (line_length (drop l.at bytes)) (drop l.at bytes) ∷ lines (drop (l.at + line_length (drop l.at bytes) + 1) bytes)) ≡ words_of bytes
 here c =
     let bytes = (entry-from-end-from c.before.before).args.bytes.now in
     let l = (loop c).loop in
-    ap (wordsFrom l.inv.0) (sym (lines_from bytes l.at (omega arith))) ∙ l.inv.4
+    ap (words_from l.inv.0) (sym (lines_from bytes l.at (omega arith))) ∙ l.inv.4
+
+end-from-requires : tie.Need-end-from-requires invariant-loop decreases-loop
+end-from-requires c κs = search rules
+
+sub_number : tie.Need-overflow-sub-number invariant-loop decreases-loop
+sub_number c = search rules
+
+part-number-start : tie.Need-slice-bounds-number-start invariant-loop decreases-loop
+part-number-start c = search rules
 
 part-number-end : tie.Need-slice-bounds-number-end invariant-loop decreases-loop
 part-number-end c = omega (arith, ends c)
+
+number-requires : tie.Need-number-requires invariant-loop decreases-loop
+number-requires c κs = search rules
+
+enum_told : tie.Need-enum-told invariant-loop decreases-loop
+enum_told c = search rules
+
+no-text-requires : tie.Need-no-text-requires invariant-loop decreases-loop
+no-text-requires c κs = search rules
 
 returns : tie.Need-returns invariant-loop decreases-loop
 returns c =
@@ -89,14 +106,32 @@ returns c =
     let w = nothing-found _ (sym (found n) ∙ c.before.enum_told.given.1) in
     read_of _ _ (c.no_text.ensures ∙ ap input_of (sym (from_wrong l.inv.0 _ _ w) ∙ here n))
 
+enum-known-number : tie.Need-enum-known-number invariant-loop decreases-loop
+enum-known-number c = search rules
+
+no-text-requires-2 : tie.Need-no-text-requires-2 invariant-loop decreases-loop
+no-text-requires-2 c κs = search rules
+
 returns-2 : tie.Need-returns-2 invariant-loop decreases-loop
 returns-2 c =
     let n = number-from-no-text2 c in
     let l = (loop n).loop in
     read_of _ _ (c.no-text2.ensures ∙ ap input_of (sym (from-full l.inv.0 _ _ (omega arith)) ∙ here n))
 
+mul_words : tie.Need-overflow-mul-words invariant-loop decreases-loop
+mul_words c = search rules
+
+array-write-words : tie.Need-array-write-words invariant-loop decreases-loop
+array-write-words c = search rules
+
+add-count : tie.Need-overflow-add-count invariant-loop decreases-loop
+add-count c = search rules
+
 add_at : tie.Need-overflow-add-at invariant-loop decreases-loop
 add_at c = omega (arith, ends (number-from-else1 c).before.before)
+
+loop-less : tie.Need-loop-smaller invariant-loop decreases-loop
+loop-less c = search rules
 
 loop-again : tie.Need-loop-preserved invariant-loop decreases-loop
 loop-again c =
@@ -112,20 +147,39 @@ loop-again c =
       ap₂ (λ (p : List ℕ) (k : ℕ). set p k w) l.inv.1 l.inv.2 ∙ placed-more ws w (omega arith),
       omega arith,
       omega arith,
-      ap₂ (λ (x k : ℕ). wordsFrom (ws ++ (x ∷ [])) (lines (drop (k + 1) bytes))) v.1 end.ensures ∙ sym (from_more ws _ _ v.0) ∙ here n,
+      ap₂ (λ (x k : ℕ). words_from (ws ++ (x ∷ [])) (lines (drop (k + 1) bytes))) v.1 end.ensures ∙ sym (from_more ws _ _ v.0) ∙ here n,
     )
 
 returns-3 : tie.Need-returns-3 invariant-loop decreases-loop
 returns-3 c =
     let l = c.before.loop in
     let bytes = (entry-from-past-loop c).args.bytes.now in
-    let e : readWords l.invariant.0 ≡ words_of bytes =
-    sym (from_end l.invariant.0 l.invariant.3) ∙ ap (wordsFrom l.invariant.0) (sym (lines-past bytes l.at (omega arith))) ∙ l.invariant.4 in
+    let e : read_words l.invariant.0 ≡ words_of bytes =
+    sym (from_end l.invariant.0 l.invariant.3) ∙ ap (words_from l.invariant.0) (sym (lines-past bytes l.at (omega arith))) ∙ l.invariant.4 in
     read_of bytes _ (input-of l.invariant.0 l.words l.count l.invariant.1 l.invariant.2 ∙ ap input_of e)
 
 pub read_spec : {M : Type 1} → statement M
 read_spec =
-    tie.close (tie.spec invariant-loop decreases-loop loop-holds (λ c κs. search rules) (λ c. search rules) (λ c. search rules)
-    part-number-end (λ c κs. search rules) (λ c. search rules) (λ c κs. search rules) returns (λ c. search rules)
-    (λ c κs. search rules) returns-2 (λ c. search rules) (λ c. search rules) (λ c. search rules) add_at
-    (λ c. search rules) loop-again returns-3)
+    tie.close
+    (tie.spec
+    invariant-loop
+    decreases-loop
+    loop-holds
+    end-from-requires
+    sub_number
+    part-number-start
+    part-number-end
+    number-requires
+    enum_told
+    no-text-requires
+    returns
+    enum-known-number
+    no-text-requires-2
+    returns-2
+    mul_words
+    array-write-words
+    add-count
+    add_at
+    loop-less
+    loop-again
+    returns-3)

@@ -4,6 +4,12 @@ use borrow.Author.Rules.{rules}
 use Rattle.buffers.proofs.answer_words.of_given.Statement.{statement}
 use Rattle.buffers.proofs.answer_words.of_given.Tie as tie
 
+enum_told : tie.Need-enum-told
+enum_told c = search rules
+
+enum-known-answer : tie.Need-enum-known-answer
+enum-known-answer c = search rules
+
 returns : tie.Need-returns
 returns c = simp c.enum_told.given.1
 
@@ -11,4 +17,4 @@ returns-2 : tie.Need-returns-2
 returns-2 c = simp c.before.answer.given.1
 
 pub of-given-spec : {M : Type 1} → statement M
-of-given-spec = tie.close (tie.spec (λ c. search rules) (λ c. search rules) returns returns-2)
+of-given-spec = tie.close (tie.spec enum_told enum-known-answer returns returns-2)

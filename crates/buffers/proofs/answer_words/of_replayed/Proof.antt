@@ -4,6 +4,18 @@ use borrow.Author.Rules.{rules}
 use Rattle.buffers.proofs.answer_words.of_replayed.Statement.{statement}
 use Rattle.buffers.proofs.answer_words.of_replayed.Tie as tie
 
+enum_told : tie.Need-enum-told
+enum_told c = search rules
+
+enum-known-replayed : tie.Need-enum-known-replayed
+enum-known-replayed c = search rules
+
+enum-known-replayed-2 : tie.Need-enum-known-replayed-2
+enum-known-replayed-2 c = search rules
+
+enum-told-2 : tie.Need-enum-told-2
+enum-told-2 c = search rules
+
 returns : tie.Need-returns
 returns c = simp c.enum_told.given.1
 
@@ -18,5 +30,13 @@ returns-4 c = simp c.enum-told2.given.1
 
 pub of-replayed-spec : {M : Type 1} → statement M
 of-replayed-spec =
-    tie.close (tie.spec (λ c. search rules) (λ c. search rules) (λ c. search rules) (λ c. search rules) returns
-    returns-2 returns-3 returns-4)
+    tie.close
+    (tie.spec
+    enum_told
+    enum-known-replayed
+    enum-known-replayed-2
+    enum-told-2
+    returns
+    returns-2
+    returns-3
+    returns-4)

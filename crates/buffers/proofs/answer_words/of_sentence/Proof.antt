@@ -3,7 +3,7 @@
 use mathlib.Core.Path.{ap}
 use native.Mathlib.Omega.{arith}
 use borrow.Author.Rules.{rules}
-use Rattle.sentence.specs.SentenceAnswer.{sentenceMeaning}
+use Rattle.sentence.specs.SentenceAnswer.{sentence_meaning}
 use Rattle.buffers.proofs.answer_words.of_sentence.Statement.{statement}
 use Rattle.buffers.proofs.answer_words.of_sentence.Tie as tie
 
@@ -11,8 +11,14 @@ use Rattle.buffers.proofs.answer_words.of_sentence.Tie as tie
 abbrev entry : tie.After-known-told → tie.Start
 entry c = c.before.before.before
 
+enum-known-outcome : tie.Need-enum-known-outcome
+enum-known-outcome c = search rules
+
 cast-t6 : tie.Need-overflow-cast-t6
-cast-t6 c = let l = (entry c).requires _ (ap sentenceMeaning c.before.outcome.given.1) in omega (arith, l)
+cast-t6 c = let l = (entry c).requires _ (ap sentence_meaning c.before.outcome.given.1) in omega (arith, l)
+
+enum-known-outcome-2 : tie.Need-enum-known-outcome-2
+enum-known-outcome-2 c = search rules
 
 returns : tie.Need-returns
 returns c = simp c.before.outcome.given.1
@@ -22,4 +28,4 @@ returns-2 c = simp c.before.outcome2.given.1
 
 pub of-sentence-spec : {M : Type 1} → statement M
 of-sentence-spec =
-    tie.close (tie.spec (λ c. search rules) cast-t6 (λ c. search rules) returns returns-2)
+    tie.close (tie.spec enum-known-outcome cast-t6 enum-known-outcome-2 returns returns-2)

@@ -4,6 +4,18 @@ use borrow.Author.Rules.{rules}
 use Rattle.buffers.proofs.answer_words.of_verdict.Statement.{statement}
 use Rattle.buffers.proofs.answer_words.of_verdict.Tie as tie
 
+enum-known-verdict : tie.Need-enum-known-verdict
+enum-known-verdict c = search rules
+
+enum-known-verdict-2 : tie.Need-enum-known-verdict-2
+enum-known-verdict-2 c = search rules
+
+enum-known-verdict-3 : tie.Need-enum-known-verdict-3
+enum-known-verdict-3 c = search rules
+
+enum-known-verdict-4 : tie.Need-enum-known-verdict-4
+enum-known-verdict-4 c = search rules
+
 returns : tie.Need-returns
 returns c = simp c.before.verdict.given.1
 
@@ -18,5 +30,13 @@ returns-4 c = simp c.before.verdict4.given.1
 
 pub of-verdict-spec : {M : Type 1} → statement M
 of-verdict-spec =
-    tie.close (tie.spec (λ c. search rules) (λ c. search rules) (λ c. search rules) (λ c. search rules) returns
-    returns-2 returns-3 returns-4)
+    tie.close
+    (tie.spec
+    enum-known-verdict
+    enum-known-verdict-2
+    enum-known-verdict-3
+    enum-known-verdict-4
+    returns
+    returns-2
+    returns-3
+    returns-4)

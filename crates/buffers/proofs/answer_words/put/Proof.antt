@@ -8,11 +8,17 @@ use borrow.Author.Rules.{rules}
 use Rattle.buffers.proofs.answer_words.put.Statement.{statement}
 use Rattle.buffers.proofs.answer_words.put.Tie as tie
 
+slice-write-answer : tie.Need-slice-write-answer
+slice-write-answer c = omega arith
+
 slice-write-answer-2 : tie.Need-slice-write-answer-2
 slice-write-answer-2 c = simp length-set (omega arith)
 
 slice-write-answer-3 : tie.Need-slice-write-answer-3
 slice-write-answer-3 c = simp length-set (omega arith)
+
+same_length : tie.Need-same-length
+same_length c = search rules
 
 returns : tie.Need-returns
 returns c =
@@ -21,4 +27,4 @@ returns c =
 
 pub put_spec : {M : Type 1} → statement M
 put_spec =
-    tie.close (tie.spec (λ c. omega arith) slice-write-answer-2 slice-write-answer-3 (λ c. search rules) returns)
+    tie.close (tie.spec slice-write-answer slice-write-answer-2 slice-write-answer-3 same_length returns)

@@ -8,9 +8,9 @@ use lib.ListN.{length, drop, set, length-set, length-drop}
 use lib.Seq.{sets-eq}
 use borrow.Author.Rules.{part_to_end}
 use borrow.Author.Rules.{rules}
-use Rattle.model.specs.Sizes.{mostTasks}
+use Rattle.model.specs.Sizes.{most_tasks}
 use Rattle.sentence.specs.declared.Facts.{Facts}
-use Rattle.buffers.specs.Facts.{factHead}
+use Rattle.buffers.specs.Facts.{fact_head}
 use Rattle.buffers.proofs.Putting.{put-more}
 use Rattle.buffers.proofs.facts.put_facts.Statement.{statement}
 use Rattle.buffers.proofs.facts.put_facts.Tie as tie
@@ -22,8 +22,14 @@ front f = f.position ∷ (f.tick ∷ (f.had ∷ (f.length ∷ [])))
 abbrev headed : Facts → List ℕ → List ℕ
 headed f ws = set (set (set (set ws 0 f.position) 1 f.tick) 2 f.had) 3 f.length
 
-head-put : (f : Facts) (ws : List ℕ) → factHead ≤ length ws → headed f ws ≡ front f ++ drop factHead ws
+head-put : (f : Facts) (ws : List ℕ) → fact_head ≤ length ws → headed f ws ≡ front f ++ drop fact_head ws
 head-put f ws l = sets-eq (front f) ws 0 l
+
+cast-words : tie.Need-overflow-cast-words
+cast-words c = search rules
+
+slice-write-words : tie.Need-slice-write-words
+slice-write-words c = omega arith
 
 slice-write-words-2 : tie.Need-slice-write-words-2
 slice-write-words-2 c = simp length-set (omega arith)
@@ -40,12 +46,15 @@ sub-put-long-figures c = simp length-set (omega arith)
 part-put-long-figures-start : tie.Need-slice-bounds-put-long-figures-start
 part-put-long-figures-start c = simp length-set (omega arith)
 
+part-put-long-figures-end : tie.Need-slice-bounds-put-long-figures-end
+part-put-long-figures-end c = omega arith
+
 put-long-figures-requires : tie.Need-put-long-figures-requires
 put-long-figures-requires c κs =
     let a = c.before.before.before.before.args in
     let w = headed a.facts a.words.now in
     let n : length w ≡ length a.words.now = simp length-set in
-    let e = ap length (part_to_end w factHead) ∙ length-drop factHead w in
+    let e = ap length (part_to_end w fact_head) ∙ length-drop fact_head w in
     omega arith
 
 same_length : tie.Need-same-length
@@ -55,16 +64,26 @@ returns : tie.Need-returns
 returns c =
     let f = c.before.before in
     let a = f.before.before.before.before.before.args in
-    let len : length a.facts.ran ≡ mostTasks = search rules in
+    let len : length a.facts.ran ≡ most_tasks = search rules in
     let w = headed a.facts a.words.now in
     let n : length w ≡ length a.words.now = simp length-set in
     let h = head-put a.facts a.words.now (omega arith) in (
-      put-more w (front a.facts) a.words.now a.facts.ran _ factHead mostTasks h refl (omega arith) f.put-long-figures.ensures,
+      put-more w (front a.facts) a.words.now a.facts.ran _ fact_head most_tasks h refl (omega arith) f.put-long-figures.ensures,
       len,
     )
 
 pub put-facts-spec : {M : Type 1} → statement M
 put-facts-spec =
-    tie.close (tie.spec (λ c. search rules) (λ c. omega arith) slice-write-words-2 slice-write-words-3
-    slice-write-words-4 sub-put-long-figures part-put-long-figures-start (λ c. omega arith) put-long-figures-requires
-    same_length returns)
+    tie.close
+    (tie.spec
+    cast-words
+    slice-write-words
+    slice-write-words-2
+    slice-write-words-3
+    slice-write-words-4
+    sub-put-long-figures
+    part-put-long-figures-start
+    part-put-long-figures-end
+    put-long-figures-requires
+    same_length
+    returns)

@@ -9,25 +9,41 @@ use borrow.Author.Rules.{rules}
 use Rattle.run.proofs.Written.{front-more, front-all}
 use Rattle.buffers.proofs.figures.put_long_figures.Statement.{statement}
 use Rattle.buffers.proofs.figures.put_long_figures.Tie as tie
-use Rattle.model.specs.Sizes.{mostTasks}
+use Rattle.model.specs.Sizes.{most_tasks}
 
 abbrev invariant-loop : tie.invariant-loop
-invariant-loop words₀ figures i₀ words i = (i ≤ mostTasks) × ((length words ≡ length words₀) × (words ≡ take i figures ++ drop i words₀))
+invariant-loop words₀ figures i₀ words i = (i ≤ most_tasks) × ((length words ≡ length words₀) × (words ≡ take i figures ++ drop i words₀))
 
 abbrev decreases-loop : tie.decreases-loop
-decreases-loop words₀ figures i₀ words i = mostTasks - i
+decreases-loop words₀ figures i₀ words i = most_tasks - i
+
+loop-holds : tie.Need-loop-init invariant-loop decreases-loop
+loop-holds c = search rules
+
+mul_words : tie.Need-overflow-mul-words invariant-loop decreases-loop
+mul_words c = search rules
+
+array-read-words : tie.Need-array-read-words invariant-loop decreases-loop
+array-read-words c = omega arith
+
+mul-words-2 : tie.Need-overflow-mul-words-2 invariant-loop decreases-loop
+mul-words-2 c = search rules
+
+slice-write-words : tie.Need-slice-write-words invariant-loop decreases-loop
+slice-write-words c = omega arith
+
+add-i : tie.Need-overflow-add-i invariant-loop decreases-loop
+add-i c = omega arith
+
+loop-less : tie.Need-loop-smaller invariant-loop decreases-loop
+loop-less c = omega arith
 
 loop-again : tie.Need-loop-preserved invariant-loop decreases-loop
 loop-again c =
     let s = c.before in
     let a = s.before.args in
-    let len : length a.t1 ≡ mostTasks = search rules in (
-      omega arith,
-      (
-        simp length-set s.loop.invariant.1.0,
-        simp s.loop.invariant.1.1 (front-more a.t1 a.words.now s.loop.i 0 (omega arith) (omega arith)),
-      ),
-    )
+    let len : length a.t1 ≡ most_tasks = search rules in
+    (omega arith, (simp length-set s.loop.invariant.1.0, simp s.loop.invariant.1.1 (front-more a.t1 a.words.now s.loop.i 0 (omega arith) (omega arith))))
 
 same_length : tie.Need-same-length invariant-loop decreases-loop
 same_length c = c.before.loop.invariant.1.0
@@ -36,9 +52,8 @@ returns : tie.Need-returns invariant-loop decreases-loop
 returns c =
     let s = c.before in
     let a = s.before.args in
-    s.loop.invariant.1.1 ∙ front-all a.t1 a.words.now s.loop.i mostTasks (omega arith) (search rules)
+    s.loop.invariant.1.1 ∙ front-all a.t1 a.words.now s.loop.i most_tasks (omega arith) (search rules)
 
 pub put-long-figures-spec : {M : Type 1} → statement M
 put-long-figures-spec =
-    tie.close (tie.spec invariant-loop decreases-loop (λ c. search rules) (λ c. search rules) (λ c. omega arith) (λ c. search rules)
-    (λ c. omega arith) (λ c. omega arith) (λ c. omega arith) loop-again same_length returns)
+    tie.close (tie.spec invariant-loop decreases-loop loop-holds mul_words array-read-words mul-words-2 slice-write-words add-i loop-less loop-again same_length returns)

@@ -30,10 +30,19 @@ put-plan-requires c κs =
     let g = entry-from-enum-told c.before.before in
     (g.pre.0, g.pre.1.1)
 
+enum-told-2 : tie.Need-enum-told-2
+enum-told-2 c = search rules
+
 put-plan-requires-2 : tie.Need-put-plan-requires-2
 put-plan-requires-2 c κs =
     let g = entry-from-enum-told2 c.before.before in
     (g.pre.0, g.pre.1.1)
+
+enum-known-answer : tie.Need-enum-known-answer
+enum-known-answer c = search rules
+
+same_length : tie.Need-same-length
+same_length c = search rules
 
 returns : tie.Need-returns
 returns c =
@@ -41,6 +50,9 @@ returns c =
     let m = enum-told-from-put-plan p in
     let g = entry-from-enum-told m in
     kept-row-taken g.args.words.now g.args.entered m.enum_told.given.1 g.pre.1.0 p.put-plan.ensures
+
+same-length-2 : tie.Need-same-length-2
+same-length-2 c = search rules
 
 returns-2 : tie.Need-returns-2
 returns-2 c =
@@ -57,5 +69,15 @@ returns-3 c =
 
 pub keep_spec : {M : Type 1} → statement M
 keep_spec =
-    tie.close (tie.spec enum_told put-plan-requires (λ c. search rules) put-plan-requires-2 (λ c. search rules)
-    (λ c. search rules) returns (λ c. search rules) returns-2 returns-3)
+    tie.close
+    (tie.spec
+    enum_told
+    put-plan-requires
+    enum-told-2
+    put-plan-requires-2
+    enum-known-answer
+    same_length
+    returns
+    same-length-2
+    returns-2
+    returns-3)

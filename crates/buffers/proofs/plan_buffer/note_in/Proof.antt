@@ -10,6 +10,45 @@ use Rattle.buffers.proofs.plan_buffer.note_in.Tie as tie
 abbrev entry : tie.After-is-task-state → tie.Start
 entry c = c.before.before.before.before.before.before
 
+mul-kind : tie.Need-overflow-mul-kind
+mul-kind c = search rules
+
+shared-slice-read-kind : tie.Need-shared-slice-read-kind
+shared-slice-read-kind c = search rules
+
+add-first : tie.Need-overflow-add-first
+add-first c = search rules
+
+mul-first : tie.Need-overflow-mul-first
+mul-first c = search rules
+
+shared-slice-read-first : tie.Need-shared-slice-read-first
+shared-slice-read-first c = search rules
+
+add-second : tie.Need-overflow-add-second
+add-second c = search rules
+
+mul-second : tie.Need-overflow-mul-second
+mul-second c = search rules
+
+shared-slice-read-second : tie.Need-shared-slice-read-second
+shared-slice-read-second c = search rules
+
+add-third : tie.Need-overflow-add-third
+add-third c = search rules
+
+mul-third : tie.Need-overflow-mul-third
+mul-third c = search rules
+
+shared-slice-read-third : tie.Need-shared-slice-read-third
+shared-slice-read-third c = search rules
+
+is-task-state-requires : tie.Need-is-task-state-requires
+is-task-state-requires c κs = search rules
+
+phase-of-requires : tie.Need-phase-of-requires
+phase-of-requires c κs = search rules
+
 returns : tie.Need-returns
 returns c =
     let t = c.before in
@@ -25,6 +64,20 @@ returns-2 c =
 
 pub note-in-spec : {M : Type 1} → statement M
 note-in-spec =
-    tie.close (tie.spec (λ c. search rules) (λ c. search rules) (λ c. search rules) (λ c. search rules)
-    (λ c. search rules) (λ c. search rules) (λ c. search rules) (λ c. search rules) (λ c. search rules)
-    (λ c. search rules) (λ c. search rules) (λ c κs. search rules) (λ c κs. search rules) returns returns-2)
+    tie.close
+    (tie.spec
+    mul-kind
+    shared-slice-read-kind
+    add-first
+    mul-first
+    shared-slice-read-first
+    add-second
+    mul-second
+    shared-slice-read-second
+    add-third
+    mul-third
+    shared-slice-read-third
+    is-task-state-requires
+    phase-of-requires
+    returns
+    returns-2)

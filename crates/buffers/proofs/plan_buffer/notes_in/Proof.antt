@@ -10,9 +10,9 @@ use lib.Seq.{drop-drop}
 use Rattle.phase.specs.declared.Phase.TheVariants.{Resting}
 use Rattle.run.proofs.Written.{written-more}
 use Rattle.plan_check.specs.declared.Note.{Note}
-use Rattle.plan_check.specs.State.{note, pastNote}
+use Rattle.plan_check.specs.State.{note, past_note}
 use Rattle.buffers.specs.Encoding.{places}
-use Rattle.buffers.specs.Supplied.{notesAt, noteSize, noteIn, notesIn}
+use Rattle.buffers.specs.Supplied.{notes_at, note_size, note_in, notes_in}
 use Rattle.buffers.proofs.Noting.{read-note, length-noted}
 use Rattle.buffers.proofs.plan_buffer.notes_in.Statement.{statement}
 use Rattle.buffers.proofs.plan_buffer.notes_in.Tie as tie
@@ -21,12 +21,12 @@ use Rattle.buffers.proofs.plan_buffer.notes_in.Tie as tie
 abbrev made : List Note
 made = replicate places (note (Resting 0))
 
-start : (ws : List ℕ) → made ≡ notesIn 0 (drop notesAt ws) ++ drop 0 made
-unfolding notesIn
+start : (ws : List ℕ) → made ≡ notes_in 0 (drop notes_at ws) ++ drop 0 made
+unfolding notes_in
 start ws = refl
 
 abbrev invariant-loop : tie.invariant-loop
-invariant-loop words noted₀ i₀ noted i = (i ≤ places) × (noted ≡ notesIn i (drop notesAt words) ++ drop i made)
+invariant-loop words noted₀ i₀ noted i = (i ≤ places) × (noted ≡ notes_in i (drop notes_at words) ++ drop i made)
 
 abbrev decreases-loop : tie.decreases-loop
 decreases-loop words noted₀ i₀ noted i = places - i
@@ -38,17 +38,37 @@ entry c = c.before.before
 loop-holds : tie.Need-loop-init invariant-loop decreases-loop
 loop-holds c = (omega arith, start c.before.args.words.now)
 
+mul-note-in : tie.Need-overflow-mul-note-in invariant-loop decreases-loop
+mul-note-in c = omega arith
+
+add-note-in : tie.Need-overflow-add-note-in invariant-loop decreases-loop
+add-note-in c = omega arith
+
+note-in-requires : tie.Need-note-in-requires invariant-loop decreases-loop
+note-in-requires c κs = omega arith
+
+mul-noted : tie.Need-overflow-mul-noted invariant-loop decreases-loop
+mul-noted c = omega arith
+
+array-set-from-noted : tie.Need-array-set-from-noted invariant-loop decreases-loop
+array-set-from-noted c = omega arith
+
+add-i : tie.Need-overflow-add-i invariant-loop decreases-loop
+add-i c = omega arith
+
+loop-less : tie.Need-loop-smaller invariant-loop decreases-loop
+loop-less c = omega arith
+
 loop-again : tie.Need-loop-preserved invariant-loop decreases-loop
 loop-again c =
     let p = c.note-in in
     let s = c.before.before in
     let ws = (entry s).args.words.now in
     let i = s.loop.i in
-    let more : notesIn (i + 1) (drop notesAt ws) ≡ notesIn i (drop notesAt ws) ++ (p.result ∷ []) =
-    ap (λ (k : ℕ). notesIn k (drop notesAt ws)) (add-one i)
-    ∙ (read-note i (drop notesAt ws) ∙ ap (λ (t : Note). notesIn i (drop notesAt ws) ++ (t ∷ []))
-    (ap noteIn (drop-drop (noteSize * i) notesAt ws) ∙ sym p.ensures)) in
-    let next = written-more (notesIn i (drop notesAt ws)) made i p.result pastNote (length-noted i (drop notesAt ws)) (omega arith) in
+    let more : notes_in (i + 1) (drop notes_at ws) ≡ notes_in i (drop notes_at ws) ++ (p.result ∷ []) =
+    ap (λ (k : ℕ). notes_in k (drop notes_at ws)) (add-one i)
+    ∙ (read-note i (drop notes_at ws) ∙ ap (λ (t : Note). notes_in i (drop notes_at ws) ++ (t ∷ [])) (ap note_in (drop-drop (note_size * i) notes_at ws) ∙ sym p.ensures)) in
+    let next = written-more (notes_in i (drop notes_at ws)) made i p.result past_note (length-noted i (drop notes_at ws)) (omega arith) in
     (omega arith, ap (λ (l : List Note). set l i p.result) s.loop.invariant.1 ∙ (next ∙ ap (λ (l : List Note). l ++ drop (i + 1) made) (sym more)))
 
 returns : tie.Need-returns invariant-loop decreases-loop
@@ -57,9 +77,21 @@ returns c =
     let ws = (entry s).args.words.now in
     let e : s.loop.i ≡ places = omega arith in
     s.loop.invariant.1
-    ∙ (ap (λ (k : ℕ). notesIn k (drop notesAt ws) ++ drop k made) e ∙ append-nil (notesIn places (drop notesAt ws)))
+    ∙ (ap (λ (k : ℕ). notes_in k (drop notes_at ws) ++ drop k made) e ∙ append-nil (notes_in places (drop notes_at ws)))
 
 pub notes-in-spec : {M : Type 1} → statement M
 notes-in-spec =
-    tie.close (tie.spec invariant-loop decreases-loop loop-holds (λ c. omega arith) (λ c. omega arith) (λ c κs. omega arith)
-    (λ c. omega arith) (λ c. omega arith) (λ c. omega arith) (λ c. omega arith) loop-again returns)
+    tie.close
+    (tie.spec
+    invariant-loop
+    decreases-loop
+    loop-holds
+    mul-note-in
+    add-note-in
+    note-in-requires
+    mul-noted
+    array-set-from-noted
+    add-i
+    loop-less
+    loop-again
+    returns)

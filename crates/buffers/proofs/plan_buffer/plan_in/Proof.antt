@@ -9,6 +9,12 @@ use Rattle.buffers.proofs.plan_buffer.plan_in.Tie as tie
 run-in-requires : tie.Need-run-in-requires
 run-in-requires c κs = (omega (arith, c.before.requires.0), c.before.requires.1)
 
+notes-in-requires : tie.Need-notes-in-requires
+notes-in-requires c κs = search rules
+
+shared-slice-read-t5 : tie.Need-shared-slice-read-t5
+shared-slice-read-t5 c = omega arith
+
 returns : tie.Need-returns
 returns c =
     let n = c.before in
@@ -17,4 +23,4 @@ returns c =
 
 pub plan-in-spec : {M : Type 1} → statement M
 plan-in-spec =
-    tie.close (tie.spec run-in-requires (λ c κs. search rules) (λ c. omega arith) returns)
+    tie.close (tie.spec run-in-requires notes-in-requires shared-slice-read-t5 returns)

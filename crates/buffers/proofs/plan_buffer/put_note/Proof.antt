@@ -7,14 +7,41 @@ use Rattle.buffers.proofs.Noting.{note-put}
 use Rattle.buffers.proofs.plan_buffer.put_note.Statement.{statement}
 use Rattle.buffers.proofs.plan_buffer.put_note.Tie as tie
 
+mul_words : tie.Need-overflow-mul-words
+mul_words c = omega arith
+
+slice-write-words : tie.Need-slice-write-words
+slice-write-words c = omega arith
+
+add_words : tie.Need-overflow-add-words
+add_words c = omega arith
+
+mul-words-2 : tie.Need-overflow-mul-words-2
+mul-words-2 c = omega arith
+
 slice-write-words-2 : tie.Need-slice-write-words-2
 slice-write-words-2 c = simp length-set (omega arith)
+
+add-words-2 : tie.Need-overflow-add-words-2
+add-words-2 c = omega arith
+
+mul-words-3 : tie.Need-overflow-mul-words-3
+mul-words-3 c = omega arith
 
 slice-write-words-3 : tie.Need-slice-write-words-3
 slice-write-words-3 c = simp length-set (omega arith)
 
+add-words-3 : tie.Need-overflow-add-words-3
+add-words-3 c = omega arith
+
+mul-words-4 : tie.Need-overflow-mul-words-4
+mul-words-4 c = omega arith
+
 slice-write-words-4 : tie.Need-slice-write-words-4
 slice-write-words-4 c = simp length-set (omega arith)
+
+same_length : tie.Need-same-length
+same_length c = search rules
 
 returns : tie.Need-returns
 returns c =
@@ -23,6 +50,18 @@ returns c =
 
 pub put-note-spec : {M : Type 1} → statement M
 put-note-spec =
-    tie.close (tie.spec (λ c. omega arith) (λ c. omega arith) (λ c. omega arith) (λ c. omega arith) slice-write-words-2
-    (λ c. omega arith) (λ c. omega arith) slice-write-words-3 (λ c. omega arith) (λ c. omega arith) slice-write-words-4
-    (λ c. search rules) returns)
+    tie.close
+    (tie.spec
+    mul_words
+    slice-write-words
+    add_words
+    mul-words-2
+    slice-write-words-2
+    add-words-2
+    mul-words-3
+    slice-write-words-3
+    add-words-3
+    mul-words-4
+    slice-write-words-4
+    same_length
+    returns)

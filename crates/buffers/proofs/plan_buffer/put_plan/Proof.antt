@@ -4,7 +4,7 @@ use mathlib.Core.Path.{sym, ap, ◌∙◌}
 use mathlib.Core.Bool.{Bool}
 use native.Mathlib.Omega.{arith}
 use lib.ListN.{length-set}
-use Rattle.buffers.specs.Supplied.{planOver}
+use Rattle.buffers.specs.Supplied.{plan_over}
 use Rattle.buffers.proofs.Supplying.{tick-over, over-noted, over_plain}
 use Rattle.buffers.proofs.plan_buffer.put_plan.Statement.{statement}
 use Rattle.buffers.proofs.plan_buffer.put_plan.Tie as tie
@@ -47,7 +47,7 @@ returns c =
     over-noted a.shown a.plan a.words.now
     (tick-over a.shown a.plan a.words.now p.put-run.ensures (omega (arith, s.before.words.given, g.pre.1)))
     n.put-notes.ensures
-    ∙ ap (λ (t : Bool). planOver t a.shown a.plan a.words.now) (sym t.if1.true)
+    ∙ ap (λ (t : Bool). plan_over t a.shown a.plan a.words.now) (sym t.if1.true)
 
 same-length-2 : tie.Need-same-length-2
 same-length-2 c = simp length-set c.before.before.words.given
@@ -60,9 +60,8 @@ returns-2 c =
     let a = g.args in
     over_plain a.shown a.plan a.words.now
     (tick-over a.shown a.plan a.words.now p.put-run.ensures (omega (arith, s.before.words.given, g.pre.1)))
-    ∙ ap (λ (t : Bool). planOver t a.shown a.plan a.words.now) (sym c.if1.false)
+    ∙ ap (λ (t : Bool). plan_over t a.shown a.plan a.words.now) (sym c.if1.false)
 
 pub put-plan-spec : {M : Type 1} → statement M
 put-plan-spec =
-    tie.close (tie.spec put-run-requires slice-write-words put-notes-requires same_length returns same-length-2
-    returns-2)
+    tie.close (tie.spec put-run-requires slice-write-words put-notes-requires same_length returns same-length-2 returns-2)

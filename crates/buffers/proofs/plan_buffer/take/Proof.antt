@@ -19,6 +19,9 @@ held c = c.before.before
 abbrev plan-in-from-enter : tie.After-enter → tie.After-plan-in
 plan-in-from-enter c = c.before.before.before.before
 
+holds-requires : tie.Need-holds-requires
+holds-requires c κs = search rules
+
 plan-in-requires : tie.Need-plan-in-requires
 plan-in-requires c κs =
     let t = c.before in
@@ -26,6 +29,12 @@ plan-in-requires c κs =
     let ws = (entry h).args.words.now in
     let e = sym h.holds.ensures ∙ t.if1.true in
     (plan-long ws e, plan-few ws e)
+
+extent-requires : tie.Need-extent-requires
+extent-requires c κs = search rules
+
+same_length : tie.Need-same-length
+same_length c = search rules
 
 returns : tie.Need-returns
 returns c =
@@ -52,6 +61,9 @@ keep-requires c κs =
     let ready = v.enter.ensures.1 in
     (few v.enter.result.plan.run ready.passes, (ready.start, plan-long (entry h).args.words.now (sym h.holds.ensures ∙ t.if1.taken)))
 
+same-length-2 : tie.Need-same-length-2
+same-length-2 c = search rules
+
 returns-2 : tie.Need-returns-2
 returns-2 c =
     let k = c.before.before in
@@ -66,6 +78,9 @@ returns-2 c =
     v.enter.ensures.0
     k.keep.ensures
 
+same-length-3 : tie.Need-same-length-3
+same-length-3 c = search rules
+
 returns-3 : tie.Need-returns-3
 returns-3 c =
     let h = c.before in
@@ -74,5 +89,16 @@ returns-3 c =
 
 pub take_spec : {M : Type 1} → statement M
 take_spec =
-    tie.close (tie.spec (λ c κs. search rules) plan-in-requires (λ c κs. search rules) (λ c. search rules) returns
-    enter-requires keep-requires (λ c. search rules) returns-2 (λ c. search rules) returns-3)
+    tie.close
+    (tie.spec
+    holds-requires
+    plan-in-requires
+    extent-requires
+    same_length
+    returns
+    enter-requires
+    keep-requires
+    same-length-2
+    returns-2
+    same-length-3
+    returns-3)

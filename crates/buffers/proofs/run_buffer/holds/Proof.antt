@@ -5,13 +5,13 @@ use Prim.Native.Nat.{ℕ, ◌+◌, ◌-◌, ◌≤◌}
 use native.Mathlib.Omega.{arith}
 use lib.ListN.{drop}
 use borrow.Author.Rules.{rules}
-use Rattle.buffers.specs.Encoding.{headWords, eachWords, words_to, arePlaces, countIn}
+use Rattle.buffers.specs.Encoding.{head_words, each_words, words_to, are_places, count_in}
 use Rattle.buffers.proofs.Places.{test_on, test-stop, none_left, place_at, held-short, held-many, held_by}
 use Rattle.buffers.proofs.run_buffer.holds.Statement.{statement}
 use Rattle.buffers.proofs.run_buffer.holds.Tie as tie
 
 abbrev invariant-loop : tie.invariant-loop
-invariant-loop words count i₀ i = (i ≤ count) × (arePlaces count (drop headWords words) ≡ arePlaces (count - i) (drop (words_to i) words))
+invariant-loop words count i₀ i = (i ≤ count) × (are_places count (drop head_words words) ≡ are_places (count - i) (drop (words_to i) words))
 
 abbrev decreases-loop : tie.decreases-loop
 decreases-loop words count i₀ i = count - i
@@ -30,6 +30,9 @@ loop c = c.before.before.before.before.before.before
 returns : tie.Need-returns invariant-loop decreases-loop
 returns c = sym (held-short c.before.before.args.words.now c.if1.true)
 
+shared-slice-read-count : tie.Need-shared-slice-read-count invariant-loop decreases-loop
+shared-slice-read-count c = omega arith
+
 cast-count : tie.Need-overflow-cast-count invariant-loop decreases-loop
 cast-count c = omega (arith, c.shared-slice-known2.given 2)
 
@@ -39,8 +42,59 @@ returns-2 c = sym (held-many (entry-from-then2 c).args.words.now c.before.before
 loop-holds : tie.Need-loop-init invariant-loop decreases-loop
 loop-holds c =
     let ws = (entry-from-else2 c).args.words.now in
-    let e : countIn ws ≡ countIn ws - 0 = omega arith in
-    (omega arith, ap (λ (k : ℕ). arePlaces k (drop headWords ws)) e)
+    let e : count_in ws ≡ count_in ws - 0 = omega arith in
+    (omega arith, ap (λ (k : ℕ). are_places k (drop head_words ws)) e)
+
+mul_at : tie.Need-overflow-mul-at invariant-loop decreases-loop
+mul_at c = omega arith
+
+add_at : tie.Need-overflow-add-at invariant-loop decreases-loop
+add_at c = omega arith
+
+add-is-task-state : tie.Need-overflow-add-is-task-state invariant-loop decreases-loop
+add-is-task-state c = omega arith
+
+mul-is-task-state : tie.Need-overflow-mul-is-task-state invariant-loop decreases-loop
+mul-is-task-state c = omega arith
+
+shared-slice-read-is-task-state : tie.Need-shared-slice-read-is-task-state invariant-loop decreases-loop
+shared-slice-read-is-task-state c = omega arith
+
+add-is-task-state-2 : tie.Need-overflow-add-is-task-state-2 invariant-loop decreases-loop
+add-is-task-state-2 c = omega arith
+
+mul-is-task-state-2 : tie.Need-overflow-mul-is-task-state-2 invariant-loop decreases-loop
+mul-is-task-state-2 c = omega arith
+
+shared-slice-read-is-task-state-2 : tie.Need-shared-slice-read-is-task-state-2 invariant-loop decreases-loop
+shared-slice-read-is-task-state-2 c = omega arith
+
+add-is-task-state-3 : tie.Need-overflow-add-is-task-state-3 invariant-loop decreases-loop
+add-is-task-state-3 c = omega arith
+
+mul-is-task-state-3 : tie.Need-overflow-mul-is-task-state-3 invariant-loop decreases-loop
+mul-is-task-state-3 c = omega arith
+
+shared-slice-read-is-task-state-3 : tie.Need-shared-slice-read-is-task-state-3 invariant-loop decreases-loop
+shared-slice-read-is-task-state-3 c = omega arith
+
+add-is-task-state-4 : tie.Need-overflow-add-is-task-state-4 invariant-loop decreases-loop
+add-is-task-state-4 c = omega arith
+
+mul-is-task-state-4 : tie.Need-overflow-mul-is-task-state-4 invariant-loop decreases-loop
+mul-is-task-state-4 c = omega arith
+
+shared-slice-read-is-task-state-4 : tie.Need-shared-slice-read-is-task-state-4 invariant-loop decreases-loop
+shared-slice-read-is-task-state-4 c = omega arith
+
+is-task-state-requires : tie.Need-is-task-state-requires invariant-loop decreases-loop
+is-task-state-requires c κs = search rules
+
+add-i : tie.Need-overflow-add-i invariant-loop decreases-loop
+add-i c = omega arith
+
+loop-less : tie.Need-loop-smaller invariant-loop decreases-loop
+loop-less c = omega arith
 
 loop-again : tie.Need-loop-preserved invariant-loop decreases-loop
 loop-again c =
@@ -48,12 +102,11 @@ loop-again c =
     let s = loop p in
     let ws = (entry-from-else2 s.before).args.words.now in
     let i = s.loop.i in
-    let n = countIn ws in
-    let e : words_to i + eachWords ≡ words_to (i + 1) = omega arith in (
+    let n = count_in ws in
+    let e : words_to i + each_words ≡ words_to (i + 1) = omega arith in (
       omega arith,
-      s.loop.inv.1 ∙ (test_on (n - i) (n - (i + 1)) (words_to i) ws (omega arith)
-          (place_at ws (words_to i) ∙ (sym p.is-task-state.ensures ∙ c.if3.true))
-          ∙ ap (λ (k : ℕ). arePlaces (n - (i + 1)) (drop k ws)) e),
+      s.loop.inv.1 ∙ (test_on (n - i) (n - (i + 1)) (words_to i) ws (omega arith) (place_at ws (words_to i) ∙ (sym p.is-task-state.ensures ∙ c.if3.true))
+          ∙ ap (λ (k : ℕ). are_places (n - (i + 1)) (drop k ws)) e),
     )
 
 returns-3 : tie.Need-returns-3 invariant-loop decreases-loop
@@ -63,25 +116,49 @@ returns-3 c =
     let f = s.before in
     let ws = (entry-from-else2 f).args.words.now in
     let i = s.loop.i in
-    let n = countIn ws in
+    let n = count_in ws in
     sym
     (held_by ws f.before.before.if1.left f.if2.left
-    ∙ (s.loop.inv.1 ∙ test-stop (n - i) (n - (i + 1)) (words_to i) ws (omega arith)
-    (place_at ws (words_to i) ∙ (sym p.is-task-state.ensures ∙ c.if3.false))))
+    ∙ (s.loop.inv.1 ∙ test-stop (n - i) (n - (i + 1)) (words_to i) ws (omega arith) (place_at ws (words_to i) ∙ (sym p.is-task-state.ensures ∙ c.if3.false))))
 
 returns-4 : tie.Need-returns-4 invariant-loop decreases-loop
 returns-4 c =
     let s = c.before in
     let f = s.before in
     let ws = (entry-from-else2 f).args.words.now in
-    let e : countIn ws - s.loop.i ≡ 0 = omega arith in
+    let e : count_in ws - s.loop.i ≡ 0 = omega arith in
     sym
     (held_by ws f.before.before.if1.false f.if2.false
-    ∙ (s.loop.invariant.1 ∙ (ap (λ (k : ℕ). arePlaces k (drop (words_to s.loop.i) ws)) e ∙ none_left (drop (words_to s.loop.i) ws))))
+    ∙ (s.loop.invariant.1 ∙ (ap (λ (k : ℕ). are_places k (drop (words_to s.loop.i) ws)) e ∙ none_left (drop (words_to s.loop.i) ws))))
 
 pub holds-spec : {M : Type 1} → statement M
 holds-spec =
-    tie.close (tie.spec invariant-loop decreases-loop returns (λ c. omega arith) cast-count returns-2 loop-holds (λ c. omega arith)
-    (λ c. omega arith) (λ c. omega arith) (λ c. omega arith) (λ c. omega arith) (λ c. omega arith) (λ c. omega arith)
-    (λ c. omega arith) (λ c. omega arith) (λ c. omega arith) (λ c. omega arith) (λ c. omega arith) (λ c. omega arith)
-    (λ c. omega arith) (λ c κs. search rules) (λ c. omega arith) (λ c. omega arith) loop-again returns-3 returns-4)
+    tie.close
+    (tie.spec
+    invariant-loop
+    decreases-loop
+    returns
+    shared-slice-read-count
+    cast-count
+    returns-2
+    loop-holds
+    mul_at
+    add_at
+    add-is-task-state
+    mul-is-task-state
+    shared-slice-read-is-task-state
+    add-is-task-state-2
+    mul-is-task-state-2
+    shared-slice-read-is-task-state-2
+    add-is-task-state-3
+    mul-is-task-state-3
+    shared-slice-read-is-task-state-3
+    add-is-task-state-4
+    mul-is-task-state-4
+    shared-slice-read-is-task-state-4
+    is-task-state-requires
+    add-i
+    loop-less
+    loop-again
+    returns-3
+    returns-4)

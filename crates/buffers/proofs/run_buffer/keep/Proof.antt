@@ -19,6 +19,15 @@ enum-told-from-put-run c = c.before.before.before
 enum_told : tie.Need-enum-told
 enum_told c = search rules
 
+put-run-requires : tie.Need-put-run-requires
+put-run-requires c κs = search rules
+
+enum-known-answer : tie.Need-enum-known-answer
+enum-known-answer c = search rules
+
+same_length : tie.Need-same-length
+same_length c = search rules
+
 returns : tie.Need-returns
 returns c =
     let p = c.before.before in
@@ -34,4 +43,4 @@ returns-2 c =
 
 pub keep_spec : {M : Type 1} → statement M
 keep_spec =
-    tie.close (tie.spec enum_told (λ c κs. search rules) (λ c. search rules) (λ c. search rules) returns returns-2)
+    tie.close (tie.spec enum_told put-run-requires enum-known-answer same_length returns returns-2)

@@ -3,10 +3,13 @@
 use native.Mathlib.Omega.{arith}
 use lib.ListN.{length-set}
 use lib.Seq.{sets-eq}
-use Rattle.buffers.specs.Encoding.{placeWith}
+use Rattle.buffers.specs.Encoding.{place_with}
 use borrow.Author.Rules.{rules}
 use Rattle.buffers.proofs.run_buffer.put_place.Statement.{statement}
 use Rattle.buffers.proofs.run_buffer.put_place.Tie as tie
+
+slice-write-words : tie.Need-slice-write-words
+slice-write-words c = omega arith
 
 slice-write-words-2 : tie.Need-slice-write-words-2
 slice-write-words-2 c = simp length-set (omega arith)
@@ -38,13 +41,28 @@ slice-write-words-10 c = simp length-set (omega arith)
 slice-write-words-11 : tie.Need-slice-write-words-11
 slice-write-words-11 c = simp length-set (omega arith)
 
+same_length : tie.Need-same-length
+same_length c = search rules
+
 returns : tie.Need-returns
 returns c =
     let a = c.args in
-    sets-eq (placeWith a.task a.parity a.phase) a.words.now 0 (omega arith)
+    sets-eq (place_with a.task a.parity a.phase) a.words.now 0 (omega arith)
 
 pub put-place-spec : {M : Type 1} → statement M
 put-place-spec =
-    tie.close (tie.spec (λ c. omega arith) slice-write-words-2 slice-write-words-3 slice-write-words-4
-    slice-write-words-5 slice-write-words-6 slice-write-words-7 slice-write-words-8 slice-write-words-9
-    slice-write-words-10 slice-write-words-11 (λ c. search rules) returns)
+    tie.close
+    (tie.spec
+    slice-write-words
+    slice-write-words-2
+    slice-write-words-3
+    slice-write-words-4
+    slice-write-words-5
+    slice-write-words-6
+    slice-write-words-7
+    slice-write-words-8
+    slice-write-words-9
+    slice-write-words-10
+    slice-write-words-11
+    same_length
+    returns)

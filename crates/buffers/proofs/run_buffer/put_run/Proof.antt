@@ -10,11 +10,11 @@ use borrow.Rule.Slice.PartMut.{put_mid}
 use borrow.Author.Rules.{rules}
 use Rattle.run.specs.declared.Run.{Run}
 use Rattle.phase.specs.declared.Task.{Task}
-use Rattle.phase.specs.Task.{pastEnd}
+use Rattle.phase.specs.Task.{past_end}
 use Rattle.run.proofs.Written.{take_more}
 use Rattle.buffers.specs.declared.run_buffer.PhaseWords.{PhaseWords}
-use Rattle.buffers.specs.Encoding.{eachWords, places, words_to, runWords, ofPhase, parityWord, placeWith, placeWords}
-use Rattle.buffers.specs.Encoding.{countWord, lowWord, high_word, placesWords, encodeTo, overwritten}
+use Rattle.buffers.specs.Encoding.{each_words, places, words_to, run_words, of_phase, parity_word, place_with, place_words}
+use Rattle.buffers.specs.Encoding.{count_word, low_word, high_word, places_words, encode_to, overwritten}
 use Rattle.buffers.proofs.Places.{words_more}
 use Rattle.buffers.proofs.Inverse.{length_to}
 use Rattle.buffers.proofs.Putting.{head-length, head-behind, put-more}
@@ -23,32 +23,32 @@ use Rattle.buffers.proofs.run_buffer.put_run.Tie as tie
 
 -- the head is written
 start : (ws vs : List ℕ) (r : Run) → vs ≡ overwritten 0 r ws → vs ≡ overwritten 0 r vs
-start ws vs r e = e ∙ ap (λ (l : List ℕ). encodeTo 0 r ++ l) (sym (head-behind ws vs r 0 e))
+start ws vs r e = e ∙ ap (λ (l : List ℕ). encode_to 0 r ++ l) (sym (head-behind ws vs r 0 e))
 
-one_more : (r : Run) (i : ℕ) → i < length r.tasks → encodeTo (i + 1) r ≡ encodeTo i r ++ placeWords (get_or r.tasks i pastEnd)
-unfolding encodeTo
+one_more : (r : Run) (i : ℕ) → i < length r.tasks → encode_to (i + 1) r ≡ encode_to i r ++ place_words (get_or r.tasks i past_end)
+unfolding encode_to
 one_more r i h =
-    ap (λ (l : List ℕ). r.rule ∷ (r.cores ∷ (countWord r.count ∷ (lowWord r.fence ∷ (high_word r.fence ∷ (r.withdrawn ∷ l))))))
-    (ap placesWords (take_more r.tasks i pastEnd h) ∙ words_more (take i r.tasks) (get_or r.tasks i pastEnd))
+    ap (λ (l : List ℕ). r.rule ∷ (r.cores ∷ (count_word r.count ∷ (low_word r.fence ∷ (high_word r.fence ∷ (r.withdrawn ∷ l))))))
+    (ap places_words (take_more r.tasks i past_end h) ∙ words_more (take i r.tasks) (get_or r.tasks i past_end))
 
 -- a place's words, by those of its parity and its phase
 whole :
-    (t : Task) {n : ℕ} {ph : PhaseWords} {behind ys : List ℕ} → ys ≡ placeWith t n ph ++ behind → n ≡ parityWord t.even → ph ≡ ofPhase t.phase
-    → ys ≡ placeWords t ++ behind
-whole t {behind = behind} e p q = e ∙ ap₂ (λ (n : ℕ) (ph : PhaseWords). placeWith t n ph ++ behind) p q
+    (t : Task) {n : ℕ} {ph : PhaseWords} {behind ys : List ℕ} → ys ≡ place_with t n ph ++ behind → n ≡ parity_word t.even → ph ≡ of_phase t.phase
+    → ys ≡ place_words t ++ behind
+whole t {behind = behind} e p q = e ∙ ap₂ (λ (n : ℕ) (ph : PhaseWords). place_with t n ph ++ behind) p q
 
 -- one place more, in a buffer that stays as long as it was
 next_place :
     (words w ys : List ℕ) (r : Run) (i : ℕ) → i < length r.tasks → length words ≡ length w → words ≡ overwritten i r w → words_to i ≤ length words
     → length (put_mid (words_to i) (length words - (words_to i)) words ys) ≡ length words
-    → ys ≡ placeWords (get_or r.tasks i pastEnd) ++ drop eachWords (take (length words - (words_to i)) (drop (words_to i) words))
+    → ys ≡ place_words (get_or r.tasks i past_end) ++ drop each_words (take (length words - (words_to i)) (drop (words_to i) words))
     → (length (put_mid (words_to i) (length words - (words_to i)) words ys) ≡ length w)
     × (put_mid (words_to i) (length words - (words_to i)) words ys ≡ overwritten (i + 1) r w)
 next_place words w ys r i l k e h m q =
-    let n : words_to i + eachWords ≡ words_to (i + 1) = omega arith in (
+    let n : words_to i + each_words ≡ words_to (i + 1) = omega arith in (
       m ∙ k,
-      put-more words (encodeTo i r) w (placeWords (get_or r.tasks i pastEnd)) ys (words_to i) eachWords e (length_to i r (omega arith)) h q
-          ∙ (ap (λ (b : List ℕ). b ++ drop (words_to i + eachWords) w) (sym (one_more r i l)) ∙ ap (λ (k : ℕ). encodeTo (i + 1) r ++ drop k w) n),
+      put-more words (encode_to i r) w (place_words (get_or r.tasks i past_end)) ys (words_to i) each_words e (length_to i r (omega arith)) h q
+          ∙ (ap (λ (b : List ℕ). b ++ drop (words_to i + each_words) w) (sym (one_more r i l)) ∙ ap (λ (k : ℕ). encode_to (i + 1) r ++ drop k w) n),
     )
 
 abbrev invariant-loop : tie.invariant-loop
@@ -85,21 +85,35 @@ head-long c =
     let entry = entry-from-put-head c in
     head-length entry.args.words.now (head_of c) entry.args.t1 c.put-head.ensures (omega (arith, entry.pre.1))
 
-long : (c : tie.At-loop invariant-loop decreases-loop) → runWords ≤ length c.loop.words
+long : (c : tie.At-loop invariant-loop decreases-loop) → run_words ≤ length c.loop.words
 long c = omega (arith, c.loop.invariant.1.0, head-long (put-head c), (entry-from-slice-known2 c.before).pre.1)
 
 put-head-requires : tie.Need-put-head-requires invariant-loop decreases-loop
 put-head-requires c κs = omega (arith, c.before.before.requires.1)
 
 loop-holds : tie.Need-loop-init invariant-loop decreases-loop
-loop-holds c = (
-  omega arith,
-  (
-    refl,
-    start (entry-from-slice-known2 c).args.words.now (head_of c.before.before) (entry-from-slice-known2 c).args.t1
-        c.before.before.put-head.ensures,
-  ),
-)
+loop-holds c = (omega arith, (refl, start (entry-from-slice-known2 c).args.words.now (head_of c.before.before) (entry-from-slice-known2 c).args.t1 c.before.before.put-head.ensures))
+
+mul-task : tie.Need-overflow-mul-task invariant-loop decreases-loop
+mul-task c = omega arith
+
+element-copy-out-task : tie.Need-element-copy-out-task invariant-loop decreases-loop
+element-copy-out-task c = omega arith
+
+mul_at : tie.Need-overflow-mul-at invariant-loop decreases-loop
+mul_at c = omega arith
+
+add_at : tie.Need-overflow-add-at invariant-loop decreases-loop
+add_at c = omega arith
+
+parity-word-requires : tie.Need-parity-word-requires invariant-loop decreases-loop
+parity-word-requires c κs = search rules
+
+of-phase-requires : tie.Need-of-phase-requires invariant-loop decreases-loop
+of-phase-requires c κs = search rules
+
+mul-put-place : tie.Need-overflow-mul-put-place invariant-loop decreases-loop
+mul-put-place c = omega arith
 
 in_reach : (c : tie.After-of-phase invariant-loop decreases-loop) → words_to (loop c).loop.i ≤ length (loop c).loop.words
 in_reach c =
@@ -113,6 +127,9 @@ sub-put-place c = in_reach c
 part-put-place-start : tie.Need-slice-bounds-put-place-start invariant-loop decreases-loop
 part-put-place-start c = in_reach c
 
+part-put-place-end : tie.Need-slice-bounds-put-place-end invariant-loop decreases-loop
+part-put-place-end c = omega arith
+
 put-place-requires : tie.Need-put-place-requires invariant-loop decreases-loop
 put-place-requires c κs =
     let s = loop c.before in
@@ -120,6 +137,12 @@ put-place-requires c κs =
     let l = (in-loop c).loop-test.true in
     let e = ap length (part_to_end words (words_to s.loop.i)) ∙ length-drop (words_to s.loop.i) words in
     omega (arith, long s, (entry-from-slice-known2 s.before).pre.0)
+
+add-i : tie.Need-overflow-add-i invariant-loop decreases-loop
+add-i c = omega arith
+
+loop-less : tie.Need-loop-smaller invariant-loop decreases-loop
+loop-less c = omega arith
 
 loop-again : tie.Need-loop-preserved invariant-loop decreases-loop
 loop-again c =
@@ -132,7 +155,7 @@ loop-again c =
     let words = s.loop.words in
     let len : length a.t1.tasks ≡ places = simp length-map at g.good.0.1.1.1.1.1.1.1.0.1.0.1 in
     let l = o.before.before.before.loop-test.true in
-    let t = get_or a.t1.tasks i pastEnd in
+    let t = get_or a.t1.tasks i past_end in
     let w = head_of (put-head s) in
     let put = whole t p.put-place.ensures o.before.parity-word.ensures o.of-phase.ensures in
     (omega arith, next_place words w _ a.t1 i (omega arith) s.loop.inv.1.0 s.loop.inv.1.1 (in_reach o) c.before.words2.given.1 put)
@@ -148,11 +171,29 @@ returns c =
     let w = head_of (put-head s) in
     s.loop.invariant.1.1
     ∙ (ap (λ (k : ℕ). overwritten k a.t1 w) e
-    ∙ ap (λ (l : List ℕ). encodeTo a.shown a.t1 ++ l) (head-behind a.words.now w a.t1 (eachWords * a.shown) (put-head s).put-head.ensures))
+    ∙ ap (λ (l : List ℕ). encode_to a.shown a.t1 ++ l) (head-behind a.words.now w a.t1 (each_words * a.shown) (put-head s).put-head.ensures))
 
 pub put-run-spec : {M : Type 1} → statement M
 put-run-spec =
-    tie.close (tie.spec invariant-loop decreases-loop put-head-requires loop-holds (λ c. omega arith) (λ c. omega arith)
-    (λ c κs. search rules) (λ c. omega arith) (λ c. omega arith) (λ c κs. search rules) (λ c. omega arith) sub-put-place
-    part-put-place-start (λ c. omega arith) put-place-requires (λ c. omega arith) (λ c. omega arith) loop-again
-    same_length returns)
+    tie.close
+    (tie.spec
+    invariant-loop
+    decreases-loop
+    put-head-requires
+    loop-holds
+    mul-task
+    element-copy-out-task
+    parity-word-requires
+    mul_at
+    add_at
+    of-phase-requires
+    mul-put-place
+    sub-put-place
+    part-put-place-start
+    part-put-place-end
+    put-place-requires
+    add-i
+    loop-less
+    loop-again
+    same_length
+    returns)

@@ -7,12 +7,18 @@ use borrow.Author.Rules.{rules}
 use Rattle.buffers.proofs.run_buffer.row_of.Statement.{statement}
 use Rattle.buffers.proofs.run_buffer.row_of.Tie as tie
 
+holds-requires : tie.Need-holds-requires
+holds-requires c κs = search rules
+
 run-in-requires : tie.Need-run-in-requires
 run-in-requires c κs =
     let h = c.before in
     let ws = h.before.before.args.words.now in
     let e = sym h.holds.ensures ∙ c.if1.true in
     (held-long ws e, held-few ws e)
+
+row-requires : tie.Need-row-requires
+row-requires c κs = search rules
 
 returns : tie.Need-returns
 returns c =
@@ -29,4 +35,4 @@ returns-2 c =
     row-none a.words.now a.empties (sym h.holds.ensures ∙ c.if1.false)
 
 pub row-of-spec : {M : Type 1} → statement M
-row-of-spec = tie.close (tie.spec (λ c κs. search rules) run-in-requires (λ c κs. search rules) returns returns-2)
+row-of-spec = tie.close (tie.spec holds-requires run-in-requires row-requires returns returns-2)

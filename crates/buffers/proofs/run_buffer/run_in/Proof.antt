@@ -10,9 +10,9 @@ use lib.Seq.{drop-drop}
 use borrow.Author.Rules.{rules}
 use Rattle.phase.specs.declared.Task.{Task}
 use Rattle.run.specs.declared.Run.{Run}
-use Rattle.phase.specs.Task.{unused, pastEnd}
+use Rattle.phase.specs.Task.{unused, past_end}
 use Rattle.run.proofs.Written.{written-more, drop-equal}
-use Rattle.buffers.specs.Encoding.{headWords, eachWords, places, place_in, placesIn, countIn, fenceIn, padded, runIn}
+use Rattle.buffers.specs.Encoding.{head_words, each_words, places, place_in, places_in, count_in, fence_in, padded, run_in}
 use Rattle.buffers.proofs.Places.{read_more, length-read}
 use Rattle.buffers.proofs.run_buffer.run_in.Statement.{statement}
 use Rattle.buffers.proofs.run_buffer.run_in.Tie as tie
@@ -21,17 +21,17 @@ use Rattle.buffers.proofs.run_buffer.run_in.Tie as tie
 abbrev made : List Task
 made = replicate places unused
 
-start : (ws : List ℕ) {ts : List Task} → ts ≡ made → ts ≡ placesIn 0 (drop headWords ws) ++ drop 0 made
-unfolding placesIn
+start : (ws : List ℕ) {ts : List Task} → ts ≡ made → ts ≡ places_in 0 (drop head_words ws) ++ drop 0 made
+unfolding places_in
 start ws e = e
 
-read : (ws : List ℕ) {ts : List Task} {f : ℕ} → f ≡ fenceIn ws → ts ≡ padded (countIn ws) (placesIn (countIn ws) (drop headWords ws))
-    → ◌≡◌ {A = Run} (record { rule = get_or ws 0 0; cores = get_or ws 1 0; fence = f; withdrawn = get_or ws 5 0; count = countIn ws; tasks = ts }) (runIn ws)
-unfolding runIn
-read ws x e = λ i. record { rule = get_or ws 0 0; cores = get_or ws 1 0; fence = x i; withdrawn = get_or ws 5 0; count = countIn ws; tasks = e i }
+read : (ws : List ℕ) {ts : List Task} {f : ℕ} → f ≡ fence_in ws → ts ≡ padded (count_in ws) (places_in (count_in ws) (drop head_words ws))
+    → ◌≡◌ {A = Run} (record { rule = get_or ws 0 0; cores = get_or ws 1 0; fence = f; withdrawn = get_or ws 5 0; count = count_in ws; tasks = ts }) (run_in ws)
+unfolding run_in
+read ws x e = λ i. record { rule = get_or ws 0 0; cores = get_or ws 1 0; fence = x i; withdrawn = get_or ws 5 0; count = count_in ws; tasks = e i }
 
 abbrev invariant-loop : tie.invariant-loop
-invariant-loop words count tasks₀ i₀ tasks i = (i ≤ count) × (tasks ≡ placesIn i (drop headWords words) ++ drop i made)
+invariant-loop words count tasks₀ i₀ tasks i = (i ≤ count) × (tasks ≡ places_in i (drop head_words words) ++ drop i made)
 
 abbrev decreases-loop : tie.decreases-loop
 decreases-loop words count tasks₀ i₀ tasks i = count - i
@@ -48,11 +48,38 @@ loop-from-fence-of c = c.before.before.before.before
 abbrev fence-of : tie.After-shared-slice-known7 invariant-loop decreases-loop → tie.After-fence-of invariant-loop decreases-loop
 fence-of c = c.before.before.before
 
+shared-slice-read-count : tie.Need-shared-slice-read-count invariant-loop decreases-loop
+shared-slice-read-count c = omega arith
+
 cast-count : tie.Need-overflow-cast-count invariant-loop decreases-loop
 cast-count c = omega (arith, c.shared-slice-known2.given 2)
 
+unused-requires : tie.Need-unused-requires invariant-loop decreases-loop
+unused-requires c κs = search rules
+
 loop-holds : tie.Need-loop-init invariant-loop decreases-loop
 loop-holds c = (omega arith, start (entry c).args.words.now (ap (replicate places) c.unused.ensures))
+
+mul-place-in : tie.Need-overflow-mul-place-in invariant-loop decreases-loop
+mul-place-in c = omega arith
+
+add-place-in : tie.Need-overflow-add-place-in invariant-loop decreases-loop
+add-place-in c = omega arith
+
+place-in-requires : tie.Need-place-in-requires invariant-loop decreases-loop
+place-in-requires c κs = search rules
+
+mul-tasks : tie.Need-overflow-mul-tasks invariant-loop decreases-loop
+mul-tasks c = omega arith
+
+array-set-from-tasks : tie.Need-array-set-from-tasks invariant-loop decreases-loop
+array-set-from-tasks c = omega arith
+
+add-i : tie.Need-overflow-add-i invariant-loop decreases-loop
+add-i c = omega arith
+
+loop-less : tie.Need-loop-smaller invariant-loop decreases-loop
+loop-less c = omega arith
 
 loop-again : tie.Need-loop-preserved invariant-loop decreases-loop
 loop-again c =
@@ -60,29 +87,64 @@ loop-again c =
     let s = c.before.before in
     let ws = (entry s.before).args.words.now in
     let i = s.loop.i in
-    let more : placesIn (i + 1) (drop headWords ws) ≡ placesIn i (drop headWords ws) ++ (p.result ∷ []) =
-    ap (λ (k : ℕ). placesIn k (drop headWords ws)) (add-one i)
-    ∙ (read_more i (drop headWords ws) ∙ ap (λ (t : Task). placesIn i (drop headWords ws) ++ (t ∷ []))
-    (ap place_in (drop-drop (eachWords * i) headWords ws) ∙ sym p.ensures)) in
-    let next = written-more (placesIn i (drop headWords ws)) made i p.result pastEnd (length-read i (drop headWords ws)) (omega arith) in
+    let more : places_in (i + 1) (drop head_words ws) ≡ places_in i (drop head_words ws) ++ (p.result ∷ []) =
+    ap (λ (k : ℕ). places_in k (drop head_words ws)) (add-one i)
+    ∙ (read_more i (drop head_words ws) ∙ ap (λ (t : Task). places_in i (drop head_words ws) ++ (t ∷ [])) (ap place_in (drop-drop (each_words * i) head_words ws) ∙ sym p.ensures)) in
+    let next = written-more (places_in i (drop head_words ws)) made i p.result past_end (length-read i (drop head_words ws)) (omega arith) in
     (omega arith, ap (λ (l : List Task). set l i p.result) s.loop.invariant.1 ∙ (next ∙ ap (λ (l : List Task). l ++ drop (i + 1) made) (sym more)))
+
+shared-slice-read-fence-of : tie.Need-shared-slice-read-fence-of invariant-loop decreases-loop
+shared-slice-read-fence-of c = omega arith
+
+shared-slice-read-fence-of-2 : tie.Need-shared-slice-read-fence-of-2 invariant-loop decreases-loop
+shared-slice-read-fence-of-2 c = omega arith
+
+fence-of-requires : tie.Need-fence-of-requires invariant-loop decreases-loop
+fence-of-requires c κs = search rules
+
+shared-slice-read-t9 : tie.Need-shared-slice-read-t9 invariant-loop decreases-loop
+shared-slice-read-t9 c = omega arith
+
+shared-slice-read-t17 : tie.Need-shared-slice-read-t17 invariant-loop decreases-loop
+shared-slice-read-t17 c = omega arith
+
+shared-slice-read-t21 : tie.Need-shared-slice-read-t21 invariant-loop decreases-loop
+shared-slice-read-t21 c = omega arith
 
 returns : tie.Need-returns invariant-loop decreases-loop
 returns c =
     let f = fence-of c in
     let s = loop-from-fence-of f in
     let ws = (entry s.before).args.words.now in
-    let n = countIn ws in
+    let n = count_in ws in
     let e : s.loop.i ≡ n = omega arith in
-    let tasks : s.loop.tasks ≡ padded n (placesIn n (drop headWords ws)) =
+    let tasks : s.loop.tasks ≡ padded n (places_in n (drop head_words ws)) =
     s.loop.inv.1
-    ∙ (ap (λ (k : ℕ). placesIn k (drop headWords ws) ++ drop k made) e
-    ∙ ap (λ (l : List Task). placesIn n (drop headWords ws) ++ l) (drop-equal places n unused)) in
+    ∙ (ap (λ (k : ℕ). places_in k (drop head_words ws) ++ drop k made) e ∙ ap (λ (l : List Task). places_in n (drop head_words ws) ++ l) (drop-equal places n unused)) in
     read ws f.fence-of.ensures tasks
 
 pub run-in-spec : {M : Type 1} → statement M
 run-in-spec =
-    tie.close (tie.spec invariant-loop decreases-loop (λ c. omega arith) cast-count (λ c κs. search rules) loop-holds
-    (λ c. omega arith) (λ c. omega arith) (λ c κs. search rules) (λ c. omega arith) (λ c. omega arith)
-    (λ c. omega arith) (λ c. omega arith) loop-again (λ c. omega arith) (λ c. omega arith) (λ c κs. search rules)
-    (λ c. omega arith) (λ c. omega arith) (λ c. omega arith) returns)
+    tie.close
+    (tie.spec
+    invariant-loop
+    decreases-loop
+    shared-slice-read-count
+    cast-count
+    unused-requires
+    loop-holds
+    mul-place-in
+    add-place-in
+    place-in-requires
+    mul-tasks
+    array-set-from-tasks
+    add-i
+    loop-less
+    loop-again
+    shared-slice-read-fence-of
+    shared-slice-read-fence-of-2
+    fence-of-requires
+    shared-slice-read-t9
+    shared-slice-read-t17
+    shared-slice-read-t21
+    returns)

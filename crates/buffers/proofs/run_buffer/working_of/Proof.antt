@@ -7,12 +7,18 @@ use borrow.Author.Rules.{rules}
 use Rattle.buffers.proofs.run_buffer.working_of.Statement.{statement}
 use Rattle.buffers.proofs.run_buffer.working_of.Tie as tie
 
+holds-requires : tie.Need-holds-requires
+holds-requires c κs = search rules
+
 run-in-requires : tie.Need-run-in-requires
 run-in-requires c κs =
     let h = c.before in
     let ws = h.before.before.args.words.now in
     let e = sym h.holds.ensures ∙ c.if1.true in
     (held-long ws e, held-few ws e)
+
+working-requires : tie.Need-working-requires
+working-requires c κs = search rules
 
 returns : tie.Need-returns
 returns c =
@@ -29,4 +35,4 @@ returns-2 c =
     working-none a.words.now a.empties (sym h.holds.ensures ∙ c.if1.false)
 
 pub working-of-spec : {M : Type 1} → statement M
-working-of-spec = tie.close (tie.spec (λ c κs. search rules) run-in-requires (λ c κs. search rules) returns returns-2)
+working-of-spec = tie.close (tie.spec holds-requires run-in-requires working-requires returns returns-2)

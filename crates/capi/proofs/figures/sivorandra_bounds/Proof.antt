@@ -5,10 +5,10 @@ use mathlib.Core.Bool.{true}
 use mathlib.Core.List.{◌++◌}
 use lib.ListN.{length, drop}
 use borrow.Author.Rules.{rules}
-use Rattle.model.specs.Sizes.{mostTasks}
+use Rattle.model.specs.Sizes.{most_tasks}
 use Rattle.interference.specs.declared.Bounds.{Bounds}
-use Rattle.buffers.specs.AnswerWords.{slicesFit, ofGiven, metWord}
-use Rattle.capi.specs.Figures.{boundsCallOf}
+use Rattle.buffers.specs.AnswerWords.{slices_fit, of_given, met_word}
+use Rattle.capi.specs.Figures.{bounds_call_of}
 use Rattle.capi.proofs.Calls.{both, words_of, answered, as-found, for-slice, for-answer}
 use Rattle.capi.proofs.figures.sivorandra_bounds.Statement.{statement}
 use Rattle.capi.proofs.figures.sivorandra_bounds.Tie as tie
@@ -18,21 +18,39 @@ abbrev entry : tie.After-fit → tie.Start
 entry c = c.before.before.before.before.before
 
 -- there is space
-space : (c : tie.Then1) → slicesFit (length (entry c.before).args.figures.now) mostTasks (entry c.before).args.answer.now ≡ true
+space : (c : tie.Then1) → slices_fit (length (entry c.before).args.figures.now) most_tasks (entry c.before).args.answer.now ≡ true
 space c = sym c.before.fit.ensures ∙ c.if1.true
+
+fit-requires : tie.Need-fit-requires
+fit-requires c κs = search rules
+
+response-bounds-requires : tie.Need-response-bounds-requires
+response-bounds-requires c κs = search rules
 
 put-figures-requires : tie.Need-put-figures-requires
 put-figures-requires c κs =
     let t = c.before.before.before.before in
-    for-slice (length (entry t.before).args.figures.now) mostTasks (entry t.before).args.answer.now (space t)
+    for-slice (length (entry t.before).args.figures.now) most_tasks (entry t.before).args.answer.now (space t)
+
+met-word-requires : tie.Need-met-word-requires
+met-word-requires c κs = search rules
+
+of-given-requires : tie.Need-of-given-requires
+of-given-requires c κs = search rules
 
 put-requires : tie.Need-put-requires
 put-requires c κs =
     let t = c.before.before.before.before.before.before.before.before.before.before in
-    for-answer (length (entry t.before).args.figures.now) mostTasks (entry t.before).args.answer.now (space t)
+    for-answer (length (entry t.before).args.figures.now) most_tasks (entry t.before).args.answer.now (space t)
+
+same_length : tie.Need-same-length
+same_length c = search rules
+
+same-length-2 : tie.Need-same-length-2
+same-length-2 c = search rules
 
 returns : tie.Need-returns
-unfolding boundsCallOf
+unfolding bounds_call_of
 returns c =
     let p = c.before.before in
     let o = p.before.before in
@@ -42,17 +60,31 @@ returns c =
     let t = m.before in
     let a = (entry t.before).args in
     both
-    (s.put-figures.ensures ∙ ap (λ (v : Bounds). v.tested.bounds ++ drop mostTasks a.figures.now) m.response-bounds.ensures.value)
+    (s.put-figures.ensures ∙ ap (λ (v : Bounds). v.tested.bounds ++ drop most_tasks a.figures.now) m.response-bounds.ensures.value)
     (words_of a.answer.now p.put.ensures (o.of-given.ensures
-    ∙ (ap (ofGiven m.response-bounds.result.answer) r.met-word.ensures
-    ∙ ap (λ (v : Bounds). ofGiven v.answer (metWord v.tested.met)) m.response-bounds.ensures.value)))
+    ∙ (ap (of_given m.response-bounds.result.answer) r.met-word.ensures
+    ∙ ap (λ (v : Bounds). of_given v.answer (met_word v.tested.met)) m.response-bounds.ensures.value)))
     ∙ answered _ _ (space t)
 
+same-length-3 : tie.Need-same-length-3
+same-length-3 c = search rules
+
 returns-2 : tie.Need-returns-2
-unfolding boundsCallOf
+unfolding bounds_call_of
 returns-2 c = as-found _ _ (sym c.before.fit.ensures ∙ c.if1.false)
 
 pub sivorandra-bounds-spec : {M : Type 1} → statement M
 sivorandra-bounds-spec =
-    tie.close (tie.spec (λ c κs. search rules) (λ c κs. search rules) put-figures-requires (λ c κs. search rules)
-    (λ c κs. search rules) put-requires (λ c. search rules) (λ c. search rules) returns (λ c. search rules) returns-2)
+    tie.close
+    (tie.spec
+    fit-requires
+    response-bounds-requires
+    put-figures-requires
+    met-word-requires
+    of-given-requires
+    put-requires
+    same_length
+    same-length-2
+    returns
+    same-length-3
+    returns-2)

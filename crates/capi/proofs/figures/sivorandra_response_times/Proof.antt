@@ -5,10 +5,10 @@ use mathlib.Core.Bool.{true}
 use mathlib.Core.List.{◌++◌}
 use lib.ListN.{length, drop}
 use borrow.Author.Rules.{rules}
-use Rattle.model.specs.Sizes.{mostTasks}
-use Rattle.table.specs.declared.FigureAnswer.{FigureAnswer}
-use Rattle.buffers.specs.AnswerWords.{slicesFit, ofGiven}
-use Rattle.capi.specs.Figures.{figuresCall}
+use Rattle.model.specs.Sizes.{most_tasks}
+use Rattle.response_time.specs.declared.ResponseTimes.{ResponseTimes}
+use Rattle.buffers.specs.AnswerWords.{slices_fit, of_given}
+use Rattle.capi.specs.Figures.{figures_call}
 use Rattle.capi.proofs.Calls.{both, words_of, answered, as-found, for-slice, for-answer}
 use Rattle.capi.proofs.figures.sivorandra_response_times.Statement.{statement}
 use Rattle.capi.proofs.figures.sivorandra_response_times.Tie as tie
@@ -18,21 +18,36 @@ abbrev entry : tie.After-fit → tie.Start
 entry c = c.before.before.before.before.before
 
 -- there is space
-space : (c : tie.Then1) → slicesFit (length (entry c.before).args.figures.now) mostTasks (entry c.before).args.answer.now ≡ true
+space : (c : tie.Then1) → slices_fit (length (entry c.before).args.figures.now) most_tasks (entry c.before).args.answer.now ≡ true
 space c = sym c.before.fit.ensures ∙ c.if1.true
+
+fit-requires : tie.Need-fit-requires
+fit-requires c κs = search rules
+
+response-times-requires : tie.Need-response-times-requires
+response-times-requires c κs = search rules
 
 put-figures-requires : tie.Need-put-figures-requires
 put-figures-requires c κs =
     let t = c.before.before.before in
-    for-slice (length (entry t.before).args.figures.now) mostTasks (entry t.before).args.answer.now (space t)
+    for-slice (length (entry t.before).args.figures.now) most_tasks (entry t.before).args.answer.now (space t)
+
+of-given-requires : tie.Need-of-given-requires
+of-given-requires c κs = search rules
 
 put-requires : tie.Need-put-requires
 put-requires c κs =
     let t = c.before.before.before.before.before.before.before.before in
-    for-answer (length (entry t.before).args.figures.now) mostTasks (entry t.before).args.answer.now (space t)
+    for-answer (length (entry t.before).args.figures.now) most_tasks (entry t.before).args.answer.now (space t)
+
+same_length : tie.Need-same-length
+same_length c = search rules
+
+same-length-2 : tie.Need-same-length-2
+same-length-2 c = search rules
 
 returns : tie.Need-returns
-unfolding figuresCall
+unfolding figures_call
 returns c =
     let p = c.before.before in
     let o = p.before.before in
@@ -41,15 +56,28 @@ returns c =
     let t = s.before in
     let a = (entry t.before).args in
     both
-    (r.put-figures.ensures ∙ ap (λ (v : FigureAnswer). v.figures ++ drop mostTasks a.figures.now) s.response-times.ensures.value)
-    (words_of a.answer.now p.put.ensures (o.of-given.ensures ∙ ap (λ (v : FigureAnswer). ofGiven v.answer 0) s.response-times.ensures.value))
+    (r.put-figures.ensures ∙ ap (λ (v : ResponseTimes). v.responses ++ drop most_tasks a.figures.now) s.response-times.ensures.value)
+    (words_of a.answer.now p.put.ensures (o.of-given.ensures ∙ ap (λ (v : ResponseTimes). of_given v.answer 0) s.response-times.ensures.value))
     ∙ answered _ _ (space t)
 
+same-length-3 : tie.Need-same-length-3
+same-length-3 c = search rules
+
 returns-2 : tie.Need-returns-2
-unfolding figuresCall
+unfolding figures_call
 returns-2 c = as-found _ _ (sym c.before.fit.ensures ∙ c.if1.false)
 
 pub sivorandra-response-times-spec : {M : Type 1} → statement M
 sivorandra-response-times-spec =
-    tie.close (tie.spec (λ c κs. search rules) (λ c κs. search rules) put-figures-requires (λ c κs. search rules)
-    put-requires (λ c. search rules) (λ c. search rules) returns (λ c. search rules) returns-2)
+    tie.close
+    (tie.spec
+    fit-requires
+    response-times-requires
+    put-figures-requires
+    of-given-requires
+    put-requires
+    same_length
+    same-length-2
+    returns
+    same-length-3
+    returns-2)

@@ -6,10 +6,10 @@ use native.Mathlib.Omega.{arith}
 use lib.ListN.{length}
 use borrow.Author.Rules.{rules}
 use Rattle.plan_check.specs.declared.Begun.{Begun}
-use Rattle.buffers.specs.AnswerWords.{slicesFit, ofGiven}
+use Rattle.buffers.specs.AnswerWords.{slices_fit, of_given}
 use Rattle.buffers.specs.Encoding.{places}
-use Rattle.buffers.specs.Supplied.{planWords, planOver}
-use Rattle.capi.specs.CheckRow.{beginCall}
+use Rattle.buffers.specs.Supplied.{plan_words, plan_over}
+use Rattle.capi.specs.CheckRow.{begin_call}
 use Rattle.capi.proofs.Calls.{both, words_of, answered, as-found, for-slice, for-answer}
 use Rattle.capi.proofs.plans.sivorandra_check_begin.Statement.{statement}
 use Rattle.capi.proofs.plans.sivorandra_check_begin.Tie as tie
@@ -19,21 +19,36 @@ abbrev entry : tie.After-fit → tie.Start
 entry c = c.before.before.before.before.before
 
 -- there is space
-space : (c : tie.Then1) → slicesFit (length (entry c.before).args.plan.now) planWords (entry c.before).args.answer.now ≡ true
+space : (c : tie.Then1) → slices_fit (length (entry c.before).args.plan.now) plan_words (entry c.before).args.answer.now ≡ true
 space c = sym c.before.fit.ensures ∙ c.if1.true
+
+fit-requires : tie.Need-fit-requires
+fit-requires c κs = search rules
+
+begin-requires : tie.Need-begin-requires
+begin-requires c κs = search rules
 
 put-plan-requires : tie.Need-put-plan-requires
 put-plan-requires c κs =
     let t = c.before.before.before in
-    (omega arith, for-slice (length (entry t.before).args.plan.now) planWords (entry t.before).args.answer.now (space t))
+    (omega arith, for-slice (length (entry t.before).args.plan.now) plan_words (entry t.before).args.answer.now (space t))
+
+of-given-requires : tie.Need-of-given-requires
+of-given-requires c κs = search rules
 
 put-requires : tie.Need-put-requires
 put-requires c κs =
     let t = c.before.before.before.before.before.before.before.before in
-    for-answer (length (entry t.before).args.plan.now) planWords (entry t.before).args.answer.now (space t)
+    for-answer (length (entry t.before).args.plan.now) plan_words (entry t.before).args.answer.now (space t)
+
+same_length : tie.Need-same-length
+same_length c = search rules
+
+same-length-2 : tie.Need-same-length-2
+same-length-2 c = search rules
 
 returns : tie.Need-returns
-unfolding beginCall
+unfolding begin_call
 returns c =
     let p = c.before.before in
     let o = p.before.before in
@@ -42,15 +57,28 @@ returns c =
     let t = s.before in
     let a = (entry t.before).args in
     both
-    (r.put-plan.ensures ∙ ap (λ (b : Begun). planOver true places b.plan a.plan.now) s.begin.ensures.value)
-    (words_of a.answer.now p.put.ensures (o.of-given.ensures ∙ ap (λ (b : Begun). ofGiven b.answer 0) s.begin.ensures.value))
+    (r.put-plan.ensures ∙ ap (λ (b : Begun). plan_over true places b.plan a.plan.now) s.begin.ensures.value)
+    (words_of a.answer.now p.put.ensures (o.of-given.ensures ∙ ap (λ (b : Begun). of_given b.answer 0) s.begin.ensures.value))
     ∙ answered _ _ (space t)
 
+same-length-3 : tie.Need-same-length-3
+same-length-3 c = search rules
+
 returns-2 : tie.Need-returns-2
-unfolding beginCall
+unfolding begin_call
 returns-2 c = as-found _ _ (sym c.before.fit.ensures ∙ c.if1.false)
 
 pub sivorandra-check-begin-spec : {M : Type 1} → statement M
 sivorandra-check-begin-spec =
-    tie.close (tie.spec (λ c κs. search rules) (λ c κs. search rules) put-plan-requires (λ c κs. search rules)
-    put-requires (λ c. search rules) (λ c. search rules) returns (λ c. search rules) returns-2)
+    tie.close
+    (tie.spec
+    fit-requires
+    begin-requires
+    put-plan-requires
+    of-given-requires
+    put-requires
+    same_length
+    same-length-2
+    returns
+    same-length-3
+    returns-2)

@@ -3,9 +3,9 @@
 use mathlib.Core.Path.{◌≡◌, sym, ap, ◌∙◌}
 use mathlib.Core.Bool.{true}
 use borrow.Author.Rules.{rules}
-use Rattle.buffers.specs.AnswerWords.{slicesFit, ofTaken}
+use Rattle.buffers.specs.AnswerWords.{slices_fit, of_taken}
 use Rattle.buffers.specs.CheckRow.{RowChecked}
-use Rattle.capi.specs.CheckRow.{checkRowCall}
+use Rattle.capi.specs.CheckRow.{check_row_call}
 use Rattle.capi.proofs.Calls.{both, words_of, answered, as-found, for-answer}
 use Rattle.capi.proofs.plans.sivorandra_check_row.Statement.{statement}
 use Rattle.capi.proofs.plans.sivorandra_check_row.Tie as tie
@@ -15,16 +15,31 @@ abbrev entry : tie.After-fit → tie.Start
 entry c = c.before.before.before.before.before
 
 -- there is space
-space : (c : tie.Then1) → slicesFit 0 0 (entry c.before).args.answer.now ≡ true
+space : (c : tie.Then1) → slices_fit 0 0 (entry c.before).args.answer.now ≡ true
 space c = sym c.before.fit.ensures ∙ c.if1.true
+
+fit-requires : tie.Need-fit-requires
+fit-requires c κs = search rules
+
+take-requires : tie.Need-take-requires
+take-requires c κs = search rules
+
+of-taken-requires : tie.Need-of-taken-requires
+of-taken-requires c κs = search rules
 
 put-requires : tie.Need-put-requires
 put-requires c κs =
     let t = c.before.before.before.before.before.before in
     for-answer 0 0 (entry t.before).args.answer.now (space t)
 
+same_length : tie.Need-same-length
+same_length c = search rules
+
+same-length-2 : tie.Need-same-length-2
+same-length-2 c = search rules
+
 returns : tie.Need-returns
-unfolding checkRowCall
+unfolding check_row_call
 returns c =
     let p = c.before.before in
     let o = p.before.before in
@@ -33,14 +48,26 @@ returns c =
     let a = (entry t.before).args in
     both
     (ap (λ (v : RowChecked). v.buffer) r.take.ensures)
-    (words_of a.answer.now p.put.ensures (o.of-taken.ensures ∙ ap (λ (v : RowChecked). ofTaken v.answer) r.take.ensures))
+    (words_of a.answer.now p.put.ensures (o.of-taken.ensures ∙ ap (λ (v : RowChecked). of_taken v.answer) r.take.ensures))
     ∙ answered _ _ (space t)
 
+same-length-3 : tie.Need-same-length-3
+same-length-3 c = search rules
+
 returns-2 : tie.Need-returns-2
-unfolding checkRowCall
+unfolding check_row_call
 returns-2 c = as-found _ _ (sym c.before.fit.ensures ∙ c.if1.false)
 
 pub sivorandra-check-row-spec : {M : Type 1} → statement M
 sivorandra-check-row-spec =
-    tie.close (tie.spec (λ c κs. search rules) (λ c κs. search rules) (λ c κs. search rules) put-requires
-    (λ c. search rules) (λ c. search rules) returns (λ c. search rules) returns-2)
+    tie.close
+    (tie.spec
+    fit-requires
+    take-requires
+    of-taken-requires
+    put-requires
+    same_length
+    same-length-2
+    returns
+    same-length-3
+    returns-2)

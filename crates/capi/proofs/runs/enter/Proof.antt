@@ -3,9 +3,9 @@
 use mathlib.Core.Path.{◌≡◌, sym, ap, ◌∙◌}
 use mathlib.Core.Bool.{true}
 use borrow.Author.Rules.{rules}
-use Rattle.buffers.specs.AnswerWords.{slicesFit, ofAnswer}
+use Rattle.buffers.specs.AnswerWords.{slices_fit, of_answer}
 use Rattle.buffers.specs.Runs.{Entered}
-use Rattle.capi.specs.Runs.{entryCall}
+use Rattle.capi.specs.Runs.{entry_call}
 use Rattle.capi.proofs.Calls.{both, words_of, answered, as-found, for-answer}
 use Rattle.capi.proofs.runs.enter.Statement.{statement}
 use Rattle.capi.proofs.runs.enter.Tie as tie
@@ -15,16 +15,31 @@ abbrev entry : tie.After-fit → tie.Start
 entry c = c.before.before.before.before
 
 -- there is space
-space : (c : tie.Then1) → slicesFit 0 0 (entry c.before).args.answer.now ≡ true
+space : (c : tie.Then1) → slices_fit 0 0 (entry c.before).args.answer.now ≡ true
 space c = sym c.before.fit.ensures ∙ c.if1.true
+
+fit-requires : tie.Need-fit-requires
+fit-requires c κs = search rules
+
+enter-requires : tie.Need-enter-requires
+enter-requires c κs = search rules
+
+of-answer-requires : tie.Need-of-answer-requires
+of-answer-requires c κs = search rules
 
 put-requires : tie.Need-put-requires
 put-requires c κs =
     let t = c.before.before.before.before.before.before in
     for-answer 0 0 (entry t.before).args.answer.now (space t)
 
+same_length : tie.Need-same-length
+same_length c = search rules
+
+same-length-2 : tie.Need-same-length-2
+same-length-2 c = search rules
+
 returns : tie.Need-returns
-unfolding entryCall
+unfolding entry_call
 returns c =
     let p = c.before.before in
     let o = p.before.before in
@@ -33,14 +48,26 @@ returns c =
     let a = (entry t.before).args in
     both
     (ap (λ (v : Entered). v.buffer) r.enter.ensures)
-    (words_of a.answer.now p.put.ensures (o.of-answer.ensures ∙ ap (λ (v : Entered). ofAnswer v.answer) r.enter.ensures))
+    (words_of a.answer.now p.put.ensures (o.of-answer.ensures ∙ ap (λ (v : Entered). of_answer v.answer) r.enter.ensures))
     ∙ answered _ _ (space t)
 
+same-length-3 : tie.Need-same-length-3
+same-length-3 c = search rules
+
 returns-2 : tie.Need-returns-2
-unfolding entryCall
+unfolding entry_call
 returns-2 c = as-found _ _ (sym c.before.fit.ensures ∙ c.if1.false)
 
 pub enter_spec : {M : Type 1} → statement M
 enter_spec =
-    tie.close (tie.spec (λ c κs. search rules) (λ c κs. search rules) (λ c κs. search rules) put-requires
-    (λ c. search rules) (λ c. search rules) returns (λ c. search rules) returns-2)
+    tie.close
+    (tie.spec
+    fit-requires
+    enter-requires
+    of-answer-requires
+    put-requires
+    same_length
+    same-length-2
+    returns
+    same-length-3
+    returns-2)

@@ -3,7 +3,7 @@
 use mathlib.Core.Path.{◌≡◌, sym, ◌∙◌}
 use mathlib.Core.Bool.{true}
 use borrow.Author.Rules.{rules}
-use Rattle.buffers.specs.AnswerWords.{answerFits}
+use Rattle.buffers.specs.AnswerWords.{answer_fits}
 use Rattle.capi.proofs.Calls.{words_of, for-answer}
 use Rattle.capi.proofs.Replaying.{replay-narrow, replay-unfit, replay-room}
 use Rattle.capi.proofs.runs.sivorandra_replay.Statement.{statement}
@@ -21,13 +21,34 @@ replayed c = c.before.before.before.before.before
 abbrev in-space : tie.After-replay → tie.Then1
 in-space c = c.before.before.before
 
-space : (c : tie.Then1) → answerFits (entry c.before).args.answer.now ≡ true
+space : (c : tie.Then1) → answer_fits (entry c.before).args.answer.now ≡ true
 space c = sym c.before.fit.ensures ∙ c.if1.true
+
+fit-requires : tie.Need-fit-requires
+fit-requires c κs = search rules
+
+replay-requires : tie.Need-replay-requires
+replay-requires c κs = search rules
+
+fitted-requires : tie.Need-fitted-requires
+fitted-requires c κs = search rules
+
+of-replayed-requires : tie.Need-of-replayed-requires
+of-replayed-requires c κs = search rules
 
 put-requires : tie.Need-put-requires
 put-requires c κs =
     let t = in-space (replayed c.before.before.before) in
     for-answer 0 0 (entry t.before).args.answer.now (space t)
+
+same_length : tie.Need-same-length
+same_length c = search rules
+
+same-length-2 : tie.Need-same-length-2
+same-length-2 c = search rules
+
+same-length-3 : tie.Need-same-length-3
+same-length-3 c = search rules
 
 returns : tie.Need-returns
 returns c =
@@ -42,13 +63,24 @@ returns c =
     (space t)
     (words_of a.answer.now p.put.ensures o.of-replayed.ensures)
 
+same-length-4 : tie.Need-same-length-4
+same-length-4 c = search rules
+
+same-length-5 : tie.Need-same-length-5
+same-length-5 c = search rules
+
+same-length-6 : tie.Need-same-length-6
+same-length-6 c = search rules
+
 returns-2 : tie.Need-returns-2
 returns-2 c =
     let f = c.before in
     let q = replayed f in
     let a = (entry (in-space q).before).args in
-    replay-unfit a.words.now a.entries.now a.numbers.now a.row.now a.answer.now _ q.replay.ensures
-    (sym f.fitted.ensures ∙ c.if2.false)
+    replay-unfit a.words.now a.entries.now a.numbers.now a.row.now a.answer.now _ q.replay.ensures (sym f.fitted.ensures ∙ c.if2.false)
+
+same-length-7 : tie.Need-same-length-7
+same-length-7 c = search rules
 
 returns-3 : tie.Need-returns-3
 returns-3 c =
@@ -57,6 +89,20 @@ returns-3 c =
 
 pub sivorandra-replay-spec : {M : Type 1} → statement M
 sivorandra-replay-spec =
-    tie.close (tie.spec (λ c κs. search rules) (λ c κs. search rules) (λ c κs. search rules) (λ c κs. search rules)
-    put-requires (λ c. search rules) (λ c. search rules) (λ c. search rules) returns (λ c. search rules)
-    (λ c. search rules) (λ c. search rules) returns-2 (λ c. search rules) returns-3)
+    tie.close
+    (tie.spec
+    fit-requires
+    replay-requires
+    fitted-requires
+    of-replayed-requires
+    put-requires
+    same_length
+    same-length-2
+    same-length-3
+    returns
+    same-length-4
+    same-length-5
+    same-length-6
+    returns-2
+    same-length-7
+    returns-3)

@@ -5,10 +5,10 @@ use mathlib.Core.Bool.{true}
 use mathlib.Core.List.{◌++◌}
 use lib.ListN.{length, drop}
 use borrow.Author.Rules.{rules}
-use Rattle.model.specs.Sizes.{mostCores}
+use Rattle.model.specs.Sizes.{most_cores}
 use Rattle.run.specs.declared.Row.{Row}
-use Rattle.buffers.specs.AnswerWords.{slicesFit, ofAnswer}
-use Rattle.capi.specs.Runs.{rowCall}
+use Rattle.buffers.specs.AnswerWords.{slices_fit, of_answer}
+use Rattle.capi.specs.Runs.{row_call}
 use Rattle.capi.proofs.Calls.{both, words_of, answered, as-found, for-slice, for-answer}
 use Rattle.capi.proofs.runs.sivorandra_row.Statement.{statement}
 use Rattle.capi.proofs.runs.sivorandra_row.Tie as tie
@@ -18,21 +18,36 @@ abbrev entry : tie.After-fit → tie.Start
 entry c = c.before.before.before.before.before
 
 -- there is space
-space : (c : tie.Then1) → slicesFit (length (entry c.before).args.row.now) mostCores (entry c.before).args.answer.now ≡ true
+space : (c : tie.Then1) → slices_fit (length (entry c.before).args.row.now) most_cores (entry c.before).args.answer.now ≡ true
 space c = sym c.before.fit.ensures ∙ c.if1.true
+
+fit-requires : tie.Need-fit-requires
+fit-requires c κs = search rules
+
+row-of-requires : tie.Need-row-of-requires
+row-of-requires c κs = search rules
 
 put-requires : tie.Need-put-requires
 put-requires c κs =
     let t = c.before.before.before in
-    for-slice (length (entry t.before).args.row.now) mostCores (entry t.before).args.answer.now (space t)
+    for-slice (length (entry t.before).args.row.now) most_cores (entry t.before).args.answer.now (space t)
+
+of-answer-requires : tie.Need-of-answer-requires
+of-answer-requires c κs = search rules
 
 put-requires-2 : tie.Need-put-requires-2
 put-requires-2 c κs =
     let t = c.before.before.before.before.before.before.before.before in
-    for-answer (length (entry t.before).args.row.now) mostCores (entry t.before).args.answer.now (space t)
+    for-answer (length (entry t.before).args.row.now) most_cores (entry t.before).args.answer.now (space t)
+
+same_length : tie.Need-same-length
+same_length c = search rules
+
+same-length-2 : tie.Need-same-length-2
+same-length-2 c = search rules
 
 returns : tie.Need-returns
-unfolding rowCall
+unfolding row_call
 returns c =
     let p = c.before.before in
     let o = p.before.before in
@@ -41,15 +56,28 @@ returns c =
     let t = s.before in
     let a = (entry t.before).args in
     both
-    (r.put.ensures ∙ ap (λ (v : Row). v.bytes ++ drop mostCores a.row.now) s.row-of.ensures)
-    (words_of a.answer.now p.put2.ensures (o.of-answer.ensures ∙ ap (λ (v : Row). ofAnswer v.answer) s.row-of.ensures))
+    (r.put.ensures ∙ ap (λ (v : Row). v.bytes ++ drop most_cores a.row.now) s.row-of.ensures)
+    (words_of a.answer.now p.put2.ensures (o.of-answer.ensures ∙ ap (λ (v : Row). of_answer v.answer) s.row-of.ensures))
     ∙ answered _ _ (space t)
 
+same-length-3 : tie.Need-same-length-3
+same-length-3 c = search rules
+
 returns-2 : tie.Need-returns-2
-unfolding rowCall
+unfolding row_call
 returns-2 c = as-found _ _ (sym c.before.fit.ensures ∙ c.if1.false)
 
 pub sivorandra-row-spec : {M : Type 1} → statement M
 sivorandra-row-spec =
-    tie.close (tie.spec (λ c κs. search rules) (λ c κs. search rules) put-requires (λ c κs. search rules) put-requires-2
-    (λ c. search rules) (λ c. search rules) returns (λ c. search rules) returns-2)
+    tie.close
+    (tie.spec
+    fit-requires
+    row-of-requires
+    put-requires
+    of-answer-requires
+    put-requires-2
+    same_length
+    same-length-2
+    returns
+    same-length-3
+    returns-2)

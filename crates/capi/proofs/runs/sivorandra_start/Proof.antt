@@ -5,10 +5,10 @@ use mathlib.Core.Bool.{true}
 use native.Mathlib.Omega.{arith}
 use lib.ListN.{length}
 use borrow.Author.Rules.{rules}
-use Rattle.run.specs.declared.RunAnswer.{RunAnswer}
-use Rattle.buffers.specs.AnswerWords.{slicesFit, ofAnswer}
-use Rattle.buffers.specs.Encoding.{places, runWords, overwritten}
-use Rattle.capi.specs.Runs.{startCall}
+use Rattle.run.specs.declared.Started.{Started}
+use Rattle.buffers.specs.AnswerWords.{slices_fit, of_answer}
+use Rattle.buffers.specs.Encoding.{places, run_words, overwritten}
+use Rattle.capi.specs.Runs.{start_call}
 use Rattle.capi.proofs.Calls.{both, words_of, answered, as-found, for-slice, for-answer}
 use Rattle.capi.proofs.runs.sivorandra_start.Statement.{statement}
 use Rattle.capi.proofs.runs.sivorandra_start.Tie as tie
@@ -18,21 +18,36 @@ abbrev entry : tie.After-fit → tie.Start
 entry c = c.before.before.before.before.before
 
 -- there is space
-space : (c : tie.Then1) → slicesFit (length (entry c.before).args.run.now) runWords (entry c.before).args.answer.now ≡ true
+space : (c : tie.Then1) → slices_fit (length (entry c.before).args.run.now) run_words (entry c.before).args.answer.now ≡ true
 space c = sym c.before.fit.ensures ∙ c.if1.true
+
+fit-requires : tie.Need-fit-requires
+fit-requires c κs = search rules
+
+start-requires : tie.Need-start-requires
+start-requires c κs = search rules
 
 put-run-requires : tie.Need-put-run-requires
 put-run-requires c κs =
     let t = c.before.before.before in
-    (omega arith, for-slice (length (entry t.before).args.run.now) runWords (entry t.before).args.answer.now (space t))
+    (omega arith, for-slice (length (entry t.before).args.run.now) run_words (entry t.before).args.answer.now (space t))
+
+of-answer-requires : tie.Need-of-answer-requires
+of-answer-requires c κs = search rules
 
 put-requires : tie.Need-put-requires
 put-requires c κs =
     let t = c.before.before.before.before.before.before.before.before in
-    for-answer (length (entry t.before).args.run.now) runWords (entry t.before).args.answer.now (space t)
+    for-answer (length (entry t.before).args.run.now) run_words (entry t.before).args.answer.now (space t)
+
+same_length : tie.Need-same-length
+same_length c = search rules
+
+same-length-2 : tie.Need-same-length-2
+same-length-2 c = search rules
 
 returns : tie.Need-returns
-unfolding startCall
+unfolding start_call
 returns c =
     let p = c.before.before in
     let o = p.before.before in
@@ -41,15 +56,28 @@ returns c =
     let t = s.before in
     let a = (entry t.before).args in
     both
-    (r.put-run.ensures ∙ ap (λ (s : RunAnswer). overwritten places s.run a.run.now) s.start.ensures.value)
-    (words_of a.answer.now p.put.ensures (o.of-answer.ensures ∙ ap (λ (s : RunAnswer). ofAnswer s.answer) s.start.ensures.value))
+    (r.put-run.ensures ∙ ap (λ (s : Started). overwritten places s.run a.run.now) s.start.ensures.value)
+    (words_of a.answer.now p.put.ensures (o.of-answer.ensures ∙ ap (λ (s : Started). of_answer s.answer) s.start.ensures.value))
     ∙ answered _ _ (space t)
 
+same-length-3 : tie.Need-same-length-3
+same-length-3 c = search rules
+
 returns-2 : tie.Need-returns-2
-unfolding startCall
+unfolding start_call
 returns-2 c = as-found _ _ (sym c.before.fit.ensures ∙ c.if1.false)
 
 pub sivorandra-start-spec : {M : Type 1} → statement M
 sivorandra-start-spec =
-    tie.close (tie.spec (λ c κs. search rules) (λ c κs. search rules) put-run-requires (λ c κs. search rules)
-    put-requires (λ c. search rules) (λ c. search rules) returns (λ c. search rules) returns-2)
+    tie.close
+    (tie.spec
+    fit-requires
+    start-requires
+    put-run-requires
+    of-answer-requires
+    put-requires
+    same_length
+    same-length-2
+    returns
+    same-length-3
+    returns-2)

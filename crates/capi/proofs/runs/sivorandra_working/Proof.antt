@@ -8,8 +8,8 @@ use native.Mathlib.Omega.{arith}
 use lib.ListN.{length, drop, set}
 use borrow.Author.Rules.{rules}
 use Rattle.run.specs.declared.WorkingPositions.{WorkingPositions}
-use Rattle.buffers.specs.AnswerWords.{slicesFit, ofAnswer}
-use Rattle.capi.specs.Runs.{workingCall}
+use Rattle.buffers.specs.AnswerWords.{slices_fit, of_answer}
+use Rattle.capi.specs.Runs.{working_call}
 use Rattle.capi.proofs.Calls.{both, words_of, answered, as-found, for-slice, for-answer}
 use Rattle.capi.proofs.runs.sivorandra_working.Statement.{statement}
 use Rattle.capi.proofs.runs.sivorandra_working.Tie as tie
@@ -24,22 +24,37 @@ abbrev entry : tie.After-fit → tie.Start
 entry c = c.before.before.before.before.before
 
 -- there is space
-space : (c : tie.Then1) → slicesFit (length (entry c.before).args.set.now) 1 (entry c.before).args.answer.now ≡ true
+space : (c : tie.Then1) → slices_fit (length (entry c.before).args.set.now) 1 (entry c.before).args.answer.now ≡ true
 space c = sym c.before.fit.ensures ∙ c.if1.true
 
 for-set : (c : tie.Then1) → 1 ≤ length (entry c.before).args.set.now
 for-set c = for-slice (length (entry c.before).args.set.now) 1 (entry c.before).args.answer.now (space c)
 
+fit-requires : tie.Need-fit-requires
+fit-requires c κs = search rules
+
+working-of-requires : tie.Need-working-of-requires
+working-of-requires c κs = search rules
+
 slice-write-set : tie.Need-slice-write-set
 slice-write-set c = for-set c.before
+
+of-answer-requires : tie.Need-of-answer-requires
+of-answer-requires c κs = search rules
 
 put-requires : tie.Need-put-requires
 put-requires c κs =
     let t = c.before.before.before in
     for-answer (length (entry t.before).args.set.now) 1 (entry t.before).args.answer.now (space t)
 
+same_length : tie.Need-same-length
+same_length c = search rules
+
+same-length-2 : tie.Need-same-length-2
+same-length-2 c = search rules
+
 returns : tie.Need-returns
-unfolding workingCall
+unfolding working_call
 returns c =
     let p = c.before.before in
     let o = p.before.before in
@@ -48,14 +63,27 @@ returns c =
     let a = (entry t.before).args in
     both
     (first-set a.set.now _ (for-set t) ∙ ap (λ (v : WorkingPositions). v.set ∷ drop 1 a.set.now) w.working-of.ensures)
-    (words_of a.answer.now p.put.ensures (o.of-answer.ensures ∙ ap (λ (v : WorkingPositions). ofAnswer v.answer) w.working-of.ensures))
+    (words_of a.answer.now p.put.ensures (o.of-answer.ensures ∙ ap (λ (v : WorkingPositions). of_answer v.answer) w.working-of.ensures))
     ∙ answered _ _ (space t)
 
+same-length-3 : tie.Need-same-length-3
+same-length-3 c = search rules
+
 returns-2 : tie.Need-returns-2
-unfolding workingCall
+unfolding working_call
 returns-2 c = as-found _ _ (sym c.before.fit.ensures ∙ c.if1.false)
 
 pub sivorandra-working-spec : {M : Type 1} → statement M
 sivorandra-working-spec =
-    tie.close (tie.spec (λ c κs. search rules) (λ c κs. search rules) slice-write-set (λ c κs. search rules)
-    put-requires (λ c. search rules) (λ c. search rules) returns (λ c. search rules) returns-2)
+    tie.close
+    (tie.spec
+    fit-requires
+    working-of-requires
+    slice-write-set
+    of-answer-requires
+    put-requires
+    same_length
+    same-length-2
+    returns
+    same-length-3
+    returns-2)

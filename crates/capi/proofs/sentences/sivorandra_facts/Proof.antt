@@ -6,10 +6,10 @@ use mathlib.Core.List.{List, ◌++◌}
 use Prim.Native.Nat.{ℕ}
 use lib.ListN.{length, drop}
 use borrow.Author.Rules.{rules}
-use Rattle.buffers.specs.Facts.{factWords}
+use Rattle.buffers.specs.Facts.{fact_words}
 use Rattle.buffers.proofs.FactWords.{found-words, found-case}
-use Rattle.buffers.specs.AnswerWords.{slicesFit}
-use Rattle.capi.specs.Sentences.{factsCall}
+use Rattle.buffers.specs.AnswerWords.{slices_fit}
+use Rattle.capi.specs.Sentences.{facts_call}
 use Rattle.capi.proofs.Calls.{both, words_of, answered, as-found, for-slice, for-answer}
 use Rattle.capi.proofs.sentences.sivorandra_facts.Statement.{statement}
 use Rattle.capi.proofs.sentences.sivorandra_facts.Tie as tie
@@ -19,21 +19,36 @@ abbrev entry : tie.After-fit → tie.Start
 entry c = c.before.before.before.before.before
 
 -- there is space
-space : (c : tie.Then1) → slicesFit (length (entry c.before).args.facts.now) factWords (entry c.before).args.answer.now ≡ true
+space : (c : tie.Then1) → slices_fit (length (entry c.before).args.facts.now) fact_words (entry c.before).args.answer.now ≡ true
 space c = sym c.before.fit.ensures ∙ c.if1.true
+
+fit-requires : tie.Need-fit-requires
+fit-requires c κs = search rules
+
+facts-of-requires : tie.Need-facts-of-requires
+facts-of-requires c κs = search rules
 
 put-facts-requires : tie.Need-put-facts-requires
 put-facts-requires c κs =
     let t = c.before.before.before in
-    for-slice (length (entry t.before).args.facts.now) factWords (entry t.before).args.answer.now (space t)
+    for-slice (length (entry t.before).args.facts.now) fact_words (entry t.before).args.answer.now (space t)
+
+of-parsed-requires : tie.Need-of-parsed-requires
+of-parsed-requires c κs = search rules
 
 put-requires : tie.Need-put-requires
 put-requires c κs =
     let t = c.before.before.before.before.before.before.before.before in
-    for-answer (length (entry t.before).args.facts.now) factWords (entry t.before).args.answer.now (space t)
+    for-answer (length (entry t.before).args.facts.now) fact_words (entry t.before).args.answer.now (space t)
+
+same_length : tie.Need-same-length
+same_length c = search rules
+
+same-length-2 : tie.Need-same-length-2
+same-length-2 c = search rules
 
 returns : tie.Need-returns
-unfolding factsCall
+unfolding facts_call
 returns c =
     let p = c.before.before in
     let o = p.before.before in
@@ -43,16 +58,28 @@ returns c =
     let a = (entry t.before).args in
     both
     (r.put-facts.ensures.0
-    ∙ ap (λ (v : List ℕ). v ++ drop factWords a.facts.now)
-    (found-words a.bytes.now s.facts-of.result s.facts-of.ensures r.put-facts.ensures.1))
+    ∙ ap (λ (v : List ℕ). v ++ drop fact_words a.facts.now) (found-words a.bytes.now s.facts-of.result s.facts-of.ensures r.put-facts.ensures.1))
     (words_of a.answer.now p.put.ensures (o.of-parsed.ensures ∙ found-case a.bytes.now s.facts-of.result s.facts-of.ensures))
     ∙ answered _ _ (space t)
 
+same-length-3 : tie.Need-same-length-3
+same-length-3 c = search rules
+
 returns-2 : tie.Need-returns-2
-unfolding factsCall
+unfolding facts_call
 returns-2 c = as-found _ _ (sym c.before.fit.ensures ∙ c.if1.false)
 
 pub sivorandra-facts-spec : {M : Type 1} → statement M
 sivorandra-facts-spec =
-    tie.close (tie.spec (λ c κs. search rules) (λ c κs. search rules) put-facts-requires (λ c κs. search rules)
-    put-requires (λ c. search rules) (λ c. search rules) returns (λ c. search rules) returns-2)
+    tie.close
+    (tie.spec
+    fit-requires
+    facts-of-requires
+    put-facts-requires
+    of-parsed-requires
+    put-requires
+    same_length
+    same-length-2
+    returns
+    same-length-3
+    returns-2)

@@ -6,19 +6,19 @@ use mathlib.Core.List.{List}
 use Prim.Native.Nat.{ℕ, ◌≤◌}
 use native.Mathlib.Omega.{arith}
 use borrow.Author.Rules.{rules}
-use Rattle.text.specs.Decimal.{digitCount, digitsWithin}
+use Rattle.text.specs.Decimal.{digit_count, digits_within}
 use Rattle.sentence.specs.declared.SentenceAnswer.{SentenceAnswer}
 use Rattle.sentence.specs.Waiting.{facts_of}
-use Rattle.sentence.specs.SentenceAnswer.{sentenceMeaning, leftIn, SentenceOf}
-use Rattle.buffers.specs.AnswerWords.{slicesFit, FitsWord, ofSentence}
-use Rattle.capi.specs.Sentences.{sentenceCall}
+use Rattle.sentence.specs.SentenceAnswer.{sentence_meaning, left_in, SentenceOf}
+use Rattle.buffers.specs.AnswerWords.{slices_fit, FitsWord, of_sentence}
+use Rattle.capi.specs.Sentences.{sentence_call}
 use Rattle.capi.proofs.Calls.{both, words_of, answered, as-found, for-answer}
 use Rattle.capi.proofs.sentences.sivorandra_sentence.Statement.{statement}
 use Rattle.capi.proofs.sentences.sivorandra_sentence.Tie as tie
 
 -- the length fits in a word
 sentence-fits : (ws old new : List ℕ) (v : SentenceAnswer) → SentenceOf ws old new v → FitsWord v
-unfolding digitCount digitsWithin
+unfolding digit_count digits_within
 sentence-fits ws old new v s n e = let l : n ≤ 700 = s.short n e in omega arith
 
 -- the state at the call
@@ -26,8 +26,14 @@ abbrev entry : tie.After-fit → tie.Start
 entry c = c.before.before.before.before.before
 
 -- there is space
-space : (c : tie.Then1) → slicesFit 0 0 (entry c.before).args.answer.now ≡ true
+space : (c : tie.Then1) → slices_fit 0 0 (entry c.before).args.answer.now ≡ true
 space c = sym c.before.fit.ensures ∙ c.if1.true
+
+fit-requires : tie.Need-fit-requires
+fit-requires c κs = search rules
+
+sentence-requires : tie.Need-sentence-requires
+sentence-requires c κs = search rules
 
 of-sentence-requires : tie.Need-of-sentence-requires
 of-sentence-requires c κs =
@@ -39,8 +45,14 @@ put-requires c κs =
     let t = c.before.before.before.before.before.before in
     for-answer 0 0 (entry t.before).args.answer.now (space t)
 
+same_length : tie.Need-same-length
+same_length c = search rules
+
+same-length-2 : tie.Need-same-length-2
+same-length-2 c = search rules
+
 returns : tie.Need-returns
-unfolding sentenceCall
+unfolding sentence_call
 returns c =
     let p = c.before.before in
     let o = p.before.before in
@@ -49,15 +61,27 @@ returns c =
     let a = (entry t.before).args in
     both
     (r.sentence.ensures.buffer
-    ∙ ap (λ (v : SentenceAnswer). leftIn (sentenceMeaning v) (facts_of a.words.now) a.buffer.now) r.sentence.ensures.value)
-    (words_of a.answer.now p.put.ensures (o.of-sentence.ensures ∙ ap ofSentence r.sentence.ensures.value))
+    ∙ ap (λ (v : SentenceAnswer). left_in (sentence_meaning v) (facts_of a.words.now) a.buffer.now) r.sentence.ensures.value)
+    (words_of a.answer.now p.put.ensures (o.of-sentence.ensures ∙ ap of_sentence r.sentence.ensures.value))
     ∙ answered _ _ (space t)
 
+same-length-3 : tie.Need-same-length-3
+same-length-3 c = search rules
+
 returns-2 : tie.Need-returns-2
-unfolding sentenceCall
+unfolding sentence_call
 returns-2 c = as-found _ _ (sym c.before.fit.ensures ∙ c.if1.false)
 
 pub sivorandra-sentence-spec : {M : Type 1} → statement M
 sivorandra-sentence-spec =
-    tie.close (tie.spec (λ c κs. search rules) (λ c κs. search rules) of-sentence-requires put-requires
-    (λ c. search rules) (λ c. search rules) returns (λ c. search rules) returns-2)
+    tie.close
+    (tie.spec
+    fit-requires
+    sentence-requires
+    of-sentence-requires
+    put-requires
+    same_length
+    same-length-2
+    returns
+    same-length-3
+    returns-2)

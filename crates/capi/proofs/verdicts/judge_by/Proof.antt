@@ -3,8 +3,8 @@
 use mathlib.Core.Path.{◌≡◌, sym, ap, ◌∙◌}
 use mathlib.Core.Bool.{true}
 use borrow.Author.Rules.{rules}
-use Rattle.buffers.specs.AnswerWords.{slicesFit, ofVerdict}
-use Rattle.capi.specs.Calls.{judgeCall}
+use Rattle.buffers.specs.AnswerWords.{slices_fit, of_verdict}
+use Rattle.capi.specs.Calls.{judge_call}
 use Rattle.capi.proofs.Calls.{one, words_of, answered, as-found, for-answer}
 use Rattle.capi.proofs.verdicts.judge_by.Statement.{statement}
 use Rattle.capi.proofs.verdicts.judge_by.Tie as tie
@@ -14,30 +14,53 @@ abbrev entry : tie.After-fit → tie.Start
 entry c = c.before.before.before.before
 
 -- there is space
-space : (c : tie.Then1) → slicesFit 0 0 (entry c.before).args.answer.now ≡ true
+space : (c : tie.Then1) → slices_fit 0 0 (entry c.before).args.answer.now ≡ true
 space c = sym c.before.fit.ensures ∙ c.if1.true
+
+fit-requires : tie.Need-fit-requires
+fit-requires c κs = search rules
+
+judge-by-requires : tie.Need-judge-by-requires
+judge-by-requires c κs = search rules
+
+of-verdict-requires : tie.Need-of-verdict-requires
+of-verdict-requires c κs = search rules
 
 put-requires : tie.Need-put-requires
 put-requires c κs =
     let t = c.before.before.before in
     for-answer 0 0 (entry t.before).args.answer.now (space t)
 
+same_length : tie.Need-same-length
+same_length c = search rules
+
 returns : tie.Need-returns
-unfolding judgeCall
+unfolding judge_call
 returns c =
     let p = c.before.before in
     let o = p.before.before in
     let r = o.before in
     let t = r.before in
     let a = (entry t.before).args in
-    one (words_of a.answer.now p.put.ensures (o.of-verdict.ensures ∙ ap ofVerdict r.judge-by.ensures.value))
+    one (words_of a.answer.now p.put.ensures (o.of-verdict.ensures ∙ ap of_verdict r.judge-by.ensures.value))
     ∙ answered _ _ (space t)
 
+same-length-2 : tie.Need-same-length-2
+same-length-2 c = search rules
+
 returns-2 : tie.Need-returns-2
-unfolding judgeCall
+unfolding judge_call
 returns-2 c = as-found _ _ (sym c.before.fit.ensures ∙ c.if1.false)
 
 pub judge-by-spec : {M : Type 1} → statement M
 judge-by-spec =
-    tie.close (tie.spec (λ c κs. search rules) (λ c κs. search rules) (λ c κs. search rules) put-requires
-    (λ c. search rules) returns (λ c. search rules) returns-2)
+    tie.close
+    (tie.spec
+    fit-requires
+    judge-by-requires
+    of-verdict-requires
+    put-requires
+    same_length
+    returns
+    same-length-2
+    returns-2)

@@ -4,8 +4,8 @@ use mathlib.Core.Path.{◌≡◌, sym, ap, ◌∙◌}
 use mathlib.Core.Bool.{true}
 use borrow.Author.Rules.{rules}
 use Rattle.conflict.specs.declared.ConflictAnswer.{ConflictAnswer}
-use Rattle.buffers.specs.AnswerWords.{slicesFit, ofGiven}
-use Rattle.capi.specs.Calls.{conflictCall}
+use Rattle.buffers.specs.AnswerWords.{slices_fit, of_given}
+use Rattle.capi.specs.Calls.{conflict_call}
 use Rattle.capi.proofs.Calls.{one, words_of, answered, as-found, for-answer}
 use Rattle.capi.proofs.verdicts.sivorandra_conflict.Statement.{statement}
 use Rattle.capi.proofs.verdicts.sivorandra_conflict.Tie as tie
@@ -15,16 +15,28 @@ abbrev entry : tie.After-fit → tie.Start
 entry c = c.before.before.before.before
 
 -- there is space
-space : (c : tie.Then1) → slicesFit 0 0 (entry c.before).args.answer.now ≡ true
+space : (c : tie.Then1) → slices_fit 0 0 (entry c.before).args.answer.now ≡ true
 space c = sym c.before.fit.ensures ∙ c.if1.true
+
+fit-requires : tie.Need-fit-requires
+fit-requires c κs = search rules
+
+conflict-requires : tie.Need-conflict-requires
+conflict-requires c κs = search rules
+
+of-given-requires : tie.Need-of-given-requires
+of-given-requires c κs = search rules
 
 put-requires : tie.Need-put-requires
 put-requires c κs =
     let t = c.before.before.before in
     for-answer 0 0 (entry t.before).args.answer.now (space t)
 
+same_length : tie.Need-same-length
+same_length c = search rules
+
 returns : tie.Need-returns
-unfolding conflictCall
+unfolding conflict_call
 returns c =
     let p = c.before.before in
     let o = p.before.before in
@@ -32,14 +44,25 @@ returns c =
     let t = r.before in
     let a = (entry t.before).args in
     one (words_of a.answer.now p.put.ensures (o.of-given.ensures
-    ∙ ap (λ (v : ConflictAnswer). ofGiven v.answer v.kept) r.conflict.ensures.value))
+    ∙ ap (λ (v : ConflictAnswer). of_given v.answer v.kept) r.conflict.ensures.value))
     ∙ answered _ _ (space t)
 
+same-length-2 : tie.Need-same-length-2
+same-length-2 c = search rules
+
 returns-2 : tie.Need-returns-2
-unfolding conflictCall
+unfolding conflict_call
 returns-2 c = as-found _ _ (sym c.before.fit.ensures ∙ c.if1.false)
 
 pub sivorandra-conflict-spec : {M : Type 1} → statement M
 sivorandra-conflict-spec =
-    tie.close (tie.spec (λ c κs. search rules) (λ c κs. search rules) (λ c κs. search rules) put-requires
-    (λ c. search rules) returns (λ c. search rules) returns-2)
+    tie.close
+    (tie.spec
+    fit-requires
+    conflict-requires
+    of-given-requires
+    put-requires
+    same_length
+    returns
+    same-length-2
+    returns-2)

@@ -7,20 +7,38 @@ use native.Mathlib.Omega.{arith}
 use lib.ListN.{drop, get_or, length, length-set, replicate, set, take, take-append-drop}
 use lib.Seq.{drop-set-lt, take-length, take-suc, take-suc-set}
 use borrow.Author.Rules.{rules}
-use Rattle.conflict.specs.Relinked.{mostWords}
+use Rattle.conflict.specs.Relinked.{most_words}
 use Rattle.conflict.proofs.Linking.{zeros-after}
 use Rattle.conflict.proofs.links.copied.Statement.{statement}
 use Rattle.conflict.proofs.links.copied.Tie as tie
 
 abbrev invariant-loop : tie.invariant-loop
 invariant-loop words copy₀ i₀ copy i =
-    (take i copy ≡ take i words) × (i ≤ length words) × (length copy ≡ mostWords) × (drop (length words) copy ≡ replicate (mostWords - length words) 0)
+    (take i copy ≡ take i words) × (i ≤ length words) × (length copy ≡ most_words) × (drop (length words) copy ≡ replicate (most_words - length words) 0)
 
 abbrev decreases-loop : tie.decreases-loop
 decreases-loop words copy₀ i₀ copy i = length words - i
 
 loop-holds : tie.Need-loop-init invariant-loop decreases-loop
-loop-holds c = (refl, omega arith, refl, zeros-after (length c.args.words.now) mostWords)
+loop-holds c = (refl, omega arith, refl, zeros-after (length c.args.words.now) most_words)
+
+mul-copy : tie.Need-overflow-mul-copy invariant-loop decreases-loop
+mul-copy c = search rules
+
+shared-slice-read-copy : tie.Need-shared-slice-read-copy invariant-loop decreases-loop
+shared-slice-read-copy c = search rules
+
+mul-copy-2 : tie.Need-overflow-mul-copy-2 invariant-loop decreases-loop
+mul-copy-2 c = search rules
+
+array-write-copy : tie.Need-array-write-copy invariant-loop decreases-loop
+array-write-copy c = search rules
+
+add-i : tie.Need-overflow-add-i invariant-loop decreases-loop
+add-i c = search rules
+
+loop-less : tie.Need-loop-smaller invariant-loop decreases-loop
+loop-less c = search rules
 
 loop-again : tie.Need-loop-preserved invariant-loop decreases-loop
 loop-again c =
@@ -45,5 +63,16 @@ returns c =
 
 pub copied-spec : {M : Type 1} → statement M
 copied-spec =
-    tie.close (tie.spec invariant-loop decreases-loop loop-holds (λ c. search rules) (λ c. search rules) (λ c. search rules)
-    (λ c. search rules) (λ c. search rules) (λ c. search rules) loop-again returns)
+    tie.close
+    (tie.spec
+    invariant-loop
+    decreases-loop
+    loop-holds
+    mul-copy
+    shared-slice-read-copy
+    mul-copy-2
+    array-write-copy
+    add-i
+    loop-less
+    loop-again
+    returns)

@@ -11,7 +11,7 @@ use borrow.Author.Tests.{eq-eqb, ne_eqb}
 use Rattle.table.proofs.HeaderPasses.{words_long}
 use Rattle.table.specs.Numbers.{one}
 use Rattle.table.specs.Words.{count, next}
-use Rattle.conflict.specs.Relinked.{mostWords, nextWordAt}
+use Rattle.conflict.specs.Relinked.{most_words, next_word_at}
 use Rattle.conflict.proofs.Linked.{words-most}
 use Rattle.conflict.proofs.Linking.{Linking, linking-dropped, linking-end, linking-few, linking-kept, linking-next, linking-room, linking-start}
 use Rattle.conflict.proofs.links.relinked.Statement.{statement}
@@ -28,11 +28,11 @@ abbrev entry : tie.At-loop invariant-loop decreases-loop → tie.Start invariant
 entry c = c.before.before.before.before
 
 -- the table has at most 229 words
-most : (c : tie.At-loop invariant-loop decreases-loop) → length (entry c).args.words.now ≤ mostWords
+most : (c : tie.At-loop invariant-loop decreases-loop) → length (entry c).args.words.now ≤ most_words
 most c = words-most (entry c).args.words.now (λ h. (entry c).requires 1 0 (one h))
 
 -- at a record its words are there
-inside : (c : tie.In-loop invariant-loop decreases-loop) → nextWordAt c.before.loop.number < length (entry c.before).args.words.now
+inside : (c : tie.In-loop invariant-loop decreases-loop) → next_word_at c.before.loop.number < length (entry c.before).args.words.now
 inside c = linking-next _ (entry c.before).pre _ _ _ _ _ c.before.loop.invariant c.loop-test.true
 
 copied-requires : tie.Need-copied-requires invariant-loop decreases-loop
@@ -91,7 +91,7 @@ loop-again c =
     let s = entry t.before in
     let ws = s.args.words.now in
     let x = s.args.kept in
-    let after = nextWordAt l.number in
+    let after = next_word_at l.number in
     let same : Linking ws x c.before.if1.copy c.before.if1.link (suc l.place) (next ws l.number) =
     ⊎_elim
     (λ w.
@@ -119,6 +119,25 @@ returns c =
 
 pub relinked-spec : {M : Type 1} → statement M
 relinked-spec =
-    tie.close (tie.spec invariant-loop decreases-loop copied-requires shared-slice-read-number loop-holds cast-next sub-next mul_next
-    add-next shr-if1 mul-copy array-write-copy mul-number shared-slice-read-number-2 add-place loop-less loop-again
-    mul-copy-2 array-write-copy-2 returns)
+    tie.close
+    (tie.spec
+    invariant-loop
+    decreases-loop
+    copied-requires
+    shared-slice-read-number
+    loop-holds
+    cast-next
+    sub-next
+    mul_next
+    add-next
+    shr-if1
+    mul-copy
+    array-write-copy
+    mul-number
+    shared-slice-read-number-2
+    add-place
+    loop-less
+    loop-again
+    mul-copy-2
+    array-write-copy-2
+    returns)

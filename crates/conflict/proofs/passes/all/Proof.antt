@@ -8,6 +8,9 @@ use Rattle.model.proofs.Digits.{shifted_one}
 use Rattle.conflict.proofs.passes.all.Statement.{statement}
 use Rattle.conflict.proofs.passes.all.Tie as tie
 
+shl-result : tie.Need-overflow-shl-result
+shl-result c = search rules
+
 sub-result : tie.Need-overflow-sub-result
 sub-result c =
     let n = c.args.count in
@@ -25,4 +28,4 @@ returns c =
     ap (λ (x : ℕ). x - 1) (shifted_one 64 n (omega (arith, c.requires)))
 
 pub all-spec : {M : Type 1} → statement M
-all-spec = tie.close (tie.spec (λ c. search rules) sub-result cast-result returns)
+all-spec = tie.close (tie.spec shl-result sub-result cast-result returns)

@@ -15,10 +15,19 @@ use Rattle.conflict.proofs.passes.dropped.Tie as tie
 one_place : (c : tie.Start) → (1 * 2 ^ c.args.place) % 2 ^ 32 ≡ 2 ^ c.args.place
 one_place c = shifted_one 32 c.args.place c.requires.1
 
+shr-if1 : tie.Need-overflow-shr-if1
+shr-if1 c = search rules
+
+shl-rest : tie.Need-overflow-shl-rest
+shl-rest c = search rules
+
 sub-rest : tie.Need-overflow-sub-rest
 sub-rest c =
     let a = c.before.before.args in
     omega (arith, one_place c.before.before, (clear-bit a.kept a.place (eq-eqb _ 1 c.if1.true)).within)
+
+still-misses-requires : tie.Need-still-misses-requires
+still-misses-requires c κs = search rules
 
 returns : tie.Need-returns
 returns c =
@@ -45,5 +54,5 @@ returns-3 c =
 
 pub dropped-spec : {M : Type 1} → statement M
 dropped-spec =
-    tie.close (tie.spec (λ c. search rules) (λ c. search rules) sub-rest (λ c κs. search rules) returns returns-2
-    returns-3)
+    tie.close
+    (tie.spec shr-if1 shl-rest sub-rest still-misses-requires returns returns-2 returns-3)

@@ -44,4 +44,5 @@ returns c =
 
 pub pass_spec : {M : Type 1} → statement M
 pass_spec =
-    tie.close (tie.spec invariant-loop decreases-loop loop-holds sub-place dropped-requires loop-less loop-again returns)
+    tie.close
+    (tie.spec invariant-loop decreases-loop loop-holds sub-place dropped-requires loop-less loop-again returns)

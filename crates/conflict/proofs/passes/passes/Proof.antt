@@ -43,6 +43,9 @@ passed c =
     let l = loaded c.before in
     c.pass.ensures ∙ ap (λ (n : ℕ). pass (table l) n c.before.loop.auto) (held l).count
 
+load-requires : tie.Need-load-requires invariant-loop decreases-loop
+load-requires c κs = search rules
+
 cast-count : tie.Need-overflow-cast-count invariant-loop decreases-loop
 cast-count c = omega (arith, (held c.before).count-from.1)
 
@@ -77,5 +80,15 @@ loop-again c =
 
 pub passes-spec : {M : Type 1} → statement M
 passes-spec =
-    tie.close (tie.spec invariant-loop decreases-loop (λ c κs. search rules) cast-count all-requires loop-holds pass-requires returns
-    loop-less loop-again)
+    tie.close
+    (tie.spec
+    invariant-loop
+    decreases-loop
+    load-requires
+    cast-count
+    all-requires
+    loop-holds
+    pass-requires
+    returns
+    loop-less
+    loop-again)

@@ -12,7 +12,7 @@ use Rattle.judge.specs.declared.Verdict.TheVariants.{Firm, Full, Miss, Refused}
 use Rattle.judge.specs.Judged.{Judged}
 use Rattle.conflict.specs.Conflict.{conflicts}
 use Rattle.conflict.specs.Relinked.{relinked}
-use Rattle.conflict.proofs.Judging.{conflicts-by, verdictMiss}
+use Rattle.conflict.proofs.Judging.{conflicts-by, verdict_miss}
 use Rattle.conflict.proofs.Relinked.{same_length}
 use Rattle.conflict.proofs.passes.still_misses.Statement.{statement}
 use Rattle.conflict.proofs.passes.still_misses.Tie as tie
@@ -30,11 +30,14 @@ front c =
     ap (take (length ws)) c.relinked.ensures ∙ take_at (relinked ws s.args.kept) _ (length ws) (same_length ws s.requires s.args.kept)
 
 -- the verdict on the words of the part
-says : (c : tie.After-judge) (u : Verdict) → c.judge.result ≡ u → verdictMiss u ≡ conflicts (table_of (call c).args.words.now) (call c).args.kept
+says : (c : tie.After-judge) (u : Verdict) → c.judge.result ≡ u → verdict_miss u ≡ conflicts (table_of (call c).args.words.now) (call c).args.kept
 says c u q =
     let v = c.judge.result in
     let j = subst (λ (us : List ℕ). Judged us v) (front c.before.before) c.judge.ensures in
-    sym (conflicts-by (call c).args.words.now (call c).requires (call c).args.kept v j ∙ ap verdictMiss q)
+    sym (conflicts-by (call c).args.words.now (call c).requires (call c).args.kept v j ∙ ap verdict_miss q)
+
+relinked-requires : tie.Need-relinked-requires
+relinked-requires c κs = search rules
 
 array-share-prefix-part : tie.Need-array-share-prefix-part
 array-share-prefix-part c =
@@ -47,6 +50,21 @@ slice-aggregate-judge : tie.Need-slice-aggregate-judge
 slice-aggregate-judge c =
     let s = c.before.before.before in
     sym (ap {B = ℕ} length (front c.before) ∙ same_length s.args.words.now s.requires s.args.kept)
+
+judge-requires : tie.Need-judge-requires
+judge-requires c κs = search rules
+
+enum_told : tie.Need-enum-told
+enum_told c = search rules
+
+enum-told-2 : tie.Need-enum-told-2
+enum-told-2 c = search rules
+
+enum-told-3 : tie.Need-enum-told-3
+enum-told-3 c = search rules
+
+enum-told-4 : tie.Need-enum-told-4
+enum-told-4 c = search rules
 
 returns : tie.Need-returns
 returns c = says c.before.before (Firm _ _) c.enum_told.given.1
@@ -62,6 +80,17 @@ returns-4 c = says c.before.before (Refused _ _) c.enum-told4.given.1
 
 pub still-misses-spec : {M : Type 1} → statement M
 still-misses-spec =
-    tie.close (tie.spec (λ c κs. search rules) array-share-prefix-part slice-aggregate-judge (λ c κs. search rules)
-    (λ c. search rules) (λ c. search rules) (λ c. search rules) (λ c. search rules) returns returns-2 returns-3
+    tie.close
+    (tie.spec
+    relinked-requires
+    array-share-prefix-part
+    slice-aggregate-judge
+    judge-requires
+    enum_told
+    enum-told-2
+    enum-told-3
+    enum-told-4
+    returns
+    returns-2
+    returns-3
     returns-4)

@@ -3,18 +3,18 @@ use borrow.Author.Rules.{rules}
 use mathlib.Core.Path.{subst}
 use Prim.Native.Nat.{ℕ, ◌-◌}
 use native.Mathlib.Omega.{arith}
-use Rattle.model.specs.Interference.{mostHalvings}
-use Rattle.table.specs.Fit.{loadedTable}
+use Rattle.model.specs.Interference.{most_halvings}
+use Rattle.table.specs.Fit.{loaded_table}
 use Rattle.interference.proofs.Finding.{Halving, halving-done, halving-met, halving-next, halving-start}
 use Rattle.interference.proofs.Sums.{place-limits}
 use Rattle.interference.proofs.search.bound_from.Statement.{statement}
 use Rattle.interference.proofs.search.bound_from.Tie as tie
 
 abbrev invariant-loop : tie.invariant-loop
-invariant-loop table ends place wanted low₀ high₀ tries₀ low high tries = Halving (loadedTable table) ends place tries low high
+invariant-loop table ends place wanted low₀ high₀ tries₀ low high tries = Halving (loaded_table table) ends place tries low high
 
 abbrev decreases-loop : tie.decreases-loop
-decreases-loop table ends place wanted low₀ high₀ tries₀ low high tries = mostHalvings - tries
+decreases-loop table ends place wanted low₀ high₀ tries₀ low high tries = most_halvings - tries
 
 -- the state at the call
 abbrev start-at : tie.At-loop invariant-loop decreases-loop → tie.Start invariant-loop decreases-loop
@@ -36,14 +36,14 @@ loop-holds : tie.Need-loop-init invariant-loop decreases-loop
 loop-holds c =
     let s = c.before.before.before in
     let lim = place-limits s.args.table s.requires.fit s.args.place s.requires.inside in
-    subst (λ (x : ℕ). Halving (loadedTable s.args.table) s.args.ends s.args.place 0 x c.first-window.result) lim.0
-    (halving-start (loadedTable s.args.table) s.args.ends s.args.place c.first-window.result c.first-window.ensures)
+    subst (λ (x : ℕ). Halving (loaded_table s.args.table) s.args.ends s.args.place 0 x c.first-window.result) lim.0
+    (halving-start (loaded_table s.args.table) s.args.ends s.args.place c.first-window.result c.first-window.ensures)
 
 returns : tie.Need-returns invariant-loop decreases-loop
 returns c =
     let l = c.before.before.loop in
     let s = start-at c.before.before in
-    halving-met (loadedTable s.args.table) s.args.ends s.args.place l.tries l.low l.high l.invariant c.if1.true
+    halving-met (loaded_table s.args.table) s.args.ends s.args.place l.tries l.low l.high l.invariant c.if1.true
 
 halve-requires : tie.Need-halve-requires invariant-loop decreases-loop
 halve-requires c κs =
@@ -64,17 +64,28 @@ loop-again c =
     let h = c.before.before.before in
     let s = start-at h in
     let l = h.loop in
-    halving-next (loadedTable s.args.table) s.args.ends s.args.place l.tries l.low l.high _ _ l.invariant (omega arith)
-    (omega (arith, c.before.if1.false))
+    halving-next (loaded_table s.args.table) s.args.ends s.args.place l.tries l.low l.high _ _ l.invariant (omega arith) (omega (arith, c.before.if1.false))
     c.halve.ensures.0 c.halve.ensures.1
 
 returns-2 : tie.Need-returns-2 invariant-loop decreases-loop
 returns-2 c =
     let l = c.before.loop in
     let s = start-at c.before in
-    halving-done (loadedTable s.args.table) s.args.ends s.args.place l.tries l.low l.high l.invariant (omega arith)
+    halving-done (loaded_table s.args.table) s.args.ends s.args.place l.tries l.low l.high l.invariant (omega arith)
 
 pub bound-from-spec : {M : Type 1} → statement M
 bound-from-spec =
-    tie.close (tie.spec invariant-loop decreases-loop mul-task array-copy-out-task first-window-requires loop-holds returns
-    halve-requires add-tries loop-less loop-again returns-2)
+    tie.close
+    (tie.spec
+    invariant-loop
+    decreases-loop
+    mul-task
+    array-copy-out-task
+    first-window-requires
+    loop-holds
+    returns
+    halve-requires
+    add-tries
+    loop-less
+    loop-again
+    returns-2)

@@ -4,21 +4,21 @@ use mathlib.Core.Path.{◌≡◌, ap, refl, sym, subst, ◌∙◌}
 use Prim.Native.Nat.{ℕ, ◌+◌, ◌-◌, ◌≤◌, ◌<◌, min}
 use native.Mathlib.Omega.{arith}
 use lib.ListN.{get_or}
-use Rattle.model.specs.Interference.{mostTries}
+use Rattle.model.specs.Interference.{most_tries}
 use Rattle.model.specs.Task.{task}
-use Rattle.table.specs.Limits.{mostTime}
-use Rattle.table.specs.Task.{noTask}
-use Rattle.table.specs.Fit.{loadedTable}
+use Rattle.table.specs.Limits.{most_time}
+use Rattle.table.specs.Task.{no_task}
+use Rattle.table.specs.Fit.{loaded_table}
 use Rattle.interference.proofs.Finding.{Trying, too_long, try-found, try-last, try-next, try-none, trying_start}
 use Rattle.interference.proofs.Sums.{place-limits}
 use Rattle.interference.proofs.search.first_window.Statement.{statement}
 use Rattle.interference.proofs.search.first_window.Tie as tie
 
 abbrev invariant-loop : tie.invariant-loop
-invariant-loop table ends place wanted length deadline window₀ tries₀ window tries = Trying (loadedTable table) ends place tries window
+invariant-loop table ends place wanted length deadline window₀ tries₀ window tries = Trying (loaded_table table) ends place tries window
 
 abbrev decreases-loop : tie.decreases-loop
-decreases-loop table ends place wanted length deadline window₀ tries₀ window tries = mostTries - tries
+decreases-loop table ends place wanted length deadline window₀ tries₀ window tries = most_tries - tries
 
 -- the state at the call
 abbrev start-in : tie.In-loop invariant-loop decreases-loop → tie.Start invariant-loop decreases-loop
@@ -27,17 +27,21 @@ start-in c = c.before.before.before.before.before
 -- the place in the table and in the tasks that code keeps
 limits :
     (c : tie.In-loop invariant-loop decreases-loop)
-    → ((task (loadedTable (start-in c).args.table) (start-in c).args.place).length
-    ≡ (get_or (start-in c).args.table.tasks (start-in c).args.place noTask).length)
-    × ((task (loadedTable (start-in c).args.table) (start-in c).args.place).deadline
-    ≡ (get_or (start-in c).args.table.tasks (start-in c).args.place noTask).deadline)
-    × ((get_or (start-in c).args.table.tasks (start-in c).args.place noTask).deadline ≤ mostTime)
-    × (1 ≤ (get_or (start-in c).args.table.tasks (start-in c).args.place noTask).length)
+    → ((task (loaded_table (start-in c).args.table) (start-in c).args.place).length ≡ (get_or (start-in c).args.table.tasks (start-in c).args.place no_task).length)
+    × ((task (loaded_table (start-in c).args.table) (start-in c).args.place).deadline ≡ (get_or (start-in c).args.table.tasks (start-in c).args.place no_task).deadline)
+    × ((get_or (start-in c).args.table.tasks (start-in c).args.place no_task).deadline ≤ most_time)
+    × (1 ≤ (get_or (start-in c).args.table.tasks (start-in c).args.place no_task).length)
 limits c = let s = start-in c in place-limits s.args.table s.pre.fit s.args.place s.pre.inside
 
 -- the next to try, as code finds it
 same_next : (window : ℕ) {D E C B : ℕ} → D ≡ E → C ≡ B → min D (window + (window + 1 - C)) ≡ min E (window + (window + 1 - B))
 same_next window d c = rw (d, c) refl
+
+mul-task : tie.Need-overflow-mul-task invariant-loop decreases-loop
+mul-task c = search rules
+
+array-copy-out-task : tie.Need-array-copy-out-task invariant-loop decreases-loop
+array-copy-out-task c = search rules
 
 add-result : tie.Need-overflow-add-result invariant-loop decreases-loop
 add-result c =
@@ -49,15 +53,14 @@ returns : tie.Need-returns invariant-loop decreases-loop
 returns c =
     let s = c.before.before.before in
     let lim = place-limits s.args.table s.requires.fit s.args.place s.requires.inside in
-    ap (λ (x : ℕ). x + 1) (sym lim.1) ∙ too_long (loadedTable s.args.table) s.args.ends s.args.place
-    (omega (arith, lim.0, lim.1, c.if1.true))
+    ap (λ (x : ℕ). x + 1) (sym lim.1) ∙ too_long (loaded_table s.args.table) s.args.ends s.args.place (omega (arith, lim.0, lim.1, c.if1.true))
 
 loop-holds : tie.Need-loop-init invariant-loop decreases-loop
 loop-holds c =
     let s = c.before.before.before in
     let lim = place-limits s.args.table s.requires.fit s.args.place s.requires.inside in
-    subst (Trying (loadedTable s.args.table) s.args.ends s.args.place 0) lim.0
-    (trying_start (loadedTable s.args.table) s.args.ends s.args.place (omega (arith, lim.0, lim.1, c.if1.false)))
+    subst (Trying (loaded_table s.args.table) s.args.ends s.args.place 0) lim.0
+    (trying_start (loaded_table s.args.table) s.args.ends s.args.place (omega (arith, lim.0, lim.1, c.if1.false)))
 
 passes-requires : tie.Need-passes-requires invariant-loop decreases-loop
 passes-requires c κs = let l = c.before.loop in ((start-in c).requires, l.invariant.long, l.invariant.short)
@@ -67,8 +70,7 @@ returns-2 c =
     let i = c.before.before in
     let s = start-in i in
     let l = i.before.loop in
-    try-found (loadedTable s.args.table) s.args.ends s.args.place l.tries l.window l.invariant (omega arith)
-    (sym c.before.passes.ensures ∙ c.if2.true)
+    try-found (loaded_table s.args.table) s.args.ends s.args.place l.tries l.window l.invariant (omega arith) (sym c.before.passes.ensures ∙ c.if2.true)
 
 add-result-2 : tie.Need-overflow-add-result-2 invariant-loop decreases-loop
 add-result-2 c =
@@ -83,8 +85,7 @@ returns-3 c =
     let l = i.before.loop in
     let lim = limits i in
     ap (λ (x : ℕ). x + 1) (sym lim.1)
-    ∙ try-last (loadedTable s.args.table) s.args.ends s.args.place l.tries l.window l.invariant (omega arith)
-    (sym e.before.passes.ensures ∙ e.if2.false)
+    ∙ try-last (loaded_table s.args.table) s.args.ends s.args.place l.tries l.window l.invariant (omega arith) (sym e.before.passes.ensures ∙ e.if2.false)
     (omega (arith, lim.1, c.if3.true))
 
 add-smaller : tie.Need-overflow-add-smaller invariant-loop decreases-loop
@@ -105,6 +106,15 @@ add-smaller-2 c =
     let lim = limits i in
     omega (arith, lim.1, lim.2, i.before.loop.invariant.short)
 
+smaller-requires : tie.Need-smaller-requires invariant-loop decreases-loop
+smaller-requires c κs = search rules
+
+add-tries : tie.Need-overflow-add-tries invariant-loop decreases-loop
+add-tries c = omega arith
+
+loop-less : tie.Need-loop-smaller invariant-loop decreases-loop
+loop-less c = omega arith
+
 loop-again : tie.Need-loop-preserved invariant-loop decreases-loop
 loop-again c =
     let g = c.before in
@@ -113,7 +123,7 @@ loop-again c =
     let s = start-in i in
     let l = i.before.loop in
     let lim = limits i in
-    try-next (loadedTable s.args.table) s.args.ends s.args.place l.tries l.window c.smaller.result l.invariant (omega arith)
+    try-next (loaded_table s.args.table) s.args.ends s.args.place l.tries l.window c.smaller.result l.invariant (omega arith)
     (sym e.before.passes.ensures ∙ e.if2.false) (omega (arith, lim.1, g.if3.false))
     (c.smaller.ensures ∙ same_next l.window (sym lim.1) (sym lim.0))
 
@@ -129,10 +139,29 @@ returns-4 c =
     let lim = place-limits s.args.table s.requires.fit s.args.place s.requires.inside in
     let l = c.before.loop in
     ap (λ (x : ℕ). x + 1) (sym lim.1)
-    ∙ try-none (loadedTable s.args.table) s.args.ends s.args.place l.tries l.window l.invariant (omega arith)
+    ∙ try-none (loaded_table s.args.table) s.args.ends s.args.place l.tries l.window l.invariant (omega arith)
 
 pub first-window-spec : {M : Type 1} → statement M
 first-window-spec =
-    tie.close (tie.spec invariant-loop decreases-loop (λ c. search rules) (λ c. search rules) add-result returns loop-holds
-    passes-requires returns-2 add-result-2 returns-3 add-smaller sub-smaller add-smaller-2 (λ c κs. search rules)
-    (λ c. omega arith) (λ c. omega arith) loop-again add-result-3 returns-4)
+    tie.close
+    (tie.spec
+    invariant-loop
+    decreases-loop
+    mul-task
+    array-copy-out-task
+    add-result
+    returns
+    loop-holds
+    passes-requires
+    returns-2
+    add-result-2
+    returns-3
+    add-smaller
+    sub-smaller
+    add-smaller-2
+    smaller-requires
+    add-tries
+    loop-less
+    loop-again
+    add-result-3
+    returns-4)

@@ -4,12 +4,18 @@ use Prim.Native.Nat.{ℕ, ◌*◌, ◌≤◌}
 use native.Mathlib.Nat.{lt_of_le_of_lt, mul-le-mul}
 use native.Mathlib.Omega.{arith}
 use lib.Dec.{lit<}
-use Rattle.table.specs.Limits.{mostTime}
-use Rattle.table.specs.Fit.{loadedTable}
+use Rattle.table.specs.Limits.{most_time}
+use Rattle.table.specs.Fit.{loaded_table}
 use Rattle.interference.proofs.Finding.{test-value}
 use Rattle.interference.proofs.Sums.{place-limits}
 use Rattle.interference.proofs.search.passes.Statement.{statement}
 use Rattle.interference.proofs.search.passes.Tie as tie
+
+mul-task : tie.Need-overflow-mul-task
+mul-task c = search rules
+
+array-copy-out-task : tie.Need-array-copy-out-task
+array-copy-out-task c = search rules
 
 add-waits : tie.Need-overflow-add-waits
 add-waits c =
@@ -30,22 +36,33 @@ interference-in-requires c κs =
     let lim = place-limits s.args.table k.fit s.args.place k.inside in
     (k.fit, omega (arith, k.inside), k.above, omega (arith, lim.1, lim.2, s.requires.2), omega (arith, lim.0, lim.1, lim.2, lim.3, s.requires.2))
 
+cast-result : tie.Need-overflow-cast-result
+cast-result c = search rules
+
 mul-result : tie.Need-overflow-mul-result
 mul-result c =
     let s = c.before.before.before.before in
     let k = s.requires.0 in
     let lim = place-limits s.args.table k.fit s.args.place k.inside in
-    record { fits = lt_of_le_of_lt (mul-le-mul {n₂ = mostTime} {m₂ = 65} (omega (arith, lim.1, lim.2, lim.3, s.requires.2)) k.few) (lit< tt) }
+    record { fits = lt_of_le_of_lt (mul-le-mul {n₂ = most_time} {m₂ = 65} (omega (arith, lim.1, lim.2, lim.3, s.requires.2)) k.few) (lit< tt) }
 
 returns : tie.Need-returns
 returns c =
     let s = c.before.before.before.before in
     let k = s.requires.0 in
     let lim = place-limits s.args.table k.fit s.args.place k.inside in
-    test-value (loadedTable s.args.table) s.args.ends s.args.place s.args.window c.interference-in.result _ s.args.wanted s.requires.2
+    test-value (loaded_table s.args.table) s.args.ends s.args.place s.args.window c.interference-in.result _ s.args.wanted s.requires.2
     (omega (arith, lim.0)) c.interference-in.ensures.0 k.needed
 
 pub passes-spec : {M : Type 1} → statement M
 passes-spec =
-    tie.close (tie.spec (λ c. search rules) (λ c. search rules) add-waits sub-waits interference-in-requires
-    (λ c. search rules) mul-result returns)
+    tie.close
+    (tie.spec
+    mul-task
+    array-copy-out-task
+    add-waits
+    sub-waits
+    interference-in-requires
+    cast-result
+    mul-result
+    returns)

@@ -4,7 +4,7 @@ use Prim.Native.Nat.{ℕ, ◌+◌, ◌-◌, ◌≤◌}
 use native.Mathlib.Nat.{lt_of_le_of_lt}
 use native.Mathlib.Omega.{arith}
 use lib.Dec.{lit<}
-use Rattle.interference.specs.Bounds.{mostInterference}
+use Rattle.interference.specs.Bounds.{most_interference}
 use Rattle.interference.proofs.Sums.{Summed, place-ready, summed-all, summed-more, summed-none}
 use Rattle.interference.proofs.workload.interference_in.Statement.{statement}
 use Rattle.interference.proofs.workload.interference_in.Tie as tie
@@ -47,12 +47,15 @@ add-sum : tie.Need-overflow-add-sum invariant-loop decreases-loop
 add-sum c =
     let h = loop-from-cores c in
     let s = h.before.before in
-    let most : h.loop.sum + c.cores-in.result ≤ mostInterference =
+    let most : h.loop.sum + c.cores-in.result ≤ most_interference =
     omega (arith, c.cores-in.ensures.1, h.loop.inv.1.most, s.pre.0.few, s.pre.1) in
     record { fits = lt_of_le_of_lt most (lit< tt) }
 
 add-i : tie.Need-overflow-add-i invariant-loop decreases-loop
 add-i c = let s = (loop-from-cores c).before.before in omega (arith, s.pre.0.few, s.pre.1)
+
+loop-less : tie.Need-loop-smaller invariant-loop decreases-loop
+loop-less c = omega arith
 
 loop-again : tie.Need-loop-preserved invariant-loop decreases-loop
 loop-again c =
@@ -75,5 +78,18 @@ returns c =
 
 pub interference-in-spec : {M : Type 1} → statement M
 interference-in-spec =
-    tie.close (tie.spec invariant-loop decreases-loop loop-holds mul-task array-copy-out-task mul-cores-in array-read-cores-in
-    cores-in-requires add-sum add-i (λ c. omega arith) loop-again returns)
+    tie.close
+    (tie.spec
+    invariant-loop
+    decreases-loop
+    loop-holds
+    mul-task
+    array-copy-out-task
+    mul-cores-in
+    array-read-cores-in
+    cores-in-requires
+    add-sum
+    add-i
+    loop-less
+    loop-again
+    returns)

@@ -1,8 +1,8 @@
 -- `judge::by_events::first_miss` meets its contract: the run begins before tick 0. Assumes nothing.
 use borrow.Author.Rules.{rules}
 use mathlib.Core.Path.{sym, subst}
-use Rattle.simulation.specs.TickState.{numbersBy}
-use Rattle.simulation.specs.EventState.{eventStateOf, StateRepresents}
+use Rattle.simulation.specs.TickState.{numbers_by}
+use Rattle.simulation.specs.EventState.{event_state_of, StateRepresents}
 use Rattle.simulation.proofs.AreEvents.{initial-represents}
 use Rattle.judge.specs.RunOn.{JumpsBegin}
 use Rattle.judge.proofs.ByJumps.{as-jumps}
@@ -18,7 +18,7 @@ columns_of c = (start-of c).before.before.before.before
 
 -- where the run begins
 begins : (c : tie.After-places2) → let x = columns_of c in let r = x.columns_of.result in let m = (start-of c).start.result in
-    JumpsBegin x.before.args.table (numbersBy r.setting r.widths r.times) (eventStateOf m.registers m.places) x.before.args.end
+    JumpsBegin x.before.args.table (numbers_by r.setting r.widths r.times) (event_state_of m.registers m.places) x.before.args.end
 begins c =
     let x = columns_of c in
     let s = x.before in
@@ -29,6 +29,12 @@ begins c =
       early = s.pre.1;
     }
 
+columns-of-requires : tie.Need-columns-of-requires
+columns-of-requires c κs = search rules
+
+start-requires : tie.Need-start-requires
+start-requires c κs = search rules
+
 run-on-requires : tie.Need-run-on-requires
 run-on-requires c κs = ((columns_of c).before.args.table, begins c)
 
@@ -38,4 +44,4 @@ returns c =
     as-jumps s.args.table s.pre.0 _ _ (c.run_on.ensures.missed s.args.table (begins c.before))
 
 pub first-miss-spec : {M : Type 1} → statement M
-first-miss-spec = tie.close (tie.spec (λ c κs. search rules) (λ c κs. search rules) run-on-requires returns)
+first-miss-spec = tie.close (tie.spec columns-of-requires start-requires run-on-requires returns)

@@ -1,5 +1,4 @@
--- `judge::by_events::run_on` meets its contract. After each jump the run represents the table's full-length run, and no deadline has been missed; along the
--- walk
+-- `judge::by_events::run_on` meets its contract. After each jump the run represents the table's full-length run, and no deadline has been missed; along the walk
 -- over the due claimants none so far has ticks left (`RemainingDue`). A due place with ticks left is the first miss; at the end nothing has been missed.
 -- Assumes nothing.
 use native.Mathlib.Nat.{eq-or-lt_of_le, le_of_suc-le-suc, not-suc-le-zero}
@@ -11,15 +10,15 @@ use Prim.Native.Nat.{ℕ, suc, ◌+◌, ◌-◌, ◌≤◌, ◌<◌}
 use lib.ListN.{get_or}
 use Rattle.model.specs.Lists.{Missed}
 use Rattle.table.specs.declared.Loaded.{Loaded}
-use Rattle.table.specs.Fit.{loadedTable}
+use Rattle.table.specs.Fit.{loaded_table}
 use Rattle.simulation.specs.Machine.{machine_of}
 use Rattle.simulation.specs.Places.{segment}
-use Rattle.simulation.specs.TickState.{Numbers, numbersBy}
-use Rattle.simulation.specs.EventState.{EventState, eventStateOf, StateRepresents}
+use Rattle.simulation.specs.TickState.{Numbers, numbers_by}
+use Rattle.simulation.specs.EventState.{EventState, event_state_of, StateRepresents}
 use Rattle.simulation.specs.Jump.{jumped, JumpStarts}
 use Rattle.simulation.proofs.Parts.{front_at}
-use Rattle.model.proofs.SetWalk.{lowest}
-use Rattle.judge.specs.RunOn.{jumpsOn, JumpsBegin}
+use Rattle.simulation.proofs.SetWalk.{lowest}
+use Rattle.judge.specs.RunOn.{jumps_on, JumpsBegin}
 use Rattle.judge.proofs.LateByEvents.{RemainingDue, walk_begins, at-lowest, walk-passes, walk-misses, walk_ends}
 use Rattle.judge.proofs.FirstMiss.{by-none, by_first}
 use Rattle.judge.proofs.by_events.run_on.Statement.{statement}
@@ -28,22 +27,22 @@ use Rattle.judge.proofs.by_events.run_on.Tie as tie
 -- k jumps, each from before tick `end`, lead from one state to another
 record JumpsTo (n : Numbers) (s : EventState) (end : ℕ) (s' : EventState) : Type 0 where
   pub count : ℕ
-  pub run : s' ≡ jumpsOn n count s
-  pub before : (i : ℕ) → i < count → (jumpsOn n i s).tick < end
+  pub run : s' ≡ jumps_on n count s
+  pub before : (i : ℕ) → i < count → (jumps_on n i s).tick < end
 
 no_jump : (n : Numbers) (s : EventState) (end : ℕ) → JumpsTo n s end s
-unfolding jumpsOn
+unfolding jumps_on
 no_jump n s end = record { count = 0; run = refl; before = λ i l. absurd (not-suc-le-zero l) }
 
 -- one jump more
 jump-more : (n : Numbers) (s : EventState) (end : ℕ) (x y : EventState) → JumpsTo n s end x → x.tick < end → y ≡ jumped n x → JumpsTo n s end y
-unfolding jumpsOn
+unfolding jumps_on
 jump-more n s end x y h l e = record {
   count = suc h.count;
   run = e ∙ ap (jumped n) h.run;
   before = λ i b.
       ⊎_elim
-      (λ (q : i ≡ h.count). subst (λ (j : ℕ). (jumpsOn n j s).tick < end) (sym q) (subst (λ (z : EventState). z.tick < end) h.run l))
+      (λ (q : i ≡ h.count). subst (λ (j : ℕ). (jumps_on n j s).tick < end) (sym q) (subst (λ (z : EventState). z.tick < end) h.run l))
       (λ (q : i < h.count). h.before i q)
       (eq-or-lt_of_le (le_of_suc-le-suc b));
 }
@@ -57,9 +56,9 @@ decreases-loop setting widths times places end registers rest₀ rest = rest
 -- some jumps were taken, and of every table whose run begins so
 abbrev invariant-jumps : tie.invariant-jumps
 invariant-jumps setting widths times places₀ end registers₀ places registers =
-    let n = numbersBy setting widths times in
-    let s = eventStateOf registers₀ places₀ in
-    JumpsTo n s end (eventStateOf registers places) × ((t : Loaded) → JumpsBegin t n s end → StateRepresents t (eventStateOf registers places))
+    let n = numbers_by setting widths times in
+    let s = event_state_of registers₀ places₀ in
+    JumpsTo n s end (event_state_of registers places) × ((t : Loaded) → JumpsBegin t n s end → StateRepresents t (event_state_of registers places))
 
 abbrev decreases-jumps : tie.decreases-jumps
 decreases-jumps setting widths times places₀ end registers₀ places registers = end - registers.tick
@@ -81,13 +80,13 @@ at-jumps-from-loop c = c.before.before.before.before
 
 -- THE PLACES. The table's numbers, and the run where it begins and at an event
 abbrev nums : tie.Start invariant-loop decreases-loop invariant-jumps decreases-jumps → Numbers
-nums s = numbersBy s.args.setting s.args.widths.now s.args.times.now
+nums s = numbers_by s.args.setting s.args.widths.now s.args.times.now
 
 abbrev first-state : tie.Start invariant-loop decreases-loop invariant-jumps decreases-jumps → EventState
-first-state s = eventStateOf s.args.start s.args.places.now
+first-state s = event_state_of s.args.start s.args.places.now
 
 abbrev state-of : tie.At-jumps invariant-loop decreases-loop invariant-jumps decreases-jumps → EventState
-state-of k = eventStateOf k.jumps.registers k.jumps.places
+state-of k = event_state_of k.jumps.registers k.jumps.places
 
 -- it is the run of table t
 abbrev Of : tie.Start invariant-loop decreases-loop invariant-jumps decreases-jumps → Loaded → Type 0
@@ -97,9 +96,7 @@ Of s t = JumpsBegin t (nums s) (first-state s) s.args.end
 inside : (c : tie.In-loop invariant-loop decreases-loop invariant-jumps decreases-jumps) → lowest c.before.loop.rest < 32
 inside c = (at-lowest _ _ c.before.loop.rest c.before.loop.invariant c.loop-test.true).below
 
-left_at :
-    (c : tie.In-loop invariant-loop decreases-loop invariant-jumps decreases-jumps) (xs : List ℕ)
-    → get_or (segment 0 xs) (lowest c.before.loop.rest) 0 ≡ get_or xs (lowest c.before.loop.rest) 0
+left_at : (c : tie.In-loop invariant-loop decreases-loop invariant-jumps decreases-jumps) (xs : List ℕ) → get_or (segment 0 xs) (lowest c.before.loop.rest) 0 ≡ get_or xs (lowest c.before.loop.rest) 0
 left_at c xs = front_at xs (lowest c.before.loop.rest) (inside c)
 
 -- where the walk has ended no deadline of the tick is missed, so a jump may begin
@@ -125,6 +122,21 @@ loop-holds c =
     let k = c.before.before.before in
     let s = k.before in
     walk_begins s.requires.0 s.requires.1.fit (state-of k) (k.jumps.invariant.1 s.requires.0 s.requires.1)
+
+cast-if2 : tie.Need-overflow-cast-if2 invariant-loop decreases-loop invariant-jumps decreases-jumps
+cast-if2 c = omega (arith, inside c)
+
+mul-if2 : tie.Need-overflow-mul-if2 invariant-loop decreases-loop invariant-jumps decreases-jumps
+mul-if2 c = omega (arith, inside c)
+
+element-copy-out-if2 : tie.Need-element-copy-out-if2 invariant-loop decreases-loop invariant-jumps decreases-jumps
+element-copy-out-if2 c = omega (arith, inside c)
+
+add-t19 : tie.Need-overflow-add-t19 invariant-loop decreases-loop invariant-jumps decreases-jumps
+add-t19 c = omega (arith, inside (in-loop c))
+
+sub-rest : tie.Need-overflow-sub-rest invariant-loop decreases-loop invariant-jumps decreases-jumps
+sub-rest c = omega (arith, c.before.before.loop-test.true)
 
 loop-less : tie.Need-loop-smaller invariant-loop decreases-loop invariant-jumps decreases-jumps
 loop-less c = let n = c.before.before in (at-lowest _ _ n.before.loop.rest n.before.loop.invariant n.loop-test.true).falls
@@ -165,8 +177,7 @@ returns c =
       run = h.run;
       before = h.before;
       stops = c.if1.true;
-      represents = k.jumps.invariant.1;
-      missed = λ t b. by-none (loadedTable t) b.fit.valid _ (λ q u l. (k.jumps.invariant.1 t b).met q u (omega (arith, c.if1.true)));
+      missed = λ t b. by-none (loaded_table t) b.fit.valid _ (λ q u l. (k.jumps.invariant.1 t b).met q u (omega (arith, c.if1.true)));
     }
 
 returns-2 : tie.Need-returns-2 invariant-loop decreases-loop invariant-jumps decreases-jumps
@@ -180,16 +191,31 @@ returns-2 c =
       run = h.run;
       before = h.before;
       stops = refl;
-      represents = k.jumps.inv.1;
       missed = λ t b.
-          by_first (loadedTable t) b.fit.valid _ k.jumps.registers.tick (lowest n.before.loop.rest + 1) e.if1.left
+          by_first (loaded_table t) b.fit.valid _ k.jumps.registers.tick (lowest n.before.loop.rest + 1) e.if1.left
           (walk-misses t b.fit (state-of k) (k.jumps.inv.1 t b) n.before.loop.rest n.before.loop.inv n.loop-test.taken
           (omega (arith, left_at n k.jumps.places, c.if2.true)));
     }
 
 pub run-on-spec : {M : Type 1} → statement M
 run-on-spec =
-    tie.close (tie.spec invariant-loop decreases-loop invariant-jumps decreases-jumps jumps-holds loop-holds (λ c. omega (arith, inside c))
-    (λ c. omega (arith, inside c)) (λ c. omega (arith, inside c)) (λ c. omega (arith, inside (in-loop c)))
-    (λ c. omega (arith, c.before.before.loop-test.true)) loop-less loop-again jump-requires jumps-less
-    jumps-again returns returns-2)
+    tie.close
+    (tie.spec
+    invariant-loop
+    decreases-loop
+    invariant-jumps
+    decreases-jumps
+    jumps-holds
+    loop-holds
+    cast-if2
+    mul-if2
+    element-copy-out-if2
+    add-t19
+    sub-rest
+    loop-less
+    loop-again
+    jump-requires
+    jumps-less
+    jumps-again
+    returns
+    returns-2)

@@ -2,7 +2,7 @@
 use borrow.Author.Rules.{rules}
 use native.Mathlib.Omega.{arith}
 use mathlib.Core.Path.{◌≡◌, sym, ap, subst}
-use Rattle.simulation.specs.TickState.{numbersBy, TickState, tickStateOf}
+use Rattle.simulation.specs.TickState.{numbers_by, TickState, tick_state_of}
 use Rattle.simulation.proofs.RefinesTick.{RefinesTick, refines-start}
 use Rattle.judge.specs.RunOn.{TicksBegin}
 use Rattle.judge.proofs.by_ticks.first_miss.Statement.{statement}
@@ -17,7 +17,7 @@ columns_of c = (start-of c).before.before.before.before
 
 -- where the run begins
 begins : (c : tie.After-places2) → let x = columns_of c in let r = x.columns_of.result in let m = (start-of c).start.result in
-    TicksBegin x.before.args.table (numbersBy r.setting r.widths r.times) (tickStateOf m.registers m.places) x.before.args.end
+    TicksBegin x.before.args.table (numbers_by r.setting r.widths r.times) (tick_state_of m.registers m.places) x.before.args.end
 begins c =
     let x = columns_of c in
     let s = x.before in
@@ -31,6 +31,12 @@ begins c =
       early = s.pre.1;
     }
 
+columns-of-requires : tie.Need-columns-of-requires
+columns-of-requires c κs = search rules
+
+start-requires : tie.Need-start-requires
+start-requires c κs = search rules
+
 run-on-requires : tie.Need-run-on-requires
 run-on-requires c κs = ((columns_of c).before.args.table, begins c)
 
@@ -38,4 +44,4 @@ returns : tie.Need-returns
 returns c = c.run_on.ensures.missed (columns_of c.before).before.args.table (begins c.before)
 
 pub first-miss-spec : {M : Type 1} → statement M
-first-miss-spec = tie.close (tie.spec (λ c κs. search rules) (λ c κs. search rules) run-on-requires returns)
+first-miss-spec = tie.close (tie.spec columns-of-requires start-requires run-on-requires returns)

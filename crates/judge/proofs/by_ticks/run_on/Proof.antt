@@ -1,6 +1,5 @@
 -- `judge::by_ticks::run_on` meets its contract. Before each tick the run represents the table's full-length run, and no deadline has been missed
--- (`RefinesTick`); along the walk over the claimants none so far is at its event (`RemainingClaimants`). A claimant that is at its event is the first miss; at
--- the end
+-- (`RefinesTick`); along the walk over the claimants none so far is at its event (`RemainingClaimants`). A claimant that is at its event is the first miss; at the end
 -- nothing has been missed. Assumes nothing.
 use native.Mathlib.Omega.{arith}
 use mathlib.Core.Path.{◌≡◌, sym, ap, ◌∙◌, refl, subst}
@@ -9,18 +8,17 @@ use mathlib.Core.List.{List}
 use Prim.Native.Nat.{ℕ, suc, ◌+◌, ◌-◌, ◌≤◌, ◌<◌}
 use lib.ListN.{get_or}
 use Rattle.model.specs.Lists.{Missed}
-use Rattle.model.specs.Sizes.{mostTasks}
-use Rattle.model.proofs.SetWalk.{lowest}
+use Rattle.model.specs.Sizes.{most_tasks}
 use Rattle.table.specs.declared.Loaded.{Loaded}
-use Rattle.table.specs.Fit.{loadedTable}
+use Rattle.table.specs.Fit.{loaded_table}
 use Rattle.simulation.specs.Machine.{machine_of}
 use Rattle.simulation.specs.Places.{segment, second}
-use Rattle.simulation.specs.TickState.{Numbers, numbersBy, TickState, tickStateOf, Steppable, nextTickState}
+use Rattle.simulation.specs.TickState.{Numbers, numbers_by, TickState, tick_state_of, Steppable, next_tick_state}
 use Rattle.simulation.proofs.Parts.{part_at}
 use Rattle.simulation.proofs.Steps.{tick-on}
 use Rattle.simulation.proofs.RefinesTick.{RefinesTick, steppable, refines_on}
-use Rattle.judge.specs.RunOn.{ticksOn, TicksBegin}
-use Rattle.judge.proofs.LateByTicks.{RemainingClaimants, walk_begins, at_first, walk-passes, walk-misses, walk_ends, walk-skips}
+use Rattle.judge.specs.RunOn.{ticks_on, TicksBegin}
+use Rattle.judge.proofs.LateByTicks.{first, RemainingClaimants, walk_begins, at_first, walk-passes, walk-misses, walk_ends, walk-skips}
 use Rattle.judge.proofs.FirstMiss.{by-none, by_first}
 use Rattle.judge.proofs.by_ticks.run_on.Statement.{statement}
 use Rattle.judge.proofs.by_ticks.run_on.Tie as tie
@@ -34,18 +32,18 @@ decreases-loop setting widths times places end registers rest₀ rest = rest
 -- so many ticks were taken, and of every table whose run begins so
 abbrev invariant-ticks : tie.invariant-ticks
 invariant-ticks setting widths times places₀ end registers₀ places registers =
-    let n = numbersBy setting widths times in
-    let s = tickStateOf registers₀ places₀ in
-    (tickStateOf registers places ≡ ticksOn n (registers.tick - registers₀.tick) s) × (registers₀.tick ≤ registers.tick)
-    × ((t : Loaded) → TicksBegin t n s end → RefinesTick t (tickStateOf registers places) × (registers.tick ≤ end))
+    let n = numbers_by setting widths times in
+    let s = tick_state_of registers₀ places₀ in
+    (tick_state_of registers places ≡ ticks_on n (registers.tick - registers₀.tick) s) × (registers₀.tick ≤ registers.tick)
+    × ((t : Loaded) → TicksBegin t n s end → RefinesTick t (tick_state_of registers places) × (registers.tick ≤ end))
 
 abbrev decreases-ticks : tie.decreases-ticks
 decreases-ticks setting widths times places₀ end registers₀ places registers = end - registers.tick
 
 -- one tick more
-ticks-more : (n : Numbers) (s x y : TickState) (k j : ℕ) → x ≡ ticksOn n k s → y ≡ nextTickState n x → j ≡ suc k → y ≡ ticksOn n j s
-unfolding ticksOn
-ticks-more n s x y k j e f g = f ∙ (ap (nextTickState n) e ∙ ap (λ (i : ℕ). ticksOn n i s) (sym g))
+ticks-more : (n : Numbers) (s x y : TickState) (k j : ℕ) → x ≡ ticks_on n k s → y ≡ next_tick_state n x → j ≡ suc k → y ≡ ticks_on n j s
+unfolding ticks_on
+ticks-more n s x y k j e f g = f ∙ (ap (next_tick_state n) e ∙ ap (λ (i : ℕ). ticks_on n i s) (sym g))
 
 -- the state at the head of the loop
 abbrev loop : tie.Else3 invariant-loop decreases-loop invariant-ticks decreases-ticks → tie.At-loop invariant-loop decreases-loop invariant-ticks decreases-ticks
@@ -68,13 +66,13 @@ else1 c = c.before.before.before.before
 
 -- THE PLACES. The table's numbers, and the run where it begins and before a tick
 abbrev nums : tie.Start invariant-loop decreases-loop invariant-ticks decreases-ticks → Numbers
-nums s = numbersBy s.args.setting s.args.widths.now s.args.times.now
+nums s = numbers_by s.args.setting s.args.widths.now s.args.times.now
 
 abbrev first-state : tie.Start invariant-loop decreases-loop invariant-ticks decreases-ticks → TickState
-first-state s = tickStateOf s.args.start s.args.places.now
+first-state s = tick_state_of s.args.start s.args.places.now
 
 abbrev state-of : tie.At-ticks invariant-loop decreases-loop invariant-ticks decreases-ticks → TickState
-state-of k = tickStateOf k.ticks.registers k.ticks.places
+state-of k = tick_state_of k.ticks.registers k.ticks.places
 
 -- it is the run of table t
 abbrev Of : tie.Start invariant-loop decreases-loop invariant-ticks decreases-ticks → Loaded → Type 0
@@ -93,18 +91,14 @@ small : (e : tie.Else1 invariant-loop decreases-loop invariant-ticks decreases-t
 small e = let b = e.before.before.before.requires.1 in omega (arith, early e, b.early, b.fit.limit)
 
 -- in the walk: the first claimant that is left is one of 32 places
-inside : (c : tie.In-loop invariant-loop decreases-loop invariant-ticks decreases-ticks) → lowest c.before.loop.rest < mostTasks
-inside c = (at_first _ _ c.before.loop.rest c.before.loop.invariant c.loop-test.true).below
+inside : (c : tie.In-loop invariant-loop decreases-loop invariant-ticks decreases-ticks) → first c.before.loop.rest < most_tasks
+inside c = (at_first _ _ c.before.loop.rest c.before.loop.invariant c.loop-test.true).place
 
-event :
-    (c : tie.In-loop invariant-loop decreases-loop invariant-ticks decreases-ticks) (xs : List ℕ)
-    → get_or (segment second xs) (lowest c.before.loop.rest) 0 ≡ get_or xs (mostTasks + lowest c.before.loop.rest) 0
-event c xs = part_at mostTasks xs (lowest c.before.loop.rest) (inside c)
+event : (c : tie.In-loop invariant-loop decreases-loop invariant-ticks decreases-ticks) (xs : List ℕ) → get_or (segment second xs) (first c.before.loop.rest) 0 ≡ get_or xs (most_tasks + first c.before.loop.rest) 0
+event c xs = part_at most_tasks xs (first c.before.loop.rest) (inside c)
 
 -- where the walk has ended or was not needed no deadline of the tick is missed
-met :
-    (c : tie.Joined2 invariant-loop decreases-loop invariant-ticks decreases-ticks) (t : Loaded) → Of (at-ticks-from-joined2 c).before t → (q : ℕ)
-    → ¬ Missed (loadedTable t) q (at-ticks-from-joined2 c).ticks.registers.tick
+met : (c : tie.Joined2 invariant-loop decreases-loop invariant-ticks decreases-ticks) (t : Loaded) → Of (at-ticks-from-joined2 c).before t → (q : ℕ) → ¬ Missed (loaded_table t) q (at-ticks-from-joined2 c).ticks.registers.tick
 met c t b =
     let k = at-ticks-from-joined2 c in
     ⊎_elim
@@ -114,17 +108,35 @@ met c t b =
 
 -- THE ANSWERS
 ticks-holds : tie.Need-ticks-init invariant-loop decreases-loop invariant-ticks decreases-ticks
-unfolding ticksOn
+unfolding ticks_on
 ticks-holds c =
     let s = first-state c in
     let z : s.tick - s.tick ≡ 0 = omega arith in
-    (ap (λ (k : ℕ). ticksOn (nums c) k s) (sym z), omega arith, λ t b. (b.refines, b.within))
+    (ap (λ (k : ℕ). ticks_on (nums c) k s) (sym z), omega arith, λ t b. (b.refines, b.within))
 
 loop-holds : tie.Need-loop-init invariant-loop decreases-loop invariant-ticks decreases-ticks
 loop-holds c =
     let k = at-ticks-from-then2 c in
     let s = k.before in
     walk_begins (machine_of k.ticks.places k.ticks.registers.claiming) k.ticks.registers.tick (follows k s.pre.0 s.pre.1).small
+
+cast-at : tie.Need-overflow-cast-at invariant-loop decreases-loop invariant-ticks decreases-ticks
+cast-at c = omega (arith, inside c)
+
+add-if3 : tie.Need-overflow-add-if3 invariant-loop decreases-loop invariant-ticks decreases-ticks
+add-if3 c = omega (arith, inside c)
+
+mul-if3 : tie.Need-overflow-mul-if3 invariant-loop decreases-loop invariant-ticks decreases-ticks
+mul-if3 c = omega (arith, inside c)
+
+element-copy-out-if3 : tie.Need-element-copy-out-if3 invariant-loop decreases-loop invariant-ticks decreases-ticks
+element-copy-out-if3 c = omega (arith, inside c)
+
+add-t20 : tie.Need-overflow-add-t20 invariant-loop decreases-loop invariant-ticks decreases-ticks
+add-t20 c = omega (arith, inside (in-loop c))
+
+sub-rest : tie.Need-overflow-sub-rest invariant-loop decreases-loop invariant-ticks decreases-ticks
+sub-rest c = omega (arith, c.before.before.before.loop-test.true)
 
 loop-less : tie.Need-loop-smaller invariant-loop decreases-loop invariant-ticks decreases-ticks
 loop-less c = (at_first _ _ (loop c).loop.rest (loop c).loop.invariant c.before.before.before.loop-test.true).falls
@@ -154,11 +166,10 @@ ticks-again c =
     let s = k.before in
     let on = tick-on _ _ _ c.step.ensures in
     let risen = k.ticks.inv.1 in (
-      ticks-more (nums s) (first-state s) (state-of k) _ (k.ticks.registers.tick - s.args.start.tick) _ k.ticks.inv.0 c.step.ensures
-          (omega arith),
+      ticks-more (nums s) (first-state s) (state-of k) _ (k.ticks.registers.tick - s.args.start.tick) _ k.ticks.inv.0 c.step.ensures (omega arith),
       omega arith,
       λ t b. (
-        refines_on t b.fit (state-of k) (follows k t b) (met j t b) _ (c.step.ensures ∙ ap (λ (n : Numbers). nextTickState n (state-of k)) b.numbers),
+        refines_on t b.fit (state-of k) (follows k t b) (met j t b) _ (c.step.ensures ∙ ap (λ (n : Numbers). next_tick_state n (state-of k)) b.numbers),
         omega (arith, on, early j.before.before),
       ),
     )
@@ -168,8 +179,8 @@ returns c =
     let k = c.before.before in
     let s = k.before in
     record {
-      run = k.ticks.invariant.0 ∙ ap (λ (u : ℕ). ticksOn (nums s) (u - s.args.start.tick) (first-state s)) c.if1.true;
-      missed = λ t b. by-none (loadedTable t) b.fit.valid _ (λ q u h. (follows k t b).before.met q u (omega (arith, c.if1.true)));
+      run = k.ticks.invariant.0 ∙ ap (λ (u : ℕ). ticks_on (nums s) (u - s.args.start.tick) (first-state s)) c.if1.true;
+      missed = λ t b. by-none (loaded_table t) b.fit.valid _ (λ q u h. (follows k t b).before.met q u (omega (arith, c.if1.true)));
     }
 
 returns-2 : tie.Need-returns-2 invariant-loop decreases-loop invariant-ticks decreases-ticks
@@ -179,14 +190,31 @@ returns-2 c =
     record {
       run = k.ticks.inv.0;
       missed = λ t b.
-          by_first (loadedTable t) b.fit.valid _ k.ticks.registers.tick (lowest n.before.loop.rest + 1) (early (else1 n))
+          by_first (loaded_table t) b.fit.valid _ k.ticks.registers.tick (first n.before.loop.rest + 1) (early (else1 n))
           (walk-misses t b.fit (state-of k) (follows k t b) n.before.loop.rest n.before.loop.inv n.loop-test.taken
           (event n k.ticks.places ∙ c.if3.true));
     }
 
 pub run-on-spec : {M : Type 1} → statement M
 run-on-spec =
-    tie.close (tie.spec invariant-loop decreases-loop invariant-ticks decreases-ticks ticks-holds loop-holds (λ c. omega (arith, inside c))
-    (λ c. omega (arith, inside c)) (λ c. omega (arith, inside c)) (λ c. omega (arith, inside c))
-    (λ c. omega (arith, inside (in-loop c))) (λ c. omega (arith, c.before.before.before.loop-test.true))
-    loop-less loop-again step-requires ticks-less ticks-again returns returns-2)
+    tie.close
+    (tie.spec
+    invariant-loop
+    decreases-loop
+    invariant-ticks
+    decreases-ticks
+    ticks-holds
+    loop-holds
+    cast-at
+    add-if3
+    mul-if3
+    element-copy-out-if3
+    add-t20
+    sub-rest
+    loop-less
+    loop-again
+    step-requires
+    ticks-less
+    ticks-again
+    returns
+    returns-2)

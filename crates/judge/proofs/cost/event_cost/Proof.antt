@@ -5,23 +5,32 @@ use mathlib.Core.Path.{◌≡◌, ap, ◌∙◌}
 use Prim.Native.Nat.{ℕ, ◌*◌}
 use native.Mathlib.Omega.{arith}
 use Rattle.table.specs.declared.Task.{Task}
-use Rattle.judge.specs.Cost.{jobsOf, eventCost}
+use Rattle.judge.specs.Cost.{jobs_of, event_cost}
 use Rattle.judge.proofs.cost.event_cost.Statement.{statement}
 use Rattle.judge.proofs.cost.event_cost.Tie as tie
 
-together : (t : Task) (n : ℕ) → n ≡ jobsOf t → t.deadline ≡ t.period → n * 16 ≡ eventCost t
-unfolding eventCost
+together : (t : Task) (n : ℕ) → n ≡ jobs_of t → t.deadline ≡ t.period → n * 16 ≡ event_cost t
+unfolding event_cost
 together t n j e = simp (j, eq-eqb t.deadline t.period e)
 
-apart : (t : Task) (n : ℕ) → n ≡ jobsOf t → (t.deadline ≡ t.period → ⊥) → n * 36 ≡ eventCost t
-unfolding eventCost
+apart : (t : Task) (n : ℕ) → n ≡ jobs_of t → (t.deadline ≡ t.period → ⊥) → n * 36 ≡ event_cost t
+unfolding event_cost
 apart t n j e = simp (j, ne_eqb t.deadline t.period e)
+
+jobs-of-requires : tie.Need-jobs-of-requires
+jobs-of-requires c κs = search rules
+
+mul-result : tie.Need-overflow-mul-result
+mul-result c = search rules
 
 returns : tie.Need-returns
 returns c = (together c.before.before.args.task _ c.before.jobs-of.ensures.0 c.if1.true, omega (arith, c.before.jobs-of.ensures.1))
+
+mul-result-2 : tie.Need-overflow-mul-result-2
+mul-result-2 c = search rules
 
 returns-2 : tie.Need-returns-2
 returns-2 c = (apart c.before.before.args.task _ c.before.jobs-of.ensures.0 c.if1.false, omega (arith, c.before.jobs-of.ensures.1))
 
 pub event-cost-spec : {M : Type 1} → statement M
-event-cost-spec = tie.close (tie.spec (λ c κs. search rules) (λ c. search rules) returns (λ c. search rules) returns-2)
+event-cost-spec = tie.close (tie.spec jobs-of-requires mul-result returns mul-result-2 returns-2)

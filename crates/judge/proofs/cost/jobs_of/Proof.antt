@@ -6,23 +6,26 @@ use Prim.Native.Nat.{ℕ, ◌/◌}
 use native.Mathlib.Nat.{div-le_self}
 use native.Mathlib.Omega.{arith}
 use Rattle.table.specs.declared.Task.{Task}
-use Rattle.judge.specs.Cost.{sample, jobsOf}
+use Rattle.judge.specs.Cost.{sample, jobs_of}
 use Rattle.judge.proofs.cost.jobs_of.Statement.{statement}
 use Rattle.judge.proofs.cost.jobs_of.Tie as tie
 
-none : (t : Task) → t.period ≡ 0 → 0 ≡ jobsOf t
-unfolding jobsOf
+none : (t : Task) → t.period ≡ 0 → 0 ≡ jobs_of t
+unfolding jobs_of
 none t e = simp (eq-eqb t.period 0 e)
 
-some : (t : Task) → (t.period ≡ 0 → ⊥) → sample / t.period ≡ jobsOf t
-unfolding jobsOf
+some : (t : Task) → (t.period ≡ 0 → ⊥) → sample / t.period ≡ jobs_of t
+unfolding jobs_of
 some t n = simp (ne_eqb t.period 0 n)
 
 returns : tie.Need-returns
 returns c = (none c.before.args.task c.if1.true, omega arith)
 
+div-result : tie.Need-nonzero-div-result
+div-result c = search rules
+
 returns-2 : tie.Need-returns-2
 returns-2 c = let t = c.before.args.task in (some t c.if1.false, div-le_self sample t.period)
 
 pub jobs-of-spec : {M : Type 1} → statement M
-jobs-of-spec = tie.close (tie.spec returns (λ c. search rules) returns-2)
+jobs-of-spec = tie.close (tie.spec returns div-result returns-2)

@@ -6,16 +6,25 @@ use native.Mathlib.Nat.{mul-le-mul, lt_of_le_of_lt}
 use native.Mathlib.Omega.{arith}
 use lib.Dec.{lit<}
 use Rattle.table.specs.declared.Task.{Task}
-use Rattle.judge.specs.Cost.{jobsOf, tickCost}
+use Rattle.judge.specs.Cost.{jobs_of, tick_cost}
 use Rattle.judge.proofs.cost.tick_cost.Statement.{statement}
 use Rattle.judge.proofs.cost.tick_cost.Tie as tie
 
-product : (t : Task) (n : ℕ) → n ≡ jobsOf t → n * t.length ≡ tickCost t
-unfolding tickCost
+product : (t : Task) (n : ℕ) → n ≡ jobs_of t → n * t.length ≡ tick_cost t
+unfolding tick_cost
 product t n j = ap (λ (k : ℕ). k * t.length) j
 
 small : (n l : ℕ) → n ≤ 1000000 → l ≤ 4294967296 → n * l ≤ 4294967296000000
 small n l a b = mul-le-mul a b
+
+jobs-of-requires : tie.Need-jobs-of-requires
+jobs-of-requires c κs = search rules
+
+cast-result : tie.Need-overflow-cast-result
+cast-result c = search rules
+
+cast-result-2 : tie.Need-overflow-cast-result-2
+cast-result-2 c = search rules
 
 factors : (c : tie.After-struct-known) → c.before.jobs-of.result * c.before.before.args.task.length ≤ 4294967296000000
 factors c = small _ _ c.before.jobs-of.ensures.1 (omega arith)
@@ -27,4 +36,4 @@ returns : tie.Need-returns
 returns c = (product c.before.before.args.task _ c.before.jobs-of.ensures.0, factors c)
 
 pub tick-cost-spec : {M : Type 1} → statement M
-tick-cost-spec = tie.close (tie.spec (λ c κs. search rules) (λ c. search rules) (λ c. search rules) mul-result returns)
+tick-cost-spec = tie.close (tie.spec jobs-of-requires cast-result cast-result-2 mul-result returns)

@@ -7,10 +7,10 @@ use native.Mathlib.Numerals.{add-one}
 use native.Mathlib.Omega.{arith}
 use lib.Dec.{leb}
 use lib.ListN.{get_or}
-use Rattle.model.specs.Sizes.{mostTasks}
+use Rattle.model.specs.Sizes.{most_tasks}
 use Rattle.table.specs.declared.Task.{Task}
-use Rattle.table.specs.Task.{noTask}
-use Rattle.judge.specs.Cost.{sample, eventCost, tickCost, sum_to}
+use Rattle.table.specs.Task.{no_task}
+use Rattle.judge.specs.Cost.{sample, event_cost, tick_cost, sum_to}
 use Rattle.judge.proofs.cost.ticks_cheaper.Statement.{statement}
 use Rattle.judge.proofs.cost.ticks_cheaper.Tie as tie
 
@@ -23,36 +23,57 @@ unfolding sum_to
 summed-none f most ts = (omega arith, refl)
 
 summed-more :
-    (f : Task → ℕ) (most : ℕ) (ts : List Task) (n i k : ℕ) → Summed f most ts n i → (k ≡ f (get_or ts i noTask)) × (k ≤ most) → Summed f most ts (n + k) (i + 1)
+    (f : Task → ℕ) (most : ℕ) (ts : List Task) (n i k : ℕ) → Summed f most ts n i → (k ≡ f (get_or ts i no_task)) × (k ≤ most) → Summed f most ts (n + k) (i + 1)
 unfolding sum_to
 summed-more f most ts n i k s x = (omega (arith, s.0, x.1), rw (add-one i) (ap₂ (λ (a b : ℕ). a + b) s.1 x.0))
 
 abbrev invariant-loop : tie.invariant-loop
-invariant-loop tasks work₀ events₀ i₀ work events i = (i ≤ mostTasks) × Summed tickCost 4294967296000000 tasks work i × Summed eventCost 36000000 tasks events i
+invariant-loop tasks work₀ events₀ i₀ work events i = (i ≤ most_tasks) × Summed tick_cost 4294967296000000 tasks work i × Summed event_cost 36000000 tasks events i
 
 abbrev decreases-loop : tie.decreases-loop
-decreases-loop tasks work₀ events₀ i₀ work events i = mostTasks - i
+decreases-loop tasks work₀ events₀ i₀ work events i = most_tasks - i
 
 -- the state at the head of the loop
 abbrev loop : tie.After-tick-cost invariant-loop decreases-loop → tie.At-loop invariant-loop decreases-loop
 loop c = c.before.before.before
 
 loop-holds : tie.Need-loop-init invariant-loop decreases-loop
-loop-holds c = (omega arith, summed-none tickCost 4294967296000000 _, summed-none eventCost 36000000 _)
+loop-holds c = (omega arith, summed-none tick_cost 4294967296000000 _, summed-none event_cost 36000000 _)
+
+mul-task : tie.Need-overflow-mul-task invariant-loop decreases-loop
+mul-task c = omega arith
+
+array-copy-out-task : tie.Need-array-copy-out-task invariant-loop decreases-loop
+array-copy-out-task c = omega arith
+
+tick-cost-requires : tie.Need-tick-cost-requires invariant-loop decreases-loop
+tick-cost-requires c κs = search rules
 
 add-work : tie.Need-overflow-add-work invariant-loop decreases-loop
 add-work c = let s = loop c in omega (arith, c.tick-cost.ensures.1, s.loop.inv.1.0)
 
+event-cost-requires : tie.Need-event-cost-requires invariant-loop decreases-loop
+event-cost-requires c κs = search rules
+
+cast-events : tie.Need-overflow-cast-events invariant-loop decreases-loop
+cast-events c = search rules
+
 add-events : tie.Need-overflow-add-events invariant-loop decreases-loop
 add-events c = let s = loop c.before in omega (arith, c.event-cost.ensures.1, s.loop.inv.2.0)
+
+add-i : tie.Need-overflow-add-i invariant-loop decreases-loop
+add-i c = omega arith
+
+loop-less : tie.Need-loop-smaller invariant-loop decreases-loop
+loop-less c = omega arith
 
 loop-again : tie.Need-loop-preserved invariant-loop decreases-loop
 loop-again c =
     let w = c.before in
     let s = loop w in (
       omega arith,
-      summed-more tickCost 4294967296000000 _ s.loop.work s.loop.i _ s.loop.inv.1 w.tick-cost.ensures,
-      summed-more eventCost 36000000 _ s.loop.events s.loop.i _ s.loop.inv.2 c.event-cost.ensures,
+      summed-more tick_cost 4294967296000000 _ s.loop.work s.loop.i _ s.loop.inv.1 w.tick-cost.ensures,
+      summed-more event_cost 36000000 _ s.loop.events s.loop.i _ s.loop.inv.2 c.event-cost.ensures,
     )
 
 add-result : tie.Need-overflow-add-result invariant-loop decreases-loop
@@ -62,13 +83,27 @@ returns : tie.Need-returns invariant-loop decreases-loop
 returns c =
     let s = c.before in
     let ts = s.before.before.args.table.tasks in
-    let e : s.loop.i ≡ mostTasks = omega arith in
+    let e : s.loop.i ≡ most_tasks = omega arith in
     ap₂ (λ (w m : ℕ). leb (sample + w) m)
-    (s.loop.invariant.1.1 ∙ ap (λ (n : ℕ). sum_to tickCost n ts) e)
-    (s.loop.invariant.2.1 ∙ ap (λ (n : ℕ). sum_to eventCost n ts) e)
+    (s.loop.invariant.1.1 ∙ ap (λ (n : ℕ). sum_to tick_cost n ts) e)
+    (s.loop.invariant.2.1 ∙ ap (λ (n : ℕ). sum_to event_cost n ts) e)
 
 pub ticks-cheaper-spec : {M : Type 1} → statement M
 ticks-cheaper-spec =
-    tie.close (tie.spec invariant-loop decreases-loop loop-holds (λ c. omega arith) (λ c. omega arith) (λ c κs. search rules) add-work
-    (λ c κs. search rules) (λ c. search rules) add-events (λ c. omega arith) (λ c. omega arith) loop-again add-result
+    tie.close
+    (tie.spec
+    invariant-loop
+    decreases-loop
+    loop-holds
+    mul-task
+    array-copy-out-task
+    tick-cost-requires
+    add-work
+    event-cost-requires
+    cast-events
+    add-events
+    add-i
+    loop-less
+    loop-again
+    add-result
     returns)

@@ -4,6 +4,12 @@ use borrow.Author.Rules.{rules}
 use Rattle.phase.proofs.Phase.emptied.Statement.{statement}
 use Rattle.phase.proofs.Phase.emptied.Tie as tie
 
+released-requires : tie.Need-released-requires
+released-requires c κs = search rules
+
+idles-requires : tie.Need-idles-requires
+idles-requires c κs = search rules
+
 returns : tie.Need-returns
 returns c = simp (← c.before.before.before.released.ensures, c.before.before.if1.true, ← c.before.idles.ensures, c.if2.true)
 
@@ -14,4 +20,4 @@ returns-3 : tie.Need-returns-3
 returns-3 c = simp (← c.before.released.ensures, c.if1.false)
 
 pub emptied-spec : {M : Type 1} → statement M
-emptied-spec = tie.close (tie.spec (λ c κs. search rules) (λ c κs. search rules) returns returns-2 returns-3)
+emptied-spec = tie.close (tie.spec released-requires idles-requires returns returns-2 returns-3)

@@ -6,6 +6,15 @@ use Rattle.table.specs.Limits.{taskNumber}
 use Rattle.phase.proofs.Task.out.Statement.{statement}
 use Rattle.phase.proofs.Task.out.Tie as tie
 
+parameters-requires : tie.Need-parameters-requires
+parameters-requires c κs = search rules
+
+task-number-requires : tie.Need-task-number-requires
+task-number-requires c κs = search rules
+
+phase-in-requires : tie.Need-phase-in-requires
+phase-in-requires c κs = search rules
+
 returns : tie.Need-returns
 returns c =
     let n = c.before in
@@ -14,4 +23,4 @@ returns c =
     simp (n.task-number.ensures ∙ ap (taskNumber a.wide) p.parameters.ensures, c.phase-in.ensures)
 
 pub out-spec : {M : Type 1} → statement M
-out-spec = tie.close (tie.spec (λ c κs. search rules) (λ c κs. search rules) (λ c κs. search rules) returns)
+out-spec = tie.close (tie.spec parameters-requires task-number-requires phase-in-requires returns)

@@ -13,6 +13,21 @@ phase2 c = c.before.before.before
 abbrev phase3 : tie.After-struct-known6 → tie.After-phase3
 phase3 c = c.before.before.before.before
 
+enum-known-phase : tie.Need-enum-known-phase
+enum-known-phase c = search rules
+
+enum-known-phase-2 : tie.Need-enum-known-phase-2
+enum-known-phase-2 c = search rules
+
+enum-known-phase-3 : tie.Need-enum-known-phase-3
+enum-known-phase-3 c = search rules
+
+idles-requires : tie.Need-idles-requires
+idles-requires c κs = search rules
+
+enum-known-phase-4 : tie.Need-enum-known-phase-4
+enum-known-phase-4 c = search rules
+
 returns : tie.Need-returns
 returns c = simp c.before.before.before.phase.given.1
 
@@ -27,5 +42,14 @@ returns-4 c = simp c.before.before.phase4.given.1
 
 pub phase-in-spec : {M : Type 1} → statement M
 phase-in-spec =
-    tie.close (tie.spec (λ c. search rules) (λ c. search rules) (λ c. search rules) (λ c κs. search rules)
-    (λ c. search rules) returns returns-2 returns-3 returns-4)
+    tie.close
+    (tie.spec
+    enum-known-phase
+    enum-known-phase-2
+    enum-known-phase-3
+    idles-requires
+    enum-known-phase-4
+    returns
+    returns-2
+    returns-3
+    returns-4)

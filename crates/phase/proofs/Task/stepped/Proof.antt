@@ -6,17 +6,17 @@ use Prim.Native.Nat.{ℕ, ◌+◌}
 use native.Mathlib.Omega.{arith}
 use borrow.Author.Tests.{eq-eqb, ne_eqb}
 use borrow.Author.Rules.{rules}
-use Rattle.model.specs.Task.{Rule, Task, ruleOf}
+use Rattle.model.specs.Task.{Rule, Task, rule_of}
 use Rattle.phase.specs.declared.Phase.TheVariants.{Working}
 use Rattle.phase.specs.declared.TaskState.{TaskState}
-use Rattle.phase.specs.Phase.{nextState, worked}
+use Rattle.phase.specs.Phase.{next_state, worked}
 use Rattle.phase.specs.Task.{task_of}
 use Rattle.phase.proofs.Task.stepped.Statement.{statement}
 use Rattle.phase.proofs.Task.stepped.Tie as tie
 
 -- a tick of work, own or lent, and one without
 busy : (r : Rule) (τ : Task) (given lent f even : Bool) (z h u : ℕ) → given || lent ≡ true
-    → worked r τ f even (z + 1) (h + 1) (cond given (u + 1) u) ≡ nextState r τ given lent f even (Working z h u)
+    → worked r τ f even (z + 1) (h + 1) (cond given (u + 1) u) ≡ next_state r τ given lent f even (Working z h u)
 busy r τ true lent f even z h u e = refl
 busy r τ false true f even z h u e = refl
 busy r τ false false f even z h u e = absurd (false≢true e)
@@ -46,8 +46,14 @@ served c = c.before.before.before
 abbrev held : tie.After-held → tie.After-known-told3
 held c = c.before.before
 
+enum-known-seen : tie.Need-enum-known-seen
+enum-known-seen c = search rules
+
 sub-still : tie.Need-overflow-sub-still
 sub-still c = let h = rw c.before.seen.given.1 at (coming c).requires in omega arith
+
+enum-known-seen-2 : tie.Need-enum-known-seen-2
+enum-known-seen-2 c = search rules
 
 add-worked : tie.Need-overflow-add-worked
 add-worked c = let h = rw c.before.before.seen2.given.1 at (working c.before).requires in omega arith
@@ -58,8 +64,14 @@ add-worked-2 c = let h = rw c.before.before.seen2.given.1 at (working c.before).
 counted-requires : tie.Need-counted-requires
 counted-requires c κs = let h = rw c.before.before.seen2.given.1 at (working c.before).requires in h.2
 
+worked-requires : tie.Need-worked-requires
+worked-requires c κs = search rules
+
 add-waited : tie.Need-overflow-add-waited
 add-waited c = let h = rw c.before.before.seen2.given.1 at (working c.before).requires in omega arith
+
+enum-known-seen-3 : tie.Need-enum-known-seen-3
+enum-known-seen-3 c = search rules
 
 add-held : tie.Need-overflow-add-held
 add-held c = let h = rw c.before.seen3.given.1 at (holding c).requires in omega arith
@@ -67,8 +79,17 @@ add-held c = let h = rw c.before.seen3.given.1 at (holding c).requires in omega 
 counted-requires-2 : tie.Need-counted-requires-2
 counted-requires-2 c κs = let h = rw c.before.seen3.given.1 at (holding c).requires in h.1
 
+held-requires : tie.Need-held-requires
+held-requires c κs = search rules
+
+enum-known-seen-4 : tie.Need-enum-known-seen-4
+enum-known-seen-4 c = search rules
+
 add-rested : tie.Need-overflow-add-rested
 add-rested c = let h = rw c.before.seen4.given.1 at (resting c).requires in omega arith
+
+rested-requires : tie.Need-rested-requires
+rested-requires c κs = search rules
 
 returns : tie.Need-returns
 returns c = simp (c.before.before.seen.given.1, eq-eqb _ _ c.if1.true)
@@ -81,7 +102,7 @@ returns-3 c =
     let s = served c in
     let a = (working s).args in
     simp (s.before.seen2.given.1, c.worked.ensures, c.before.counted.ensures)
-    (busy (ruleOf a.rule) (task_of a.self) a.given a.lent a.reported a.self.even _ _ _ c.before.before.if2.true)
+    (busy (rule_of a.rule) (task_of a.self) a.given a.lent a.reported a.self.even _ _ _ c.before.before.if2.true)
 
 returns-4 : tie.Need-returns-4
 returns-4 c =
@@ -96,6 +117,26 @@ returns-6 c = simp (c.before.before.seen4.given.1, c.rested.ensures)
 
 pub stepped-spec : {M : Type 1} → statement M
 stepped-spec =
-    tie.close (tie.spec (λ c. search rules) sub-still (λ c. search rules) add-worked add-worked-2 counted-requires
-    (λ c κs. search rules) add-waited (λ c. search rules) add-held counted-requires-2 (λ c κs. search rules)
-    (λ c. search rules) add-rested (λ c κs. search rules) returns returns-2 returns-3 returns-4 returns-5 returns-6)
+    tie.close
+    (tie.spec
+    enum-known-seen
+    sub-still
+    enum-known-seen-2
+    add-worked
+    add-worked-2
+    counted-requires
+    worked-requires
+    add-waited
+    enum-known-seen-3
+    add-held
+    counted-requires-2
+    held-requires
+    enum-known-seen-4
+    add-rested
+    rested-requires
+    returns
+    returns-2
+    returns-3
+    returns-4
+    returns-5
+    returns-6)

@@ -4,8 +4,11 @@ use borrow.Author.Rules.{rules}
 use Rattle.phase.proofs.starts.start_task.Statement.{statement}
 use Rattle.phase.proofs.starts.start_task.Tie as tie
 
+start-phase-requires : tie.Need-start-phase-requires
+start-phase-requires c κs = search rules
+
 returns : tie.Need-returns
 returns c = simp c.start-phase.ensures
 
 pub start-task-spec : {M : Type 1} → statement M
-start-task-spec = tie.close (tie.spec (λ c κs. search rules) returns)
+start-task-spec = tie.close (tie.spec start-phase-requires returns)

@@ -9,16 +9,31 @@ use lib.ListN.{length, get_or, set, length-set}
 use lib.Seq.{paste, paste-zero, paste-suc}
 use Rattle.plan.proofs.rows.put.Statement.{statement}
 use Rattle.plan.proofs.rows.put.Tie as tie
-use Rattle.model.specs.Sizes.{mostCores}
+use Rattle.model.specs.Sizes.{most_cores}
 
 abbrev invariant-loop : tie.invariant-loop
-invariant-loop count at out₀ row i₀ out i = (i ≤ count) × (length row ≡ mostCores) × (length out ≡ length out₀) × (out ≡ paste out₀ at row i)
+invariant-loop count at out₀ row i₀ out i = (i ≤ count) × (length row ≡ most_cores) × (length out ≡ length out₀) × (out ≡ paste out₀ at row i)
 
 abbrev decreases-loop : tie.decreases-loop
 decreases-loop count at out₀ row i₀ out i = count - i
 
 loop-holds : tie.Need-loop-init invariant-loop decreases-loop
 loop-holds c = (omega arith, search rules, refl, paste-zero c.args.out.now c.args.at c.args.t1)
+
+array-read-out : tie.Need-array-read-out invariant-loop decreases-loop
+array-read-out c = omega arith
+
+add-out : tie.Need-overflow-add-out invariant-loop decreases-loop
+add-out c = omega arith
+
+slice-write-out : tie.Need-slice-write-out invariant-loop decreases-loop
+slice-write-out c = omega arith
+
+add-i : tie.Need-overflow-add-i invariant-loop decreases-loop
+add-i c = omega arith
+
+loop-less : tie.Need-loop-smaller invariant-loop decreases-loop
+loop-less c = omega arith
 
 loop-again : tie.Need-loop-preserved invariant-loop decreases-loop
 loop-again c =
@@ -32,6 +47,9 @@ loop-again c =
           ∙ ap (paste a.out.now a.at a.t1) (sym (add-one l.i))),
     )
 
+same_length : tie.Need-same-length invariant-loop decreases-loop
+same_length c = omega arith
+
 returns : tie.Need-returns invariant-loop decreases-loop
 returns c =
     let a = c.before.before.args in
@@ -41,5 +59,16 @@ returns c =
 
 pub put_spec : {M : Type 1} → statement M
 put_spec =
-    tie.close (tie.spec invariant-loop decreases-loop loop-holds (λ c. omega arith) (λ c. omega arith) (λ c. omega arith)
-    (λ c. omega arith) (λ c. omega arith) loop-again (λ c. omega arith) returns)
+    tie.close
+    (tie.spec
+    invariant-loop
+    decreases-loop
+    loop-holds
+    array-read-out
+    add-out
+    slice-write-out
+    add-i
+    loop-less
+    loop-again
+    same_length
+    returns)

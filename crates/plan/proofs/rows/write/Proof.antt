@@ -1,202 +1,310 @@
--- `plan::rows::write` meets its contract. Before each row the run is kept for the rows from its tick on, the row in hand is that of its choice, and the rows so
--- far are in the buffer. Assumes nothing.
+-- `plan::rows::write` meets its contract. Before each tick the run represents the table's full-length run (`RefinesTick`) and the buffer has the rows so
+-- far (`Filled`); the row is kept with the claimants and the widths it was made for (`RowFor`). Assumes nothing.
 use borrow.Author.Rules.{rules}
 use native.Mathlib.Omega.{arith}
-use native.Mathlib.Nat.{mul-le-mul}
-use mathlib.Core.Path.{◌≡◌, refl, sym, ap, ◌∙◌}
+use mathlib.Core.Path.{◌≡◌, refl, sym, ap, ◌∙◌, subst, subst₂}
 use mathlib.Core.List.{List}
-use Prim.Native.Nat.{ℕ, ◌-◌, ◌*◌, ◌≤◌}
+use mathlib.Core.Logic.{⊎_elim}
+use native.Mathlib.Nat.{mul-le-mul}
+use Prim.Native.Nat.{ℕ, ◌+◌, ◌-◌, ◌*◌, ◌≤◌}
 use lib.ListN as list
-use Rattle.model.specs.Claims.{bookRow}
-use Rattle.model.specs.Lists.{full}
-use Rattle.model.specs.Sizes.{mostCores}
+use Rattle.model.specs.Lists.{Missed}
+use Rattle.model.specs.Sizes.{most_cores}
 use Rattle.table.specs.declared.Loaded.{Loaded}
-use Rattle.table.specs.Fit.{loadedTable, Fit}
-use Rattle.simulation.specs.TickState.{Numbers, numbersBy, loadedNumbers}
-use Rattle.simulation.specs.EventState.{EventState, eventStateOf}
-use Rattle.plan.specs.Cursor.{choiceRow, choiceBytes, Kept, RowBegins, ShowsRow}
-use Rattle.plan.specs.declared.cursor.Cursor.{Cursor}
-use Rattle.plan.specs.Plan.{withRows}
+use Rattle.simulation.specs.TickState.{Numbers, numbers_by, loaded_numbers, TickState, tick_state_of, after_events, next_event_after, even_at_tick, Steppable, next_tick_state}
+use Rattle.simulation.proofs.Steps.{tick-on, chosen_on, even-on}
+use Rattle.table.specs.Fit.{loaded_table, Fit}
+use Rattle.simulation.proofs.RefinesTick.{RefinesTick, refines-start, handled-after, steppable, refines_on}
 use Rattle.plan.proofs.Late.{all-met}
-use Rattle.plan.proofs.Writing.{Filled, filled-start, filled-room, filled_more, row-bytes}
+use Rattle.plan.specs.Plan.{with_rows}
+use Rattle.plan.proofs.Writing.{RowBy, RowFor, Filled, filled-start, filled-pass, filled-room, filled_more, none-changed, row-bytes}
 use Rattle.plan.proofs.rows.write.Statement.{statement}
 use Rattle.plan.proofs.rows.write.Tie as tie
 
 abbrev invariant-loop : tie.invariant-loop
-invariant-loop cursor b out₀ cores setting widths times registers₀ places₀ row₀ tick₀ at₀ out registers places row tick at =
-    let t = cursor.table in
-    Kept t cursor.ticking (loadedNumbers t) (eventStateOf registers places) tick
-    × (row ≡ choiceBytes (loadedNumbers t) registers.chosen registers.even)
-    × (cursor.tick ≤ tick) × (tick ≤ b) × Filled t cursor.tick tick at out₀ out
+invariant-loop table a b out₀ cores setting widths times registers₀ places₀ shown₀ even₀ row₀ at₀ out registers places shown even row at =
+    RefinesTick table (tick_state_of registers places) × RowFor table shown even row × (registers.tick ≤ b) × Filled table a registers.tick at out₀ out
 
 abbrev decreases-loop : tie.decreases-loop
-decreases-loop cursor b out₀ cores setting widths times registers₀ places₀ row₀ tick₀ at₀ out registers places row tick at = b - tick
+decreases-loop table a b out₀ cores setting widths times registers₀ places₀ shown₀ even₀ row₀ at₀ out registers places shown even row at = b - registers.tick
 
--- THE STATES: what the loop rests on, the iteration that each step of it belongs to, and the call
-abbrev columns_of : tie.After-widths2 invariant-loop decreases-loop → tie.After-columns-of invariant-loop decreases-loop
-columns_of c = c.before.before.before.before.before.before
+-- the state where the test `if1` holds
+abbrev then1-from-places2 : tie.After-places2 invariant-loop decreases-loop → tie.Then1 invariant-loop decreases-loop
+then1-from-places2 c = c.before.before.before
 
-abbrev columns-in : tie.At-loop invariant-loop decreases-loop → tie.After-columns-of invariant-loop decreases-loop
-columns-in k = columns_of k.before.before
+-- the state after `places`
+abbrev places-from-then1 : tie.Then1 invariant-loop decreases-loop → tie.After-places invariant-loop decreases-loop
+places-from-then1 c = c.before.before.before
 
-abbrev entry_of : tie.After-columns-of invariant-loop decreases-loop → tie.Start invariant-loop decreases-loop
-entry_of c = c.before.before.before.before
+-- the state after `step`
+abbrev step : tie.Joined3 invariant-loop decreases-loop → tie.After-step invariant-loop decreases-loop
+step c = c.before.before.before.before
 
-abbrev entry : tie.At-loop invariant-loop decreases-loop → tie.Start invariant-loop decreases-loop
-entry k = entry_of (columns-in k)
+-- the state after `show`
+abbrev show : tie.After-places invariant-loop decreases-loop → tie.After-show invariant-loop decreases-loop
+show c = c.before.before.before
 
-abbrev turn : tie.After-places2 invariant-loop decreases-loop → tie.In-loop invariant-loop decreases-loop
-turn c = c.before.before.before
+-- the state where the ways of the test `if3` meet
+abbrev joined3 : tie.After-out invariant-loop decreases-loop → tie.Joined3 invariant-loop decreases-loop
+joined3 c = c.before.before.before
 
-abbrev row_in : tie.After-put-arg invariant-loop decreases-loop → tie.After-row-of invariant-loop decreases-loop
-row_in c = c.before
+-- the state where the test `if2` holds
+abbrev then2-from-put-arg : tie.After-put-arg invariant-loop decreases-loop → tie.Then2 invariant-loop decreases-loop
+then2-from-put-arg c = c.before.before.before.before
 
-abbrev stepped : tie.After-row-of invariant-loop decreases-loop → tie.After-with-row invariant-loop decreases-loop
-stepped c = c.before.before
+abbrev then2-from-slice-known2 : tie.After-slice-known2 invariant-loop decreases-loop → tie.Then2 invariant-loop decreases-loop
+then2-from-slice-known2 c = then2-from-put-arg c.before.before.before
 
-abbrev head : tie.After-put-arg invariant-loop decreases-loop → tie.In-loop invariant-loop decreases-loop
-head c = turn (stepped (row_in c)).before
+-- the state at the head of the loop
+abbrev loop-from-places2 : tie.After-places2 invariant-loop decreases-loop → tie.At-loop invariant-loop decreases-loop
+loop-from-places2 c = (then1-from-places2 c).before.before
 
--- the cursor, its table and the table's numbers
-abbrev cursor-of : tie.At-loop invariant-loop decreases-loop → Cursor
-cursor-of k = (entry k).args.cursor
+abbrev loop-from-joined3 : tie.Joined3 invariant-loop decreases-loop → tie.At-loop invariant-loop decreases-loop
+loop-from-joined3 c = loop-from-places2 (step c).before
 
-abbrev table_of : tie.At-loop invariant-loop decreases-loop → Loaded
-table_of k = (cursor-of k).table
+-- the state at the call
+abbrev entry-from-setting : tie.After-setting invariant-loop decreases-loop → tie.Start invariant-loop decreases-loop
+entry-from-setting c = c.before.before.before.before
 
-numbers : (c : tie.After-columns-of invariant-loop decreases-loop) → let r = c.columns_of.result in
-    numbersBy r.setting r.widths r.times ≡ loadedNumbers (entry_of c).args.cursor.table
-numbers c = c.columns_of.ensures
+abbrev entry-from-widths2 : tie.After-widths2 invariant-loop decreases-loop → tie.Start invariant-loop decreases-loop
+entry-from-widths2 c = entry-from-setting c.before.before.before
 
-enough : (k : tie.At-loop invariant-loop decreases-loop) → ((entry k).args.b - (cursor-of k).tick) * (table_of k).cores ≤ list.length (entry k).args.out.now
-enough k = (entry k).requires.4
+-- the state after `columns_of`
+abbrev columns-of-from-widths2 : tie.After-widths2 invariant-loop decreases-loop → tie.After-columns-of invariant-loop decreases-loop
+columns-of-from-widths2 c = c.before.before.before.before
 
-narrow : (k : tie.At-loop invariant-loop decreases-loop) → (table_of k).cores ≤ mostCores
-narrow k = (entry k).requires.0.fit.narrow
+abbrev columns-of-from-places : tie.After-places invariant-loop decreases-loop → tie.After-columns-of invariant-loop decreases-loop
+columns-of-from-places c = columns-of-from-widths2 c.before.before.before.before
 
--- the row of the tick is wanted
-begins : (c : tie.In-loop invariant-loop decreases-loop) → let k = c.before in let r = (columns-in k).columns_of.result in
-    RowBegins (table_of k) (cursor-of k).ticking (numbersBy r.setting r.widths r.times) (eventStateOf k.loop.registers k.loop.places)
-    k.loop.tick
-begins c =
-    let k = c.before in
-    let h = k.loop.invariant.0 in
-    record {
-      kept = record { fit = h.fit; numbers = numbers (columns-in k); represents = h.represents; from = h.from; shows = h.shows };
-      early = omega (arith, c.loop-test.true, (entry k).requires.2);
-      met = λ p. all-met (loadedTable (table_of k)) h.fit.valid (entry k).args.b (entry k).requires.3 p k.loop.tick c.loop-test.true;
-    }
+-- the state at the call
+abbrev entry-from-places : tie.After-places invariant-loop decreases-loop → tie.Start invariant-loop decreases-loop
+entry-from-places c = (columns-of-from-places c).before.before.before
 
--- and then the run shows it
-shown : (c : tie.After-with-row invariant-loop decreases-loop) → let k = (turn c.before).before in
-    ShowsRow (table_of k) (cursor-of k).ticking (eventStateOf c.with_row.result c.with_row.new.1.1.1.1.1.0) k.loop.tick
-shown c = c.with_row.ensures _ (begins (turn c.before))
+-- the state where the test `if1` holds
+abbrev then1-from-slice-known2 : tie.After-slice-known2 invariant-loop decreases-loop → tie.Then1 invariant-loop decreases-loop
+then1-from-slice-known2 c = then1-from-places2 (then2-from-slice-known2 c).before.before
 
--- it is in hand
-fresh : (c : tie.After-row-of invariant-loop decreases-loop) → let k = (turn (stepped c).before).before in let r = (stepped c).with_row.result in
-    c.row-of.result ≡ choiceBytes (loadedNumbers (table_of k)) r.chosen r.even
-fresh c =
-    let k = (turn (stepped c).before).before in
-    let r = (stepped c).with_row.result in
-    c.row-of.ensures ∙ ap (λ (n : Numbers). choiceBytes n r.chosen r.even) (numbers (columns-in k))
+-- the state after `places`
+abbrev places-from-step : tie.After-step invariant-loop decreases-loop → tie.After-places invariant-loop decreases-loop
+places-from-step c = (loop-from-places2 c.before).before
 
-row-of-tick : (c : tie.After-row-of invariant-loop decreases-loop) → let k = (turn (stepped c).before).before in
-    list.take (table_of k).cores c.row-of.result ≡ bookRow (loadedTable (table_of k)) (full (loadedTable (table_of k)) k.loop.tick)
-row-of-tick c =
-    let k = (turn (stepped c).before).before in
-    let r = (stepped c).with_row.result in
-    ap (list.take (table_of k).cores) (fresh c)
-    ∙ (row-bytes (loadedNumbers (table_of k)) r.chosen r.even ∙ (shown (stepped c)).shows k.loop.tick (omega arith) (shown (stepped c)).after)
+abbrev places-from-widths4 : tie.After-widths4 invariant-loop decreases-loop → tie.After-places invariant-loop decreases-loop
+places-from-widths4 c = places-from-step c.before.before.before.before.before
+
+-- THE PLACES. What the function is given, and the numbers that the run is stepped with
+abbrev table_of : tie.After-places invariant-loop decreases-loop → Loaded
+table_of p = (entry-from-places p).args.table
+
+abbrev first_of : tie.After-places invariant-loop decreases-loop → ℕ
+first_of p = (entry-from-places p).args.a
+
+abbrev last_of : tie.After-places invariant-loop decreases-loop → ℕ
+last_of p = (entry-from-places p).args.b
+
+abbrev found_of : tie.After-places invariant-loop decreases-loop → List ℕ
+found_of p = (entry-from-places p).args.out.now
+
+fit_of : (p : tie.After-places invariant-loop decreases-loop) → Fit (table_of p)
+fit_of p = (entry-from-places p).requires.0
+
+cores-of : (p : tie.After-places invariant-loop decreases-loop) → (table_of p).cores ≤ most_cores
+cores-of p = (entry-from-places p).requires.1
+
+enough-of : (p : tie.After-places invariant-loop decreases-loop) → (last_of p - first_of p) * (table_of p).cores ≤ list.length (found_of p)
+enough-of p = (entry-from-places p).requires.4
+
+numbers : (p : tie.After-places invariant-loop decreases-loop) → numbers_by (columns-of-from-places p).columns_of.result.setting
+    (columns-of-from-places p).columns_of.result.widths (columns-of-from-places p).columns_of.result.times ≡ loaded_numbers (table_of p)
+numbers p = (columns-of-from-places p).columns_of.ensures
+
+-- the run before a tick
+abbrev state-of : tie.At-loop invariant-loop decreases-loop → TickState
+state-of k = tick_state_of k.loop.registers k.loop.places
+
+-- in the loop: ticks are small, and no deadline of the tick is missed
+small : (c : tie.Then1 invariant-loop decreases-loop) → c.before.before.loop.registers.tick ≤ 1000000000
+small c =
+    let p = places-from-then1 c in
+    omega (arith, c.if1.true, (fit_of p).limit, (entry-from-places p).pre.2)
+
+met : (c : tie.Then1 invariant-loop decreases-loop) (q : ℕ) → ¬ Missed (loaded_table (table_of (places-from-then1 c))) q c.before.before.loop.registers.tick
+met c q =
+    let p = places-from-then1 c in
+    all-met (loaded_table (table_of p)) (fit_of p).valid (last_of p) (entry-from-places p).pre.3 q c.before.before.loop.registers.tick c.if1.true
+
+-- the tick is taken: the run follows on, and its choice is for the claimants of the tick
+on : (c : tie.After-step invariant-loop decreases-loop) → RefinesTick (table_of (places-from-step c)) (tick_state_of c.step.result c.step.new.1.1.1.1.0)
+on c =
+    let k = loop-from-places2 c.before in
+    let p = k.before in
+    refines_on (table_of p) (fit_of p) (state-of k) k.loop.inv.0 (met (then1-from-places2 c.before)) _
+    (c.step.ensures ∙ ap (λ (n : Numbers). next_tick_state n (state-of k)) (numbers p))
+
+tick : (c : tie.After-step invariant-loop decreases-loop) → c.step.result.tick ≡ (loop-from-places2 c.before).loop.registers.tick + 1
+tick c = tick-on _ _ _ c.step.ensures
+
+claims : (c : tie.After-step invariant-loop decreases-loop) → c.step.result.chosen ≡ (after_events (loaded_numbers (table_of (places-from-step c))) (state-of (loop-from-places2 c.before))).claiming
+claims c =
+    let k = loop-from-places2 c.before in
+    chosen_on _ _ _ c.step.ensures ∙ ap (λ (n : Numbers). (after_events n (state-of k)).claiming) (numbers k.before)
+
+-- .. and for their widths in it
+turned :
+    (c : tie.After-step invariant-loop decreases-loop)
+    → c.step.result.even ≡ even_at_tick (loaded_numbers (table_of (places-from-step c))) (state-of (loop-from-places2 c.before))
+turned c =
+    let k = loop-from-places2 c.before in
+    even-on _ _ _ c.step.ensures ∙ ap (λ (n : Numbers). even_at_tick n (state-of k)) (numbers k.before)
+
+-- from tick a on the row is that of the claimants and their widths: it was just made, or they are those it was made for
+row-of :
+    (c : tie.Joined3 invariant-loop decreases-loop)
+    → RowFor (table_of (loop-from-joined3 c).before) (step c).step.result.chosen (step c).step.result.even c.if3.row
+row-of c =
+    let g = step c in
+    let k = loop-from-places2 g.before in
+    let p = k.before in
+    let t = table_of p in
+    ⊎_elim
+    (λ w.
+    subst (λ (l : List ℕ). RowFor t g.step.result.chosen g.step.result.even l) (sym w.5)
+    (subst (λ (n : Numbers). RowBy t n.widths g.step.result.chosen g.step.result.even w.2.result) (numbers p) w.2.ensures))
+    (λ w.
+    let same = none-changed g.step.result.chosen k.loop.shown g.step.result.even k.loop.even w.0.left in
+    subst (λ (l : List ℕ). RowFor t g.step.result.chosen g.step.result.even l) (sym w.3)
+    (subst₂ (λ (x y : ℕ). RowFor t x y k.loop.row) (sym same.0) (sym same.1) k.loop.inv.1))
+    c.if3.branch
+
+row_kept : (c : tie.Joined3 invariant-loop decreases-loop) → RowFor (table_of (loop-from-joined3 c).before) c.if3.shown c.if3.even c.if3.row
+row_kept c = subst₂ (λ (x y : ℕ). RowFor (table_of (loop-from-joined3 c).before) x y c.if3.row) same.0 same.1 (row-of c)
+  where
+    same : ((step c).step.result.chosen ≡ c.if3.shown) × ((step c).step.result.even ≡ c.if3.even)
+    same =
+        let k = loop-from-joined3 c in
+        let g = step c in
+        ⊎_elim
+        (λ w. (sym w.3, sym w.4))
+        (λ w.
+        let h = none-changed g.step.result.chosen k.loop.shown g.step.result.even k.loop.even w.0.left in
+        (h.0 ∙ sym w.1, h.1 ∙ sym w.2))
+        c.if3.branch
 
 -- THE ANSWERS
+cast-cores : tie.Need-overflow-cast-cores invariant-loop decreases-loop
+cast-cores c = search rules
+
+columns-of-requires : tie.Need-columns-of-requires invariant-loop decreases-loop
+columns-of-requires c κs = search rules
+
+start-requires : tie.Need-start-requires invariant-loop decreases-loop
+start-requires c κs = search rules
+
 show-requires : tie.Need-show-requires invariant-loop decreases-loop
-show-requires c κs =
-    let x = columns_of c in
-    let f = (entry_of x).pre.0.fit in
-    (omega (arith, ap (λ (n : Numbers). n.cores) (numbers x), f.narrow), omega (arith, ap (λ (n : Numbers). n.count) (numbers x), f.few))
+show-requires c κs = let s = entry-from-widths2 c in (s.pre.1, s.pre.0.few)
 
 loop-holds : tie.Need-loop-init invariant-loop decreases-loop
 loop-holds c =
-    let x = columns_of c.before in
-    let s = entry_of x in
-    let k = s.args.cursor in (
-      s.pre.0,
-      c.show.ensures ∙ ap (λ (n : Numbers). choiceBytes n k.registers.chosen k.registers.even) (numbers x),
+    let begins = c.before.before.start.ensures.0 in
+    let e : c.before.before.start.result.registers.tick ≡ 0 = ap (λ (x : TickState). x.tick) begins in (
+      subst (RefinesTick (table_of c)) (sym begins) (refines-start (table_of c) (fit_of c)),
+      subst (λ (n : Numbers). RowBy (table_of c) n.widths 0 0 (show c).show.result) (numbers c) (show c).show.ensures,
       omega arith,
-      s.pre.1,
-      filled-start k.table k.tick s.args.out.now,
+      subst (λ (n : ℕ). Filled (table_of c) (first_of c) n 0 (found_of c) (found_of c)) (sym e) (filled-start (table_of c) (first_of c) (found_of c)),
     )
 
-with-row-requires : tie.Need-with-row-requires invariant-loop decreases-loop
-with-row-requires c κs = (table_of (turn c).before, begins (turn c))
+step-requires : tie.Need-step-requires invariant-loop decreases-loop
+step-requires c κs =
+    let k = loop-from-places2 c in
+    let p = k.before in
+    subst (λ (n : Numbers). Steppable n (state-of k)) (sym (numbers p))
+    (steppable (table_of p) (fit_of p) (state-of k) k.loop.inv.0 (met (then1-from-places2 c)) (small (then1-from-places2 c)))
 
-row-of-requires : tie.Need-row-of-requires invariant-loop decreases-loop
-row-of-requires c κs =
-    let k = (turn c.before.before).before in
-    let x = columns-in k in
-    let f = (entry k).pre.0.fit in (
-      omega (arith, ap (λ (n : Numbers). n.cores) (numbers x), f.narrow),
-      omega (arith, ap (λ (n : Numbers). n.count) (numbers x), f.few),
-      k.loop.inv.1 ∙ ap (λ (n : Numbers). choiceBytes n k.loop.registers.chosen k.loop.registers.even) (sym (numbers x)),
-    )
+show-requires-2 : tie.Need-show-requires-2 invariant-loop decreases-loop
+show-requires-2 c κs = let p = places-from-widths4 c in (cores-of p, (fit_of p).few)
 
 put-requires : tie.Need-put-requires invariant-loop decreases-loop
 put-requires c κs =
-    let h = head c in
-    let k = h.before in (
-      narrow k,
-      filled-room (table_of k) (cursor-of k).tick (entry k).args.b k.loop.tick k.loop.at _ k.loop.out k.loop.inv.4 k.loop.inv.2
-          h.loop-test.taken (enough k),
+    let k = loop-from-joined3 c.before in
+    let p = k.before in (
+      cores-of p,
+      filled-room (table_of p) (first_of p) (last_of p) k.loop.registers.tick k.loop.at (found_of p) k.loop.out k.loop.inv.3
+          (then2-from-put-arg c).if2.true (then1-from-places2 (step c.before).before).if1.taken (enough-of p),
     )
 
 add_at : tie.Need-overflow-add-at invariant-loop decreases-loop
 add_at c =
-    let h = head c.before.before.before in
-    let k = h.before in
-    let short : k.loop.tick - (cursor-of k).tick ≤ 1000000000 = omega (arith, h.loop-test.taken, (entry k).pre.2, (entry k).pre.0.fit.limit) in
-    omega (arith, k.loop.inv.4.next, narrow k, mul-le-mul short (narrow k))
-
-add-tick : tie.Need-overflow-add-tick invariant-loop decreases-loop
-add-tick c =
-    let h = head c.before.before.before in
-    let k = h.before in
-    omega (arith, h.loop-test.taken, (entry k).pre.2, (entry k).pre.0.fit.limit)
+    let k = (then1-from-slice-known2 c).before.before in
+    let p = k.before in
+    let short : k.loop.registers.tick - first_of p ≤ 1000000000 = omega (arith, small (then1-from-slice-known2 c)) in
+    omega (arith, k.loop.inv.3.next, cores-of p, mul-le-mul short (cores-of p))
 
 loop-less : tie.Need-loop-smaller invariant-loop decreases-loop
-loop-less c = let h = head c.before.before.before in omega (arith, h.loop-test.taken)
+loop-less c = omega (arith, tick (then2-from-slice-known2 c).before, (then1-from-slice-known2 c).if1.true)
 
 loop-again : tie.Need-loop-preserved invariant-loop decreases-loop
 loop-again c =
-    let p = c.before.before in
-    let a = p.before in
-    let h = head a in
-    let k = h.before in
-    let x = shown (stepped (row_in a)) in (
-      record {
-        fit = k.loop.inv.0.fit;
-        numbers = refl;
-        represents = x.represents;
-        from = omega (arith, x.after);
-        shows = λ w l m. x.shows w (omega arith) m;
-      },
-      fresh (row_in a),
-      omega (arith, k.loop.inv.2),
-      omega (arith, h.loop-test.taken),
-      filled_more (table_of k) (cursor-of k).tick (entry k).args.b k.loop.tick k.loop.at _ _ k.loop.out _ (row_in a).row-of.result
-          k.loop.inv.4
-          k.loop.inv.2 h.loop-test.taken (enough k) (row-of-tick (row_in a)) refl p.put.ensures,
+    let then1 = then1-from-slice-known2 c in
+    let j = joined3 c.before in
+    let g = (then2-from-slice-known2 c).before in
+    let k = loop-from-places2 g.before in
+    let p = k.before in
+    let t = table_of p in
+    let s = state-of k in
+    let row = subst₂ (λ (x y : ℕ). RowFor t x y j.if3.row) (claims g) (turned g) (row-of j) in (
+      on g,
+      row_kept j,
+      omega (arith, tick g, then1.if1.taken),
+      rw (tick g)
+          (filled_more t (first_of p) (last_of p) k.loop.registers.tick k.loop.at _ (found_of p) k.loop.out _ j.if3.row
+          k.loop.inv.3 (then2-from-slice-known2 c).if2.true then1.if1.taken (enough-of p)
+          (row-bytes t (fit_of p) (after_events (loaded_numbers t) s) (even_at_tick (loaded_numbers t) s) (next_event_after (loaded_numbers t) s) k.loop.registers.tick j.if3.row
+          (handled-after t (fit_of p) s k.loop.inv.0 (met then1)) row)
+          refl c.before.before.put.ensures),
+    )
+
+loop-less-2 : tie.Need-loop-smaller-2 invariant-loop decreases-loop
+loop-less-2 c = omega (arith, tick c.before, (then1-from-places2 c.before.before).if1.taken)
+
+loop-again-2 : tie.Need-loop-preserved-2 invariant-loop decreases-loop
+loop-again-2 c =
+    let g = c.before in
+    let k = loop-from-places2 g.before in
+    let p = k.before in (
+      on g,
+      k.loop.inv.1,
+      omega (arith, tick g, (then1-from-places2 c.before.before).if1.taken),
+      subst (λ (n : ℕ). Filled (table_of p) (first_of p) n k.loop.at (found_of p) k.loop.out) (sym (tick g))
+          (filled-pass (table_of p) (first_of p) k.loop.registers.tick k.loop.at (found_of p) k.loop.out k.loop.inv.3 c.if2.false),
     )
 
 same_length : tie.Need-same-length invariant-loop decreases-loop
-same_length c = c.before.loop.invariant.4.size
+same_length c = c.before.before.loop.invariant.3.size
 
 returns : tie.Need-returns invariant-loop decreases-loop
 returns c =
-    let k = c.before in
-    let e : k.loop.tick ≡ (entry k).args.b = omega (arith, k.loop.invariant.3, c.loop-test.false) in
-    k.loop.invariant.4.bytes ∙ ap (λ (n : ℕ). withRows (loadedTable (table_of k)) (cursor-of k).tick n (entry k).args.out.now) e
+    let k = c.before.before in
+    let p = k.before in
+    let e : k.loop.registers.tick ≡ last_of p = omega (arith, k.loop.invariant.2, c.if1.false) in
+    k.loop.invariant.3.bytes ∙ ap (λ (n : ℕ). with_rows (loaded_table (table_of p)) (first_of p) n (found_of p)) e
 
 pub write_spec : {M : Type 1} → statement M
 write_spec =
-    tie.close (tie.spec invariant-loop decreases-loop (λ c. search rules) (λ c κs. search rules) show-requires loop-holds
-    with-row-requires row-of-requires put-requires add_at add-tick loop-less loop-again same_length returns)
+    tie.close
+    (tie.spec
+    invariant-loop
+    decreases-loop
+    cast-cores
+    columns-of-requires
+    show-requires
+    start-requires
+    loop-holds
+    step-requires
+    show-requires-2
+    put-requires
+    add_at
+    loop-less
+    loop-again
+    loop-less-2
+    loop-again-2
+    same_length
+    returns)

@@ -3,17 +3,20 @@
 use mathlib.Core.Path.{sym, ◌∙◌}
 use borrow.Author.Rules.{rules}
 use borrow.Author.Tests.{eq-eqb, ne_eqb}
-use Rattle.plan_check.specs.CheckRow.{answerAt}
+use Rattle.plan_check.specs.CheckRow.{answer_at}
 use Rattle.plan_check.proofs.SuppliedPlan.answer_at.Statement.{statement}
 use Rattle.plan_check.proofs.SuppliedPlan.answer_at.Tie as tie
 
+final-answer-requires : tie.Need-final-answer-requires
+final-answer-requires c κs = search rules
+
 returns : tie.Need-returns
-unfolding answerAt
+unfolding answer_at
 returns c = simp (c.final-answer.ensures, eq-eqb _ _ (c.before.if1.true ∙ c.before.before.before.requires.1))
 
 returns-2 : tie.Need-returns-2
-unfolding answerAt
+unfolding answer_at
 returns-2 c = simp (ne_eqb _ _ (λ e. c.if1.false (e ∙ sym c.before.before.requires.1)))
 
 pub answer-at-spec : {M : Type 1} → statement M
-answer-at-spec = tie.close (tie.spec (λ c κs. search rules) returns returns-2)
+answer-at-spec = tie.close (tie.spec final-answer-requires returns returns-2)

@@ -8,6 +8,12 @@ use Rattle.plan_check.proofs.Taking.{take-of}
 use Rattle.plan_check.proofs.SuppliedPlan.check_row.Statement.{statement}
 use Rattle.plan_check.proofs.SuppliedPlan.check_row.Tie as tie
 
+extent-requires : tie.Need-extent-requires
+extent-requires c κs = search rules
+
+refused-requires : tie.Need-refused-requires
+refused-requires c κs = search rules
+
 returns : tie.Need-returns
 returns c =
     let l = c.before.before.before in
@@ -27,4 +33,4 @@ returns-2 c =
     take-of s.args.self s.args.row.now c.enter.result c.enter.ensures.0
 
 pub check-row-spec : {M : Type 1} → statement M
-check-row-spec = tie.close (tie.spec (λ c κs. search rules) (λ c κs. search rules) returns enter-requires returns-2)
+check-row-spec = tie.close (tie.spec extent-requires refused-requires returns enter-requires returns-2)

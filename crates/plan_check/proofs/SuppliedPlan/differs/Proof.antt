@@ -8,15 +8,15 @@ use lib.ListN.{get_or}
 use borrow.Author.Count.{below_more}
 use borrow.Author.Rules.{rules}
 use Rattle.model.proofs.Search.{any_of, none_any}
-use Rattle.run.specs.Run.{phaseAt}
-use Rattle.plan_check.specs.Numbers.{differs, samePhase}
-use Rattle.plan_check.specs.State.{notedAt, pastNote}
+use Rattle.run.specs.Run.{phase_at}
+use Rattle.plan_check.specs.Numbers.{differs, same_phase}
+use Rattle.plan_check.specs.State.{noted_at, past_note}
 use Rattle.plan_check.specs.declared.SuppliedPlan.{SuppliedPlan}
 use Rattle.plan_check.proofs.SuppliedPlan.differs.Statement.{statement}
 use Rattle.plan_check.proofs.SuppliedPlan.differs.Tie as tie
 
 abbrev invariant-loop : tie.invariant-loop
-invariant-loop run noted count i₀ i = (i ≤ count) × ((k : ℕ) → k < i → not (samePhase (phaseAt run k) (get_or noted k pastNote).phase) ≡ false)
+invariant-loop run noted count i₀ i = (i ≤ count) × ((k : ℕ) → k < i → not (same_phase (phase_at run k) (get_or noted k past_note).phase) ≡ false)
 
 abbrev decreases-loop : tie.decreases-loop
 decreases-loop run noted count i₀ i = count - i
@@ -30,10 +30,31 @@ entry s = s.before.before.before
 
 -- place p has another phase than is recorded
 abbrev otherwise : SuppliedPlan → ℕ → Bool
-otherwise w p = not (samePhase (phaseAt w.run p) (notedAt w p))
+otherwise w p = not (same_phase (phase_at w.run p) (noted_at w p))
 
 loop-holds : tie.Need-loop-init invariant-loop decreases-loop
 loop-holds c = (search rules, λ (k : ℕ) h. absurd (omega arith))
+
+mul-task : tie.Need-overflow-mul-task invariant-loop decreases-loop
+mul-task c = omega arith
+
+element-copy-out-task : tie.Need-element-copy-out-task invariant-loop decreases-loop
+element-copy-out-task c = omega arith
+
+mul-note : tie.Need-overflow-mul-note invariant-loop decreases-loop
+mul-note c = omega arith
+
+array-copy-out-note : tie.Need-array-copy-out-note invariant-loop decreases-loop
+array-copy-out-note c = omega arith
+
+same-requires : tie.Need-same-requires invariant-loop decreases-loop
+same-requires c κs = search rules
+
+add-i : tie.Need-overflow-add-i invariant-loop decreases-loop
+add-i c = omega arith
+
+loop-less : tie.Need-loop-smaller invariant-loop decreases-loop
+loop-less c = omega arith
 
 loop-again : tie.Need-loop-preserved invariant-loop decreases-loop
 loop-again c =
@@ -56,5 +77,18 @@ returns-2 c =
 
 pub differs-spec : {M : Type 1} → statement M
 differs-spec =
-    tie.close (tie.spec invariant-loop decreases-loop loop-holds (λ c. omega arith) (λ c. omega arith) (λ c. omega arith)
-    (λ c. omega arith) (λ c κs. search rules) (λ c. omega arith) (λ c. omega arith) loop-again returns returns-2)
+    tie.close
+    (tie.spec
+    invariant-loop
+    decreases-loop
+    loop-holds
+    mul-task
+    element-copy-out-task
+    mul-note
+    array-copy-out-note
+    same-requires
+    add-i
+    loop-less
+    loop-again
+    returns
+    returns-2)

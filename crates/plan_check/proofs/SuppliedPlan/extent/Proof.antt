@@ -8,6 +8,12 @@ use Rattle.plan_check.proofs.PlanExtent.{extent-refused, number-14}
 use Rattle.plan_check.proofs.SuppliedPlan.extent.Statement.{statement}
 use Rattle.plan_check.proofs.SuppliedPlan.extent.Tie as tie
 
+out-requires : tie.Need-out-requires
+out-requires c κs = search rules
+
+no-extent-requires : tie.Need-no-extent-requires
+no-extent-requires c κs = search rules
+
 returns : tie.Need-returns
 returns c =
     let o = c.before.before in
@@ -19,6 +25,8 @@ returns c =
 by-tasks-requires : tie.Need-by-tasks-requires
 by-tasks-requires c κs = sym c.before.out.ensures ∙ c.if1.false
 
+returns-2 : tie.Need-returns-2
+returns-2 c = search rules
+
 pub extent-spec : {M : Type 1} → statement M
-extent-spec = tie.close (tie.spec (λ c κs. search rules) (λ c κs. search rules) returns by-tasks-requires
-    (λ c. search rules))
+extent-spec = tie.close (tie.spec out-requires no-extent-requires returns by-tasks-requires returns-2)

@@ -1,21 +1,27 @@
 -- `plan_check::SuppliedPlan::final_answer` meets its contract: the branches are the tests of the definition, in its order.
 -- Assumes nothing.
 use borrow.Author.Rules.{rules}
-use Rattle.plan_check.specs.CheckRow.{finalAnswer}
+use Rattle.plan_check.specs.CheckRow.{final_answer}
 use Rattle.plan_check.proofs.SuppliedPlan.final_answer.Statement.{statement}
 use Rattle.plan_check.proofs.SuppliedPlan.final_answer.Tie as tie
 
+missed-requires : tie.Need-missed-requires
+missed-requires c κs = search rules
+
 returns : tie.Need-returns
-unfolding finalAnswer
+unfolding final_answer
 returns c = simp (← c.before.missed.ensures, c.if1.true)
 
+differs-requires : tie.Need-differs-requires
+differs-requires c κs = search rules
+
 returns-2 : tie.Need-returns-2
-unfolding finalAnswer
+unfolding final_answer
 returns-2 c = simp (← c.before.before.before.missed.ensures, c.before.before.if1.false, ← c.before.differs.ensures, c.if2.true)
 
 returns-3 : tie.Need-returns-3
-unfolding finalAnswer
+unfolding final_answer
 returns-3 c = simp (← c.before.before.before.missed.ensures, c.before.before.if1.false, ← c.before.differs.ensures, c.if2.false)
 
 pub final-answer-spec : {M : Type 1} → statement M
-final-answer-spec = tie.close (tie.spec (λ c κs. search rules) returns (λ c κs. search rules) returns-2 returns-3)
+final-answer-spec = tie.close (tie.spec missed-requires returns differs-requires returns-2 returns-3)

@@ -7,13 +7,13 @@ use native.Mathlib.Omega.{arith}
 use borrow.Author.Count.{below_more}
 use borrow.Author.Rules.{rules}
 use Rattle.model.proofs.Search.{any_of, none_any}
-use Rattle.run.specs.Run.{phaseAt}
-use Rattle.plan_check.specs.Numbers.{unreachablePhase}
+use Rattle.run.specs.Run.{phase_at}
+use Rattle.plan_check.specs.Numbers.{unreachable_phase}
 use Rattle.plan_check.proofs.bounds.any_unreachable.Statement.{statement}
 use Rattle.plan_check.proofs.bounds.any_unreachable.Tie as tie
 
 abbrev invariant-loop : tie.invariant-loop
-invariant-loop run count i₀ i = (i ≤ count) × ((k : ℕ) → k < i → unreachablePhase (phaseAt run k) ≡ false)
+invariant-loop run count i₀ i = (i ≤ count) × ((k : ℕ) → k < i → unreachable_phase (phase_at run k) ≡ false)
 
 abbrev decreases-loop : tie.decreases-loop
 decreases-loop run count i₀ i = count - i
@@ -25,11 +25,26 @@ loop c = c.before.before.before
 loop-holds : tie.Need-loop-init invariant-loop decreases-loop
 loop-holds c = (search rules, λ (k : ℕ) h. absurd (omega arith))
 
+mul-task : tie.Need-overflow-mul-task invariant-loop decreases-loop
+mul-task c = omega arith
+
+element-copy-out-task : tie.Need-element-copy-out-task invariant-loop decreases-loop
+element-copy-out-task c = omega arith
+
+unreachable-requires : tie.Need-unreachable-requires invariant-loop decreases-loop
+unreachable-requires c κs = search rules
+
 returns : tie.Need-returns invariant-loop decreases-loop
 returns c =
     let s = loop c.before in
     let r = s.before.args.t1 in
-    sym (any_of r.count (λ p. unreachablePhase (phaseAt r p)) s.loop.i (omega arith) (sym c.before.unreachable.ensures ∙ c.if1.true))
+    sym (any_of r.count (λ p. unreachable_phase (phase_at r p)) s.loop.i (omega arith) (sym c.before.unreachable.ensures ∙ c.if1.true))
+
+add-i : tie.Need-overflow-add-i invariant-loop decreases-loop
+add-i c = omega arith
+
+loop-less : tie.Need-loop-smaller invariant-loop decreases-loop
+loop-less c = omega arith
 
 loop-again : tie.Need-loop-preserved invariant-loop decreases-loop
 loop-again c = (omega arith, below_more _ _ (loop c.before).loop.inv.1 (sym c.before.unreachable.ensures ∙ c.if1.false))
@@ -39,9 +54,20 @@ returns-2 c =
     let s = c.before in
     let r = s.before.args.t1 in
     let e : s.loop.i ≡ r.count = omega arith in
-    sym (none_any r.count (λ p. unreachablePhase (phaseAt r p)) (rw e at s.loop.invariant.1))
+    sym (none_any r.count (λ p. unreachable_phase (phase_at r p)) (rw e at s.loop.invariant.1))
 
 pub any-unreachable-spec : {M : Type 1} → statement M
 any-unreachable-spec =
-    tie.close (tie.spec invariant-loop decreases-loop loop-holds (λ c. omega arith) (λ c. omega arith) (λ c κs. search rules) returns
-    (λ c. omega arith) (λ c. omega arith) loop-again returns-2)
+    tie.close
+    (tie.spec
+    invariant-loop
+    decreases-loop
+    loop-holds
+    mul-task
+    element-copy-out-task
+    unreachable-requires
+    returns
+    add-i
+    loop-less
+    loop-again
+    returns-2)

@@ -7,13 +7,13 @@ use native.Mathlib.Omega.{arith}
 use borrow.Author.Count.{below_more}
 use borrow.Author.Rules.{rules}
 use Rattle.model.proofs.Search.{any_of, none_any}
-use Rattle.run.specs.Numbers.{lateAt}
+use Rattle.run.specs.Numbers.{late_at}
 use Rattle.plan_check.specs.Numbers.{missed}
 use Rattle.plan_check.proofs.bounds.missed.Statement.{statement}
 use Rattle.plan_check.proofs.bounds.missed.Tie as tie
 
 abbrev invariant-loop : tie.invariant-loop
-invariant-loop run count i₀ i = (i ≤ count) × ((k : ℕ) → k < i → lateAt run k ≡ false)
+invariant-loop run count i₀ i = (i ≤ count) × ((k : ℕ) → k < i → late_at run k ≡ false)
 
 abbrev decreases-loop : tie.decreases-loop
 decreases-loop run count i₀ i = count - i
@@ -25,12 +25,27 @@ loop c = c.before.before.before
 loop-holds : tie.Need-loop-init invariant-loop decreases-loop
 loop-holds c = (search rules, λ (k : ℕ) h. absurd (omega arith))
 
+mul-task : tie.Need-overflow-mul-task invariant-loop decreases-loop
+mul-task c = omega arith
+
+element-copy-out-task : tie.Need-element-copy-out-task invariant-loop decreases-loop
+element-copy-out-task c = omega arith
+
+late-requires : tie.Need-late-requires invariant-loop decreases-loop
+late-requires c κs = search rules
+
 returns : tie.Need-returns invariant-loop decreases-loop
 unfolding missed
 returns c =
     let s = loop c.before in
     let r = s.before.args.t1 in
-    sym (any_of r.count (lateAt r) s.loop.i (omega arith) (sym c.before.late.ensures ∙ c.if1.true))
+    sym (any_of r.count (late_at r) s.loop.i (omega arith) (sym c.before.late.ensures ∙ c.if1.true))
+
+add-i : tie.Need-overflow-add-i invariant-loop decreases-loop
+add-i c = omega arith
+
+loop-less : tie.Need-loop-smaller invariant-loop decreases-loop
+loop-less c = omega arith
 
 loop-again : tie.Need-loop-preserved invariant-loop decreases-loop
 loop-again c = (omega arith, below_more _ _ (loop c.before).loop.inv.1 (sym c.before.late.ensures ∙ c.if1.false))
@@ -41,9 +56,20 @@ returns-2 c =
     let s = c.before in
     let r = s.before.args.t1 in
     let e : s.loop.i ≡ r.count = omega arith in
-    sym (none_any r.count (lateAt r) (rw e at s.loop.invariant.1))
+    sym (none_any r.count (late_at r) (rw e at s.loop.invariant.1))
 
 pub missed-spec : {M : Type 1} → statement M
 missed-spec =
-    tie.close (tie.spec invariant-loop decreases-loop loop-holds (λ c. omega arith) (λ c. omega arith) (λ c κs. search rules) returns
-    (λ c. omega arith) (λ c. omega arith) loop-again returns-2)
+    tie.close
+    (tie.spec
+    invariant-loop
+    decreases-loop
+    loop-holds
+    mul-task
+    element-copy-out-task
+    late-requires
+    returns
+    add-i
+    loop-less
+    loop-again
+    returns-2)

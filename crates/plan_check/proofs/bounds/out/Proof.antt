@@ -17,6 +17,9 @@ entry c = c.before.before
 passes : (c : tie.Else1) → runOut (entry c).args.run ≡ false
 passes c = sym c.before.out.ensures ∙ c.if1.false
 
+out-requires : tie.Need-out-requires
+out-requires c κs = search rules
+
 returns : tie.Need-returns
 returns c = sym (out-run c.before.before.args.run (sym c.before.out.ensures ∙ c.if1.true))
 
@@ -32,4 +35,4 @@ returns-3 c =
     c.any-unreachable.ensures ∙ sym (out-unreachable (entry e.before.before).args.run (passes e.before.before) e.if2.false)
 
 pub out-spec : {M : Type 1} → statement M
-out-spec = tie.close (tie.spec (λ c κs. search rules) returns returns-2 any-unreachable-requires returns-3)
+out-spec = tie.close (tie.spec out-requires returns returns-2 any-unreachable-requires returns-3)

@@ -6,11 +6,11 @@ use Prim.Native.Nat.{◌+◌}
 use native.Mathlib.Omega.{arith}
 use borrow.Author.Rules.{rules}
 use borrow.Author.Tests.{ltb-false}
-use Rattle.table.specs.Limits.{horizonOut, mostHorizon}
+use Rattle.table.specs.Limits.{horizon_out, most_horizon}
 use Rattle.run.proofs.RunOut.{few}
-use Rattle.run.specs.Numbers.{runOut}
+use Rattle.run.specs.Numbers.{run_out}
 use Rattle.plan_check.specs.Extent.{ExtentOf}
-use Rattle.plan_check.specs.State.{horizonIn}
+use Rattle.plan_check.specs.State.{horizon_in}
 use Rattle.plan_check.proofs.PlanExtent.{extent-near, extent-refused, horizon-near, horizon-out, number-9, number-none, plain-within, some-tasks}
 use Rattle.plan_check.proofs.StateTests.{passes-run}
 use Rattle.plan_check.proofs.extent.by_tasks.Statement.{statement}
@@ -19,15 +19,13 @@ use Rattle.plan_check.proofs.extent.by_tasks.Tie as tie
 -- the test of the horizon
 far :
     (c : tie.After-horizon-out)
-    → horizonOut (c.before.before.last-start.result + c.before.hyperperiod.result)
-    ≡ horizonOut (horizonIn c.before.before.before.before.args.run)
+    → horizon_out (c.before.before.last-start.result + c.before.hyperperiod.result) ≡ horizon_out (horizon_in c.before.before.before.before.args.run)
 far c =
     let s = c.before.before.before in
-    horizon-out s.before.args.run s.parameters.result _ _ s.parameters.ensures.1 c.before.before.last-start.ensures
-    c.before.hyperperiod.ensures
+    horizon-out s.before.args.run s.parameters.result _ _ s.parameters.ensures.1 c.before.before.last-start.ensures c.before.hyperperiod.ensures
 
 -- the run passes 14
-passed : (s : tie.Start) → runOut s.args.run ≡ false
+passed : (s : tie.Start) → run_out s.args.run ≡ false
 passed s = passes-run s.args.run s.requires
 
 parameters-requires : tie.Need-parameters-requires
@@ -45,6 +43,12 @@ hyperperiod-requires c κs =
     let r = s.args.run in
     (few r (passed s), plain-within r (passed s) c.before.parameters.result c.before.parameters.ensures.1)
 
+horizon-out-requires : tie.Need-horizon-out-requires
+horizon-out-requires c κs = search rules
+
+no-extent-requires : tie.Need-no-extent-requires
+no-extent-requires c κs = search rules
+
 returns : tie.Need-returns
 returns c =
     let t = c.before.before in
@@ -55,7 +59,7 @@ returns c =
 add-t7 : tie.Need-overflow-add-t7
 add-t7 c =
     let t = c.before in
-    omega (arith, ltb-false mostHorizon (t.before.before.last-start.result + t.before.hyperperiod.result) (sym t.horizon-out.ensures ∙ c.if1.false))
+    omega (arith, ltb-false most_horizon (t.before.before.last-start.result + t.before.hyperperiod.result) (sym t.horizon-out.ensures ∙ c.if1.false))
 
 returns-2 : tie.Need-returns-2
 returns-2 c =
@@ -64,11 +68,18 @@ returns-2 c =
     let r = s.before.args.run in
     let near = sym t.horizon-out.ensures ∙ c.if1.false in
     let n = number-none r s.before.requires (sym (far t) ∙ near) in
-    let ready = horizon-near r s.parameters.result _ _ s.parameters.ensures.1 t.before.before.last-start.ensures
-    t.before.hyperperiod.ensures near s.before.requires in
+    let ready = horizon-near r s.parameters.result _ _ s.parameters.ensures.1 t.before.before.last-start.ensures t.before.hyperperiod.ensures near s.before.requires in
     record { value = extent-near r _ _ n ready; number = sym n; ready = λ _. ready }
 
 pub by-tasks-spec : {M : Type 1} → statement M
 by-tasks-spec =
-    tie.close (tie.spec parameters-requires last-start-requires hyperperiod-requires (λ c κs. search rules)
-    (λ c κs. search rules) returns add-t7 returns-2)
+    tie.close
+    (tie.spec
+    parameters-requires
+    last-start-requires
+    hyperperiod-requires
+    horizon-out-requires
+    no-extent-requires
+    returns
+    add-t7
+    returns-2)

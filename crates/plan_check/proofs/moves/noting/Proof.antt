@@ -8,16 +8,16 @@ use lib.ListN.{drop, get_or, length, length-map, take}
 use lib.Seq.{length-take-le}
 use borrow.Author.Rules.{rules}
 use Rattle.model.proofs.Lists.{map_more}
-use Rattle.model.specs.Sizes.{mostTasks}
-use Rattle.phase.specs.Task.{pastEnd}
+use Rattle.model.specs.Sizes.{most_tasks}
+use Rattle.phase.specs.Task.{past_end}
 use Rattle.run.proofs.Written.{take_more, written-more}
-use Rattle.plan_check.specs.State.{note_of, pastNote}
+use Rattle.plan_check.specs.State.{note_of, past_note}
 use Rattle.plan_check.specs.declared.Note.{Note}
 use Rattle.plan_check.proofs.moves.noting.Statement.{statement}
 use Rattle.plan_check.proofs.moves.noting.Tie as tie
 
 abbrev invariant-loop : tie.invariant-loop
-invariant-loop run notes₀ count i₀ notes i = (i ≤ count) × ((count ≤ mostTasks) × (notes ≡ map note_of (take i run.tasks) ++ drop i notes₀))
+invariant-loop run notes₀ count i₀ notes i = (i ≤ count) × ((count ≤ most_tasks) × (notes ≡ map note_of (take i run.tasks) ++ drop i notes₀))
 
 abbrev decreases-loop : tie.decreases-loop
 decreases-loop run notes₀ count i₀ notes i = count - i
@@ -25,18 +25,36 @@ decreases-loop run notes₀ count i₀ notes i = count - i
 loop-holds : tie.Need-loop-init invariant-loop decreases-loop
 loop-holds c = (search rules, (omega arith, refl))
 
+mul-task : tie.Need-overflow-mul-task invariant-loop decreases-loop
+mul-task c = omega arith
+
+element-copy-out-task : tie.Need-element-copy-out-task invariant-loop decreases-loop
+element-copy-out-task c = omega arith
+
+mul-notes : tie.Need-overflow-mul-notes invariant-loop decreases-loop
+mul-notes c = omega arith
+
+array-set-from-notes : tie.Need-array-set-from-notes invariant-loop decreases-loop
+array-set-from-notes c = omega arith
+
+add-i : tie.Need-overflow-add-i invariant-loop decreases-loop
+add-i c = omega arith
+
+loop-less : tie.Need-loop-smaller invariant-loop decreases-loop
+loop-less c = omega arith
+
 loop-again : tie.Need-loop-preserved invariant-loop decreases-loop
 loop-again c =
     let s = c.before.before in
     let r = s.before.args.t1 in
     let old = s.before.args.noted in
     let i = s.loop.i in
-    let len : length r.tasks ≡ mostTasks = simp length-map at s.before.well-formed.0.1.1.1.1.1.1.1.0.1.0.1 in
-    let room : length old ≡ mostTasks = search rules in
-    let more = written-more (map note_of (take i r.tasks)) old i (note_of (get_or r.tasks i pastEnd)) pastNote
+    let len : length r.tasks ≡ most_tasks = simp length-map at s.before.well-formed.0.1.1.1.1.1.1.1.0.1.0.1 in
+    let room : length old ≡ most_tasks = search rules in
+    let more = written-more (map note_of (take i r.tasks)) old i (note_of (get_or r.tasks i past_end)) past_note
     (length-map (take i r.tasks) note_of ∙ length-take-le i r.tasks (omega arith)) (omega arith) in
-    let on : map note_of (take (i + 1) r.tasks) ≡ map note_of (take i r.tasks) ++ (note_of (get_or r.tasks i pastEnd) ∷ []) =
-    ap (map note_of) (take_more r.tasks i pastEnd (omega arith)) ∙ map_more note_of (take i r.tasks) (get_or r.tasks i pastEnd) in
+    let on : map note_of (take (i + 1) r.tasks) ≡ map note_of (take i r.tasks) ++ (note_of (get_or r.tasks i past_end) ∷ []) =
+    ap (map note_of) (take_more r.tasks i past_end (omega arith)) ∙ map_more note_of (take i r.tasks) (get_or r.tasks i past_end) in
     (omega arith, (omega arith, simp s.loop.invariant.1.1 (more ∙ ap (λ (l : List Note). l ++ drop (i + 1) old) (sym on))))
 
 returns : tie.Need-returns invariant-loop decreases-loop
@@ -48,5 +66,16 @@ returns c =
 
 pub noting-spec : {M : Type 1} → statement M
 noting-spec =
-    tie.close (tie.spec invariant-loop decreases-loop loop-holds (λ c. omega arith) (λ c. omega arith) (λ c. omega arith)
-    (λ c. omega arith) (λ c. omega arith) (λ c. omega arith) loop-again returns)
+    tie.close
+    (tie.spec
+    invariant-loop
+    decreases-loop
+    loop-holds
+    mul-task
+    element-copy-out-task
+    mul-notes
+    array-set-from-notes
+    add-i
+    loop-less
+    loop-again
+    returns)

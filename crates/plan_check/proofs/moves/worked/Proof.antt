@@ -1,23 +1,43 @@
 -- `plan_check::moves::worked` meets its contract. The loop's invariant: the run is the one given with the tasks of the places passed one tick on.
 -- Assumes nothing.
+use mathlib.Core.Bool.{false}
+use mathlib.Core.List.{List}
 use mathlib.Core.Path.{ap, refl, ◌∙◌, ◌≡◌}
-use Prim.Native.Nat.{◌-◌, ◌≤◌}
+use Prim.Native.Nat.{◌-◌, suc, ℕ, ◌≤◌}
 use native.Mathlib.Nat.{le_refl}
 use native.Mathlib.Numerals.{add-one}
 use native.Mathlib.Omega.{arith}
+use lib.Dec.{ltb}
 use lib.ListN.{get_or, length, length-map}
 use borrow.Author.Rules.{rules}
-use Rattle.model.specs.Sizes.{mostTasks}
-use Rattle.phase.specs.Task.{pastEnd}
-use Rattle.run.proofs.Places.{mapFirst-past, mapFirst-step}
+use Rattle.model.specs.Sizes.{most_tasks}
+use Rattle.phase.specs.Task.{next_task, past_end}
+use Rattle.phase.specs.declared.Task.{Task}
+use Rattle.run.proofs.Places.{map_first-past, map_first-step}
 use Rattle.run.proofs.RunOut.{few, has_room}
-use Rattle.run.specs.Run.{mapFirst}
-use Rattle.plan_check.proofs.Working.{moving, worked-all, workedTo}
+use Rattle.run.specs.Run.{map_first, rule_in}
+use Rattle.run.specs.declared.Run.{Run}
+use Rattle.plan_check.specs.Shown.{worked_with}
 use Rattle.plan_check.proofs.moves.worked.Statement.{statement}
 use Rattle.plan_check.proofs.moves.worked.Tie as tie
 
+-- what a tick makes of the task at place p in a row of these counts
+abbrev moving : Run → List ℕ → ℕ → Task → Task
+moving r ns p t = next_task (rule_in r) false (ltb 0 (get_or ns (suc p) 0)) false false t
+
+-- the run with its first n tasks one tick on
+abbrev worked_to : Run → List ℕ → ℕ → Run
+worked_to r ns n = record {
+  rule = r.rule;
+  cores = r.cores;
+  fence = r.fence;
+  withdrawn = r.withdrawn;
+  count = r.count;
+  tasks = map_first (moving r ns) n r.tasks;
+}
+
 abbrev invariant-loop : tie.invariant-loop
-invariant-loop cells next₀ rule count i₀ next i = (i ≤ count) × ((count ≤ mostTasks) × (next ≡ workedTo next₀ cells i))
+invariant-loop cells next₀ rule count i₀ next i = (i ≤ count) × ((count ≤ most_tasks) × (next ≡ worked_to next₀ cells i))
 
 abbrev decreases-loop : tie.decreases-loop
 decreases-loop cells next₀ rule count i₀ next i = count - i
@@ -27,16 +47,39 @@ abbrev loop : tie.After-next-arg invariant-loop decreases-loop → tie.At-loop i
 loop c = c.before.before.before
 
 loop-holds : tie.Need-loop-init invariant-loop decreases-loop
-unfolding mapFirst
+unfolding map_first
 loop-holds c = (search rules, (few c.args.run c.requires, refl))
+
+mul-task : tie.Need-overflow-mul-task invariant-loop decreases-loop
+mul-task c = omega arith
+
+element-copy-out-task : tie.Need-element-copy-out-task invariant-loop decreases-loop
+element-copy-out-task c = omega arith
+
+add-next : tie.Need-overflow-add-next invariant-loop decreases-loop
+add-next c = omega arith
+
+element-copy-out-next : tie.Need-element-copy-out-next invariant-loop decreases-loop
+element-copy-out-next c = omega arith
 
 next-requires : tie.Need-next-requires invariant-loop decreases-loop
 next-requires c κs =
     let s = loop c in
     let a = s.before.args in
     let i = s.loop.i in
-    simp (s.loop.inv.1.1, mapFirst-past (moving a.run a.cells.now) i a.run.tasks i pastEnd (le_refl i))
-    (has_room a.run s.before.pre i (omega arith))
+    simp (s.loop.inv.1.1, map_first-past (moving a.run a.cells.now) i a.run.tasks i past_end (le_refl i)) (has_room a.run s.before.pre i (omega arith))
+
+mul-moved : tie.Need-overflow-mul-moved invariant-loop decreases-loop
+mul-moved c = omega arith
+
+element-set-from-moved : tie.Need-element-set-from-moved invariant-loop decreases-loop
+element-set-from-moved c = omega arith
+
+add-i : tie.Need-overflow-add-i invariant-loop decreases-loop
+add-i c = omega arith
+
+loop-less : tie.Need-loop-smaller invariant-loop decreases-loop
+loop-less c = omega arith
 
 loop-again : tie.Need-loop-preserved invariant-loop decreases-loop
 loop-again c =
@@ -45,20 +88,34 @@ loop-again c =
     let r = a.run in
     let i = s.loop.i in
     let f = moving r a.cells.now in
-    let len : length r.tasks ≡ mostTasks = simp length-map at s.before.good.0.1.1.1.1.1.1.1.0.1.0.1 in
-    let past = mapFirst-past f i r.tasks i pastEnd (le_refl i) in
-    let e : c.next.result ≡ f i (get_or r.tasks i pastEnd) = simp (c.next.ensures, s.loop.inv.1.1, past, add-one) in
-    (omega arith, (omega arith, simp (s.loop.inv.1.1, e, add-one, mapFirst-step f i r.tasks pastEnd (omega arith))))
+    let len : length r.tasks ≡ most_tasks = simp length-map at s.before.good.0.1.1.1.1.1.1.1.0.1.0.1 in
+    let past = map_first-past f i r.tasks i past_end (le_refl i) in
+    let e : c.next.result ≡ f i (get_or r.tasks i past_end) = simp (c.next.ensures, s.loop.inv.1.1, past, add-one) in
+    (omega arith, (omega arith, simp (s.loop.inv.1.1, e, add-one, map_first-step f i r.tasks past_end (omega arith))))
 
 returns : tie.Need-returns invariant-loop decreases-loop
+unfolding worked_with
 returns c =
     let s = c.before in
     let a = s.before.args in
     let e : s.loop.i ≡ a.run.count = omega arith in
-    s.loop.invariant.1.1 ∙ (ap (workedTo a.run a.cells.now) e ∙ worked-all a.run a.cells.now)
+    s.loop.invariant.1.1 ∙ ap (worked_to a.run a.cells.now) e
 
 pub worked-spec : {M : Type 1} → statement M
 worked-spec =
-    tie.close (tie.spec invariant-loop decreases-loop loop-holds (λ c. omega arith) (λ c. omega arith) (λ c. omega arith)
-    (λ c. omega arith) next-requires (λ c. omega arith) (λ c. omega arith) (λ c. omega arith) (λ c. omega arith)
-    loop-again returns)
+    tie.close
+    (tie.spec
+    invariant-loop
+    decreases-loop
+    loop-holds
+    mul-task
+    element-copy-out-task
+    add-next
+    element-copy-out-next
+    next-requires
+    mul-moved
+    element-set-from-moved
+    add-i
+    loop-less
+    loop-again
+    returns)

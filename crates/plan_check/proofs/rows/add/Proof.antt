@@ -5,8 +5,17 @@ use borrow.Author.Rules.{rules}
 use Rattle.plan_check.proofs.rows.add.Statement.{statement}
 use Rattle.plan_check.proofs.rows.add.Tie as tie
 
+element-copy-out-cells : tie.Need-element-copy-out-cells
+element-copy-out-cells c = search rules
+
 add-cells : tie.Need-overflow-add-cells
 add-cells c = omega (arith, c.before.requires c.before.args.byte c.before.ranges.byte.fits)
 
+element-write-cells : tie.Need-element-write-cells
+element-write-cells c = search rules
+
+returns : tie.Need-returns
+returns c = search rules
+
 pub add_spec : {M : Type 1} → statement M
-add_spec = tie.close (tie.spec (λ c. search rules) add-cells (λ c. search rules) (λ c. search rules))
+add_spec = tie.close (tie.spec element-copy-out-cells add-cells element-write-cells returns)

@@ -10,14 +10,14 @@ use lib.ListN.{get_or}
 use borrow.Author.Count.{below_more}
 use borrow.Author.Rules.{rules}
 use Rattle.model.proofs.Search.{any_of, none_any}
-use Rattle.run.specs.Run.{placeAt}
+use Rattle.run.specs.Run.{place_at}
 use Rattle.run.specs.declared.Run.{Run}
-use Rattle.plan_check.specs.Shown.{anyWrong, wrongWith}
+use Rattle.plan_check.specs.Shown.{any_wrong, wrong_with}
 use Rattle.plan_check.proofs.rows.any_wrong.Statement.{statement}
 use Rattle.plan_check.proofs.rows.any_wrong.Tie as tie
 
 abbrev invariant-loop : tie.invariant-loop
-invariant-loop cells run count i₀ i = (i ≤ count) × ((k : ℕ) → k < i → wrongWith (placeAt run k) (get_or cells (suc k) 0) ≡ false)
+invariant-loop cells run count i₀ i = (i ≤ count) × ((k : ℕ) → k < i → wrong_with (place_at run k) (get_or cells (suc k) 0) ≡ false)
 
 abbrev decreases-loop : tie.decreases-loop
 decreases-loop cells run count i₀ i = count - i
@@ -30,22 +30,43 @@ abbrev entry : tie.At-loop invariant-loop decreases-loop → tie.Start invariant
 entry s = s.before
 
 -- place p is wrong; the byte of position p + 1 is read at p + 1
-abbrev wrongIn : Run → List ℕ → ℕ → Bool
-wrongIn r ns p = wrongWith (placeAt r p) (get_or ns (suc p) 0)
+abbrev wrong_in : Run → List ℕ → ℕ → Bool
+wrong_in r ns p = wrong_with (place_at r p) (get_or ns (suc p) 0)
 
-at_place : (r : Run) (ns : List ℕ) (p : ℕ) → wrongIn r ns p ≡ wrongWith (placeAt r p) (get_or ns (p + 1) 0)
-at_place r ns p = ap (λ (k : ℕ). wrongWith (placeAt r p) (get_or ns k 0)) (sym (add-one p))
+at_place : (r : Run) (ns : List ℕ) (p : ℕ) → wrong_in r ns p ≡ wrong_with (place_at r p) (get_or ns (p + 1) 0)
+at_place r ns p = ap (λ (k : ℕ). wrong_with (place_at r p) (get_or ns k 0)) (sym (add-one p))
 
 loop-holds : tie.Need-loop-init invariant-loop decreases-loop
 loop-holds c = (search rules, λ (k : ℕ) h. absurd (omega arith))
 
+mul-task : tie.Need-overflow-mul-task invariant-loop decreases-loop
+mul-task c = omega arith
+
+element-copy-out-task : tie.Need-element-copy-out-task invariant-loop decreases-loop
+element-copy-out-task c = omega arith
+
+add-wrong : tie.Need-overflow-add-wrong invariant-loop decreases-loop
+add-wrong c = omega arith
+
+element-copy-out-wrong : tie.Need-element-copy-out-wrong invariant-loop decreases-loop
+element-copy-out-wrong c = omega arith
+
+wrong-requires : tie.Need-wrong-requires invariant-loop decreases-loop
+wrong-requires c κs = search rules
+
 returns : tie.Need-returns invariant-loop decreases-loop
-unfolding anyWrong
+unfolding any_wrong
 returns c =
     let s = loop c.before in
     let r = (entry s).args.t1 in
     let ns = (entry s).args.cells.now in
-    sym (any_of r.count (wrongIn r ns) s.loop.i (omega arith) (at_place r ns s.loop.i ∙ (sym c.before.wrong.ensures ∙ c.if1.true)))
+    sym (any_of r.count (wrong_in r ns) s.loop.i (omega arith) (at_place r ns s.loop.i ∙ (sym c.before.wrong.ensures ∙ c.if1.true)))
+
+add-i : tie.Need-overflow-add-i invariant-loop decreases-loop
+add-i c = omega arith
+
+loop-less : tie.Need-loop-smaller invariant-loop decreases-loop
+loop-less c = omega arith
 
 loop-again : tie.Need-loop-preserved invariant-loop decreases-loop
 loop-again c =
@@ -55,14 +76,27 @@ loop-again c =
     (omega arith, below_more _ _ s.loop.inv.1 (at_place r ns s.loop.i ∙ (sym c.before.wrong.ensures ∙ c.if1.false)))
 
 returns-2 : tie.Need-returns-2 invariant-loop decreases-loop
-unfolding anyWrong
+unfolding any_wrong
 returns-2 c =
     let s = c.before in
     let r = (entry s).args.t1 in
     let e : s.loop.i ≡ r.count = omega arith in
-    sym (none_any r.count (wrongIn r (entry s).args.cells.now) (rw e at s.loop.invariant.1))
+    sym (none_any r.count (wrong_in r (entry s).args.cells.now) (rw e at s.loop.invariant.1))
 
 pub any-wrong-spec : {M : Type 1} → statement M
 any-wrong-spec =
-    tie.close (tie.spec invariant-loop decreases-loop loop-holds (λ c. omega arith) (λ c. omega arith) (λ c. omega arith)
-    (λ c. omega arith) (λ c κs. search rules) returns (λ c. omega arith) (λ c. omega arith) loop-again returns-2)
+    tie.close
+    (tie.spec
+    invariant-loop
+    decreases-loop
+    loop-holds
+    mul-task
+    element-copy-out-task
+    add-wrong
+    element-copy-out-wrong
+    wrong-requires
+    returns
+    add-i
+    loop-less
+    loop-again
+    returns-2)

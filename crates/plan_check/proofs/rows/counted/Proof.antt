@@ -10,16 +10,16 @@ use lib.Seq.{take_all}
 use borrow.Author.Count.{below_more}
 use borrow.Author.Rules.{rules}
 use Rattle.model.proofs.Search.{any_of, none_any}
-use Rattle.model.specs.Sizes.{mostCores}
+use Rattle.model.specs.Sizes.{most_cores}
 use Rattle.plan_check.specs.Plan as plan
-use Rattle.plan_check.specs.Row.{unknownByteAt, anyUnknownByte}
+use Rattle.plan_check.specs.Row.{unknown_byte_at, any_unknown_byte}
 use Rattle.plan_check.proofs.Counting.{Counted, counted-more, counted-most, counted_none}
 use Rattle.plan_check.proofs.rows.counted.Statement.{statement}
 use Rattle.plan_check.proofs.rows.counted.Tie as tie
 
 abbrev invariant-loop : tie.invariant-loop
 invariant-loop row fence count cells₀ core₀ cells core =
-    (core ≤ length row) × ((length row ≤ mostCores) × (((k : ℕ) → k < core → unknownByteAt fence count row k ≡ false) × Counted cells (take core row)))
+    (core ≤ length row) × ((length row ≤ most_cores) × (((k : ℕ) → k < core → unknown_byte_at fence count row k ≡ false) × Counted cells (take core row)))
 
 abbrev decreases-loop : tie.decreases-loop
 decreases-loop row fence count cells₀ core₀ cells core = length row - core
@@ -34,14 +34,23 @@ entry s = s.before.before
 loop-holds : tie.Need-loop-init invariant-loop decreases-loop
 loop-holds c = (search rules, (search rules, (λ (k : ℕ) h. absurd (omega arith), counted_none)))
 
+shared-slice-read-byte : tie.Need-shared-slice-read-byte invariant-loop decreases-loop
+shared-slice-read-byte c = omega arith
+
+cast-unknown-byte : tie.Need-overflow-cast-unknown-byte invariant-loop decreases-loop
+cast-unknown-byte c = omega arith
+
+unknown-byte-requires : tie.Need-unknown-byte-requires invariant-loop decreases-loop
+unknown-byte-requires c κs = omega arith
+
 returns : tie.Need-returns invariant-loop decreases-loop
-unfolding anyUnknownByte
+unfolding any_unknown_byte
 returns c =
     let s = loop c.before in
     let a = (entry s).args in
     record {
       unknown =
-          sym (any_of (length a.row.now) (unknownByteAt a.fence a.count a.row.now) s.loop.core (omega arith)
+          sym (any_of (length a.row.now) (unknown_byte_at a.fence a.count a.row.now) s.loop.core (omega arith)
           (sym c.before.unknown-byte.ensures ∙ c.if1.true));
       counted = λ e. absurd (true≢false e);
     }
@@ -50,6 +59,12 @@ add-requires : tie.Need-add-requires invariant-loop decreases-loop
 add-requires c κs =
     let s = loop c.before.before in
     λ b w. omega (arith, counted-most s.loop.cells (entry s).args.row.now s.loop.core b s.loop.inv.1.1.1 w s.loop.inv.0)
+
+add-core : tie.Need-overflow-add-core invariant-loop decreases-loop
+add-core c = omega arith
+
+loop-less : tie.Need-loop-smaller invariant-loop decreases-loop
+loop-less c = omega arith
 
 loop-again : tie.Need-loop-preserved invariant-loop decreases-loop
 loop-again c =
@@ -69,18 +84,30 @@ loop-again c =
     )
 
 returns-2 : tie.Need-returns-2 invariant-loop decreases-loop
-unfolding anyUnknownByte
+unfolding any_unknown_byte
 returns-2 c =
     let s = c.before in
     let a = (entry s).args in
     let row = a.row.now in
     let e : s.loop.core ≡ length row = omega arith in
     record {
-      unknown = sym (none_any (length row) (unknownByteAt a.fence a.count row) (rw e at s.loop.invariant.1.1.0));
-      counted = λ _ b w. s.loop.invariant.1.1.1.each b w ∙ ap (plan.cellCount b) (take_all s.loop.core row (omega arith));
+      unknown = sym (none_any (length row) (unknown_byte_at a.fence a.count row) (rw e at s.loop.invariant.1.1.0));
+      counted = λ _ b w. s.loop.invariant.1.1.1.each b w ∙ ap (plan.cell_count b) (take_all s.loop.core row (omega arith));
     }
 
 pub counted_spec : {M : Type 1} → statement M
 counted_spec =
-    tie.close (tie.spec invariant-loop decreases-loop loop-holds (λ c. omega arith) (λ c. omega arith) (λ c κs. omega arith) returns
-    add-requires (λ c. omega arith) (λ c. omega arith) loop-again returns-2)
+    tie.close
+    (tie.spec
+    invariant-loop
+    decreases-loop
+    loop-holds
+    shared-slice-read-byte
+    cast-unknown-byte
+    unknown-byte-requires
+    returns
+    add-requires
+    add-core
+    loop-less
+    loop-again
+    returns-2)

@@ -4,8 +4,14 @@ use borrow.Author.Rules.{rules}
 use Rattle.plan_check.proofs.rows.wrong.Statement.{statement}
 use Rattle.plan_check.proofs.rows.wrong.Tie as tie
 
+width-of-requires : tie.Need-width-of-requires
+width-of-requires c κs = search rules
+
+works-requires : tie.Need-works-requires
+works-requires c κs = search rules
+
 returns : tie.Need-returns
 returns c = simp (c.before.width_of.ensures, c.works.ensures)
 
 pub wrong-spec : {M : Type 1} → statement M
-wrong-spec = tie.close (tie.spec (λ c κs. search rules) (λ c κs. search rules) returns)
+wrong-spec = tie.close (tie.spec width-of-requires works-requires returns)

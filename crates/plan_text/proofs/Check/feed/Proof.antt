@@ -6,6 +6,21 @@ use Rattle.plan_text.proofs.Feeding.{fed-done, fed-in}
 use Rattle.plan_text.proofs.Check.feed.Statement.{statement}
 use Rattle.plan_text.proofs.Check.feed.Tie as tie
 
+enum_told : tie.Need-enum-told
+enum_told c = search rules
+
+feed-table-requires : tie.Need-feed-table-requires
+feed-table-requires c κs = search rules
+
+enum-told-2 : tie.Need-enum-told-2
+enum-told-2 c = search rules
+
+feed-plan-requires : tie.Need-feed-plan-requires
+feed-plan-requires c κs = search rules
+
+enum-told-3 : tie.Need-enum-told-3
+enum-told-3 c = search rules
+
 returns : tie.Need-returns
 returns c = fed-in _ Table _ _ _ c.before.enum_told.given.1 c.feed-table.ensures
 
@@ -17,5 +32,13 @@ returns-3 c = fed-done _ _ _ c.enum-told3.given.1
 
 pub feed-spec : {M : Type 1} → statement M
 feed-spec =
-    tie.close (tie.spec (λ c. search rules) (λ c κs. search rules) (λ c. search rules) (λ c κs. search rules)
-    (λ c. search rules) returns returns-2 returns-3)
+    tie.close
+    (tie.spec
+    enum_told
+    feed-table-requires
+    enum-told-2
+    feed-plan-requires
+    enum-told-3
+    returns
+    returns-2
+    returns-3)

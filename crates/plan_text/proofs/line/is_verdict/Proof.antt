@@ -9,6 +9,24 @@ use Rattle.plan_text.proofs.line.is_verdict.Tie as tie
 returns : tie.Need-returns
 returns c = verdict-long c.before.before.args.line.now c.if1.true
 
+slice-aggregate-begins-with : tie.Need-slice-aggregate-begins-with
+slice-aggregate-begins-with c = search rules
+
+begins-with-requires : tie.Need-begins-with-requires
+begins-with-requires c κs = search rules
+
+slice-aggregate-begins-with-2 : tie.Need-slice-aggregate-begins-with-2
+slice-aggregate-begins-with-2 c = search rules
+
+begins-with-requires-2 : tie.Need-begins-with-requires-2
+begins-with-requires-2 c κs = search rules
+
+slice-aggregate-begins-with-3 : tie.Need-slice-aggregate-begins-with-3
+slice-aggregate-begins-with-3 c = search rules
+
+begins-with-requires-3 : tie.Need-begins-with-requires-3
+begins-with-requires-3 c κs = search rules
+
 returns-2 : tie.Need-returns-2
 returns-2 c =
     verdict-of _ _ _ _ (omega (arith, c.before.before.before.before.before.before.if1.false)) c.before.before.before.before.begins-with.ensures
@@ -16,5 +34,13 @@ returns-2 c =
 
 pub is-verdict-spec : {M : Type 1} → statement M
 is-verdict-spec =
-    tie.close (tie.spec returns (λ c. search rules) (λ c κs. search rules) (λ c. search rules) (λ c κs. search rules)
-    (λ c. search rules) (λ c κs. search rules) returns-2)
+    tie.close
+    (tie.spec
+    returns
+    slice-aggregate-begins-with
+    begins-with-requires
+    slice-aggregate-begins-with-2
+    begins-with-requires-2
+    slice-aggregate-begins-with-3
+    begins-with-requires-3
+    returns-2)

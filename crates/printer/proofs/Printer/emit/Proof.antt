@@ -6,7 +6,7 @@ use mathlib.Core.List.{List}
 use mathlib.Core.Path.{◌≡◌, sym}
 use Prim.Native.Nat.{ℕ, ◌+◌, ◌-◌, ◌<◌}
 use lib.ListN.{length-map}
-use Rattle.simulation.specs.TickState.{Numbers, numbersBy, loadedNumbers}
+use Rattle.simulation.specs.TickState.{Numbers, numbers_by, loaded_numbers}
 use Rattle.simulation.proofs.Parts.{sized_of}
 use Rattle.simulation.proofs.Steps.{tick-on}
 use Rattle.printer.specs.Printer.{Stepping}
@@ -95,27 +95,23 @@ now_of c = record {
 abbrev numbers_of : tie.At-loop invariant-loop decreases-loop → Numbers
 numbers_of c =
     let co = columns-of-from-loop c in
-    numbersBy co.columns_of.result.setting co.columns_of.result.widths co.columns_of.result.times
+    numbers_by co.columns_of.result.setting co.columns_of.result.widths co.columns_of.result.times
 
-numbers : (c : tie.At-loop invariant-loop decreases-loop) → numbers_of c ≡ loadedNumbers (given-of c).table
+numbers : (c : tie.At-loop invariant-loop decreases-loop) → numbers_of c ≡ loaded_numbers (given-of c).table
 numbers c = (columns-of-from-loop c).columns_of.ensures
 
 -- .. after a part of its line
 abbrev after-part : tie.After-struct-known2 invariant-loop decreases-loop → Printer
-after-part c =
-    at-given (now_of (loop-from-slice-known2 c.before))
-    ((loop-from-slice-known2 c.before).loop.given + (smaller-from-slice-known2 c.before).smaller.result)
+after-part c = at-given (now_of (loop-from-slice-known2 c.before)) ((loop-from-slice-known2 c.before).loop.given + (smaller-from-slice-known2 c.before).smaller.result)
 
 split-at-end :
     (c : tie.After-struct-known2 invariant-loop decreases-loop)
-    → Emitting (given-of (loop-from-slice-known2 c.before)) (after-part c) (buffer-of (loop-from-slice-known2 c.before)) (copy c).copy.new.1.1.1.0
-    (copy c).copy.result
+    → Emitting (given-of (loop-from-slice-known2 c.before)) (after-part c) (buffer-of (loop-from-slice-known2 c.before)) (copy c).copy.new.1.1.1.0 (copy c).copy.result
 split-at-end c =
     let copy-state = copy c in
     let l = loop-from-slice-known2 c.before in
     emit-part (given-of l) (now_of l) (buffer-of l) l.loop.buffer copy-state.copy.last.1.1.1.0 l.loop.at copy-state.copy.result
-    (smaller-from-slice-known2 c.before).smaller.result l.loop.inv (smaller-from-slice-known2 c.before).smaller.ensures
-    copy-state.copy.ensures
+    (smaller-from-slice-known2 c.before).smaller.result l.loop.inv (smaller-from-slice-known2 c.before).smaller.ensures copy-state.copy.ensures
 
 -- a row is to come
 early : (c : tie.Else2 invariant-loop decreases-loop) → (loop-from-else2 c).loop.stage.registers.tick < (given-of (loop-from-else2 c)).end
@@ -123,11 +119,13 @@ early c = omega (arith, (split-at-end (struct-known2-from-else2 c)).limits.tick,
 
 stepping :
     (c : tie.Else2 invariant-loop decreases-loop)
-    → Stepping (numbers_of (loop-from-else2 c)) (loop-from-else2 c).loop.stage (loop-from-else2 c).loop.places (loop-from-else2 c).loop.text
-    (loop-from-else2 c).loop.line
+    → Stepping (numbers_of (loop-from-else2 c)) (loop-from-else2 c).loop.stage (loop-from-else2 c).loop.places (loop-from-else2 c).loop.text (loop-from-else2 c).loop.line
 stepping c =
     let sk = struct-known2-from-else2 c in
     stepping-of (after-part sk) (numbers_of (loop-from-else2 c)) (numbers (loop-from-else2 c)) (split-at-end sk).limits (split-at-end sk).arrays (early c)
+
+columns-of-requires : tie.Need-columns-of-requires invariant-loop decreases-loop
+columns-of-requires c κs = search rules
 
 loop-holds : tie.Need-loop-init invariant-loop decreases-loop
 loop-holds c =
@@ -144,6 +142,9 @@ sub-smaller c = c.before.loop.invariant.limits.given
 
 sub-smaller-2 : tie.Need-overflow-sub-smaller-2 invariant-loop decreases-loop
 sub-smaller-2 c = omega (arith, c.before.loop.invariant.room, c.before.loop.invariant.same)
+
+smaller-requires : tie.Need-smaller-requires invariant-loop decreases-loop
+smaller-requires c κs = search rules
 
 slice-aggregate-copy : tie.Need-slice-aggregate-copy invariant-loop decreases-loop
 slice-aggregate-copy c = sym (loop-from-line2 c).loop.invariant.arrays.long
@@ -171,8 +172,7 @@ loop-again c =
     let e = else2-from-line3 c.before in
     let k = struct-known2-from-else2 e in
     let l = loop-from-slice-known2 k.before in
-    emit-step (given-of l) (after-part k) (buffer-of l) _ _ (split-at-end k) e.before.before.if1.left (early e) (numbers_of l) (numbers l)
-    _ _ _ _ c.next-line.ensures
+    emit-step (given-of l) (after-part k) (buffer-of l) _ _ (split-at-end k) e.before.before.if1.left (early e) (numbers_of l) (numbers l) _ _ _ _ c.next-line.ensures
 
 same_length : tie.Need-same-length invariant-loop decreases-loop
 same_length c = (split-at-end c.before).same
@@ -196,6 +196,22 @@ returns-2 c =
 
 pub emit-spec : {M : Type 1} → statement M
 emit-spec =
-    tie.close (tie.spec invariant-loop decreases-loop (λ c κs. search rules) loop-holds sub-smaller sub-smaller-2
-    (λ c κs. search rules) slice-aggregate-copy copy-requires add-given next-line-requires loop-less loop-again
-    same_length returns same-length-2 returns-2)
+    tie.close
+    (tie.spec
+    invariant-loop
+    decreases-loop
+    columns-of-requires
+    loop-holds
+    sub-smaller
+    sub-smaller-2
+    smaller-requires
+    slice-aggregate-copy
+    copy-requires
+    add-given
+    next-line-requires
+    loop-less
+    loop-again
+    same_length
+    returns
+    same-length-2
+    returns-2)

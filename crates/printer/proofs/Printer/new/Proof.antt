@@ -11,13 +11,18 @@ use Rattle.printer.proofs.Printer.new.Tie as tie
 abbrev read : tie.After-of-words → tie.After-read
 read c = c.before.before.before
 
+read-requires : tie.Need-read-requires
+read-requires c κs = search rules
+
 array-share-prefix-words : tie.Need-array-share-prefix-words
 array-share-prefix-words c = read_fits _ c.before.read.result c.before.read.ensures
 
 slice-aggregate-of-words : tie.Need-slice-aggregate-of-words
 slice-aggregate-of-words c =
-    sym (length-take-le c.before.before.read.result.count c.before.before.read.result.words
-    (read_fits _ c.before.before.read.result c.before.before.read.ensures))
+    sym (length-take-le c.before.before.read.result.count c.before.before.read.result.words (read_fits _ c.before.before.read.result c.before.before.read.ensures))
+
+of-words-requires : tie.Need-of-words-requires
+of-words-requires c κs = search rules
 
 returns : tie.Need-returns
 returns c =
@@ -26,5 +31,10 @@ returns c =
 
 pub new_spec : {M : Type 1} → statement M
 new_spec =
-    tie.close (tie.spec (λ c κs. search rules) array-share-prefix-words slice-aggregate-of-words (λ c κs. search rules)
+    tie.close
+    (tie.spec
+    read-requires
+    array-share-prefix-words
+    slice-aggregate-of-words
+    of-words-requires
     returns)

@@ -15,6 +15,18 @@ within2-from-struct-known4 c = c.before.before.before.before
 abbrev within2-from-struct-known7 : tie.After-struct-known7 → tie.After-within2
 within2-from-struct-known7 c = within2-from-struct-known4 c.before.before.before
 
+table-valid-requires : tie.Need-table-valid-requires
+table-valid-requires c κs = search rules
+
+owed-requires : tie.Need-owed-requires
+owed-requires c κs = search rules
+
+within-requires : tie.Need-within-requires
+within-requires c κs = search rules
+
+within-requires-2 : tie.Need-within-requires-2
+within-requires-2 c κs = search rules
+
 returns : tie.Need-returns
 unfolding valid
 returns c =
@@ -22,5 +34,4 @@ returns c =
     simp ((table-valid s).table-valid.ensures, s.before.within.ensures, s.before.before.owed.ensures, s.within2.ensures)
 
 pub valid-spec : {M : Type 1} → statement M
-valid-spec = tie.close (tie.spec (λ c κs. search rules) (λ c κs. search rules) (λ c κs. search rules)
-    (λ c κs. search rules) returns)
+valid-spec = tie.close (tie.spec table-valid-requires owed-requires within-requires within-requires-2 returns)

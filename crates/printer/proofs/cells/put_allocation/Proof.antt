@@ -1,39 +1,48 @@
--- `printer::cells::put_allocation` meets its contract: the cores of the claimants, and those that are left (`whole-put`).
+-- `printer::cells::put_allocation` meets its contract: the first bytes that are shown are the row of the model.
 -- Assumes nothing.
+use mathlib.Core.List.{List, [], ◌∷◌, ◌++◌}
+use mathlib.Core.Path.{ap, ◌∙◌, subst}
+use Prim.Native.Nat.{ℕ, ◌-◌}
+use lib.ListN.{take, replicate}
+use lib.Seq.{take_at}
+use Rattle.model.proofs.Rows.{row-length}
+use Rattle.model.specs.Fence.{unfenced}
+use Rattle.model.specs.Search.{bit}
+use Rattle.model.specs.Task.{rule_of}
+use Rattle.model.specs.Grants.{claimants, grants}
+use Rattle.model.specs.Row.{row}
+use Rattle.model.specs.Sizes.{most_cores}
+use Rattle.rule.specs.Widths.{widths_in}
+use Rattle.text.specs.Format.{newline}
+use Rattle.text.specs.Output.{fields}
+use Rattle.text.specs.Written.{Put}
+use Rattle.printer.specs.Cells.{cells}
 use borrow.Author.Rules.{rules}
-use mathlib.Core.Path.{◌∙◌}
-use lib.ListN.{take, length-set}
-use Rattle.rule.specs.Widths.{widthsIn}
-use Rattle.printer.proofs.CellsWritten.{whole-put, fits_whole, length_whole}
 use Rattle.printer.proofs.cells.put_allocation.Statement.{statement}
 use Rattle.printer.proofs.cells.put_allocation.Tie as tie
 
--- the state after `put_grants`, and the state at the call
-abbrev put-grants : tie.After-slice-known3 → tie.After-put-grants
-put-grants c = c.before.before.before.before.before.before
+-- the state after `show`
+abbrev show : tie.After-slice-known2 → tie.After-show
+show c = c.before.before.before.before
 
-abbrev entry : tie.After-slice-known3 → tie.Start
-entry c = (put-grants c).before.before.before
+show-requires : tie.Need-show-requires
+show-requires c κs = search rules
+
+put-cells-requires : tie.Need-put-cells-requires
+put-cells-requires c κs = search rules
 
 same_length : tie.Need-same-length
-same_length c =
-    let a = (entry c).args in
-    let run = c.before.before.put-run in
-    let ws = take a.count (widthsIn a.even a.widths.now) in
-    length-set run.new.0 run.result.at 10
-    ∙ length_whole a.rule a.cores a.fence ws a.claims a.text.now _ _ _ _ (entry c).requires.0 (entry c).requires.2 (put-grants c).put-grants.ensures
-    run.ensures
+same_length c = search rules
 
 returns : tie.Need-returns
+unfolding cells
 returns c =
-    let a = (entry c).args in
-    let run = c.before.before.put-run.ensures in
-    let ws = take a.count (widthsIn a.even a.widths.now) in
-    let grants = (put-grants c).put-grants.ensures in (
-      whole-put a.rule a.cores a.fence ws a.claims a.text.now _ _ _ _ (entry c).requires.0 (entry c).requires.2 grants run,
-      fits_whole a.rule a.cores a.fence ws a.claims a.text.now _ _ _ _ (entry c).requires.0 (entry c).requires.2 grants run,
-    )
+    let a = (show c).before.before.args in
+    let s = c.before.before.put-cells in
+    let ws = take a.count (widths_in a.even a.widths.now) in
+    let gs = grants (rule_of a.rule) (claimants ws (bit a.claims)) (unfenced a.fence a.cores) in
+    let e = ap (take a.cores) (show c).show.ensures ∙ take_at (row a.fence a.cores gs) (replicate (most_cores - a.cores) 0) a.cores (row-length a.fence a.cores gs) in
+    (subst (λ (xs : List ℕ). Put a.text.now 0 (fields xs ++ (newline ∷ [])) s.new.1.1.0 s.result) e s.ensures.0, s.ensures.1)
 
 pub put-allocation-spec : {M : Type 1} → statement M
-put-allocation-spec =
-    tie.close (tie.spec (λ c κs. search rules) (λ c κs. search rules) (λ c. search rules) (λ c. search rules) same_length returns)
+put-allocation-spec = tie.close (tie.spec show-requires put-cells-requires same_length returns)

@@ -6,13 +6,13 @@ use Prim.Native.Nat.{ℕ, ◌+◌, ◌*◌, ◌-◌, ◌^◌, ◌≤◌, ◌<◌
 use lib.ListN.{get_or}
 use Rattle.simulation.specs.Places.{segment}
 use Rattle.simulation.proofs.Parts.{front_at}
-use Rattle.printer.proofs.Owed.{owedFrom, owed_none, owed_all, owed-room, owed-with, owed-without}
+use Rattle.printer.proofs.Owed.{owed_from, owed_none, owed_all, owed-room, owed-with, owed-without}
 use Rattle.printer.proofs.valid.owed.Statement.{statement}
 use Rattle.printer.proofs.valid.owed.Tie as tie
-use Rattle.model.specs.Sizes.{mostTasks}
+use Rattle.model.specs.Sizes.{most_tasks}
 
 abbrev invariant-loop : tie.invariant-loop
-invariant-loop places set₀ i₀ set i = (i ≤ mostTasks) × (set ≡ owedFrom (segment 0 places) i)
+invariant-loop places set₀ i₀ set i = (i ≤ most_tasks) × (set ≡ owed_from (segment 0 places) i)
 
 abbrev decreases-loop : tie.decreases-loop
 decreases-loop places set₀ i₀ set i = i
@@ -25,9 +25,9 @@ abbrev entry-from-else1 : tie.Else1 invariant-loop decreases-loop → tie.Start 
 entry-from-else1 c = c.before.before.before
 
 -- place i - 1 is tested
-module _ (places : List ℕ) (i set : ℕ) (h : (i ≤ mostTasks) × (set ≡ owedFrom (segment 0 places) i)) (l : 0 < i) where
-  is : set ≡ owedFrom (segment 0 places) (i - 1 + 1)
-  is = let e : i ≡ i - 1 + 1 = omega arith in h.1 ∙ ap (owedFrom (segment 0 places)) e
+module _ (places : List ℕ) (i set : ℕ) (h : (i ≤ most_tasks) × (set ≡ owed_from (segment 0 places) i)) (l : 0 < i) where
+  is : set ≡ owed_from (segment 0 places) (i - 1 + 1)
+  is = let e : i ≡ i - 1 + 1 = omega arith in h.1 ∙ ap (owed_from (segment 0 places)) e
 
   has : get_or (segment 0 places) (i - 1) 0 ≡ get_or places (i - 1) 0
   has = front_at places (i - 1) (omega arith)
@@ -36,8 +36,8 @@ module _ (places : List ℕ) (i set : ℕ) (h : (i ≤ mostTasks) × (set ≡ ow
   fits_on = let r = owed-room (segment 0 places) (i - 1) (omega arith) in (omega (arith, is), omega (arith, is))
 
   one_on :
-      (0 < get_or places (i - 1) 0 → set * 2 + 1 ≡ owedFrom (segment 0 places) (i - 1))
-      × (get_or places (i - 1) 0 ≤ 0 → set * 2 ≡ owedFrom (segment 0 places) (i - 1))
+      (0 < get_or places (i - 1) 0 → set * 2 + 1 ≡ owed_from (segment 0 places) (i - 1))
+      × (get_or places (i - 1) 0 ≤ 0 → set * 2 ≡ owed_from (segment 0 places) (i - 1))
   one_on = (
     λ b. ap (λ (x : ℕ). x * 2 + 1) is ∙ owed-with (segment 0 places) (i - 1) (omega arith) (omega (arith, has)),
     λ b. ap (λ (x : ℕ). x * 2) is ∙ owed-without (segment 0 places) (i - 1) (omega arith) (omega (arith, has)),
@@ -46,6 +46,15 @@ module _ (places : List ℕ) (i set : ℕ) (h : (i ≤ mostTasks) × (set ≡ ow
 loop-holds : tie.Need-loop-init invariant-loop decreases-loop
 loop-holds c = (omega arith, owed_none _)
 
+sub-i : tie.Need-overflow-sub-i invariant-loop decreases-loop
+sub-i c = omega arith
+
+mul-ticks : tie.Need-overflow-mul-ticks invariant-loop decreases-loop
+mul-ticks c = omega arith
+
+array-read-ticks : tie.Need-array-read-ticks invariant-loop decreases-loop
+array-read-ticks c = omega arith
+
 mul-set : tie.Need-overflow-mul-set invariant-loop decreases-loop
 mul-set c = omega (arith, (fits_on c.before.before.args.t1 c.before.loop.i c.before.loop.set c.before.loop.invariant c.loop-test.true).0)
 
@@ -53,10 +62,12 @@ add-set : tie.Need-overflow-add-set invariant-loop decreases-loop
 add-set c =
     omega (
       arith,
-      (fits_on (entry-from-then1 c).args.t1 c.before.before.loop.i c.before.before.loop.set c.before.before.loop.invariant
-          c.before.loop-test.true
+      (fits_on (entry-from-then1 c).args.t1 c.before.before.loop.i c.before.before.loop.set c.before.before.loop.invariant c.before.loop-test.true
           ).1,
     )
+
+loop-less : tie.Need-loop-smaller invariant-loop decreases-loop
+loop-less c = omega arith
 
 loop-again : tie.Need-loop-preserved invariant-loop decreases-loop
 loop-again c = (
@@ -64,6 +75,9 @@ loop-again c = (
   (one_on (entry-from-then1 c).args.t1 c.before.before.loop.i c.before.before.loop.set c.before.before.loop.invariant c.before.loop-test.true
       ).0 c.if1.true,
 )
+
+loop-less-2 : tie.Need-loop-smaller-2 invariant-loop decreases-loop
+loop-less-2 c = omega arith
 
 loop-again-2 : tie.Need-loop-preserved-2 invariant-loop decreases-loop
 loop-again-2 c = (
@@ -73,9 +87,22 @@ loop-again-2 c = (
 )
 
 returns : tie.Need-returns invariant-loop decreases-loop
-returns c = let e : c.before.loop.i ≡ 0 = omega arith in c.before.loop.invariant.1 ∙ ap (owedFrom _) e ∙ owed_all _
+returns c = let e : c.before.loop.i ≡ 0 = omega arith in c.before.loop.invariant.1 ∙ ap (owed_from _) e ∙ owed_all _
 
 pub owed-spec : {M : Type 1} → statement M
 owed-spec =
-    tie.close (tie.spec invariant-loop decreases-loop loop-holds (λ c. omega arith) (λ c. omega arith) (λ c. omega arith) mul-set
-    add-set (λ c. omega arith) loop-again (λ c. omega arith) loop-again-2 returns)
+    tie.close
+    (tie.spec
+    invariant-loop
+    decreases-loop
+    loop-holds
+    sub-i
+    mul-ticks
+    array-read-ticks
+    mul-set
+    add-set
+    loop-less
+    loop-again
+    loop-less-2
+    loop-again-2
+    returns)

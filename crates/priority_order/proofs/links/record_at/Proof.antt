@@ -8,7 +8,7 @@ use Rattle.table.proofs.HeaderPasses.{words_long}
 use Rattle.table.specs.Numbers.{one}
 use Rattle.table.specs.Words.{next, visited, word}
 use Rattle.conflict.proofs.Linked.{chain-in, next-inside, words-most}
-use Rattle.conflict.specs.Relinked.{mostWords, nextWordAt}
+use Rattle.conflict.specs.Relinked.{most_words, next_word_at}
 use native.Mathlib.Omega.{arith}
 use Rattle.priority_order.proofs.links.record_at.Statement.{statement}
 use Rattle.priority_order.proofs.links.record_at.Tie as tie
@@ -24,12 +24,12 @@ abbrev entry : tie.At-loop invariant-loop decreases-loop → tie.Start invariant
 entry c = c.before.before
 
 -- the table has at most 229 words
-most : (c : tie.At-loop invariant-loop decreases-loop) → length (entry c).args.words.now ≤ mostWords
+most : (c : tie.At-loop invariant-loop decreases-loop) → length (entry c).args.words.now ≤ most_words
 most c = words-most (entry c).args.words.now (λ h. (entry c).requires.0 1 0 (one h))
 
 -- at a place of the chain there is a record, whose words are there
 inside : (c : tie.In-loop invariant-loop decreases-loop)
-    → (1 ≤ c.before.loop.number) × (nextWordAt c.before.loop.number < length (entry c.before).args.words.now)
+    → (1 ≤ c.before.loop.number) × (next_word_at c.before.loop.number < length (entry c.before).args.words.now)
 inside c =
     let s = entry c.before in
     let l = c.before.loop in
@@ -46,6 +46,21 @@ shared-slice-read-number c =
 loop-holds : tie.Need-loop-init invariant-loop decreases-loop
 loop-holds c = (omega arith, unfold visited in refl)
 
+cast-number : tie.Need-overflow-cast-number invariant-loop decreases-loop
+cast-number c = omega (arith, inside c, most c.before)
+
+sub_number : tie.Need-overflow-sub-number invariant-loop decreases-loop
+sub_number c = omega (arith, inside c)
+
+mul-number : tie.Need-overflow-mul-number invariant-loop decreases-loop
+mul-number c = omega (arith, inside c, most c.before)
+
+add-number : tie.Need-overflow-add-number invariant-loop decreases-loop
+add-number c = omega (arith, inside c, most c.before)
+
+mul-number-2 : tie.Need-overflow-mul-number-2 invariant-loop decreases-loop
+mul-number-2 c = omega (arith, inside c, most c.before)
+
 shared-slice-read-number-2 : tie.Need-shared-slice-read-number-2 invariant-loop decreases-loop
 shared-slice-read-number-2 c = (inside c.before).1
 
@@ -59,8 +74,8 @@ loop-again : tie.Need-loop-preserved invariant-loop decreases-loop
 loop-again c =
     let l = c.before.before.loop in
     let ws = (entry c.before.before).args.words.now in
-    let e : visited ws (suc l.i) ≡ word ws (nextWordAt l.number) =
-    unfold visited in ap (next ws) (sym l.invariant.1) ∙ ap (word ws) (add-zero (nextWordAt l.number)) in
+    let e : visited ws (suc l.i) ≡ word ws (next_word_at l.number) =
+    unfold visited in ap (next ws) (sym l.invariant.1) ∙ ap (word ws) (add-zero (next_word_at l.number)) in
     (omega (arith, l.invariant.0, c.before.loop-test.true), rw (add-one l.i) (sym e))
 
 returns : tie.Need-returns invariant-loop decreases-loop
@@ -70,7 +85,19 @@ returns c =
 
 pub record-at-spec : {M : Type 1} → statement M
 record-at-spec =
-    tie.close (tie.spec invariant-loop decreases-loop shared-slice-read-number loop-holds
-    (λ c. omega (arith, inside c, most c.before)) (λ c. omega (arith, inside c))
-    (λ c. omega (arith, inside c, most c.before)) (λ c. omega (arith, inside c, most c.before))
-    (λ c. omega (arith, inside c, most c.before)) shared-slice-read-number-2 add-i loop-less loop-again returns)
+    tie.close
+    (tie.spec
+    invariant-loop
+    decreases-loop
+    shared-slice-read-number
+    loop-holds
+    cast-number
+    sub_number
+    mul-number
+    add-number
+    mul-number-2
+    shared-slice-read-number-2
+    add-i
+    loop-less
+    loop-again
+    returns)

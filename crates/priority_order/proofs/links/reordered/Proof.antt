@@ -4,11 +4,11 @@ use mathlib.Core.Path.{refl, subst, sym, ap, ◌∙◌}
 use Prim.Native.Nat.{ℕ, ◌-◌, ◌<◌, ◌≤◌}
 use lib.ListN.{get_or, length, replicate, take}
 use lib.Seq.{take_at}
-use Rattle.model.specs.Sizes.{mostTasks}
+use Rattle.model.specs.Sizes.{most_tasks}
 use Rattle.table.specs.Numbers.{one}
 use Rattle.table.specs.Words.{count}
 use Rattle.conflict.proofs.Linked.{words-most}
-use Rattle.conflict.specs.Relinked.{mostWords, nextWordAt}
+use Rattle.conflict.specs.Relinked.{most_words, next_word_at}
 use Rattle.priority_order.specs.Orders.{Permutation}
 use Rattle.priority_order.proofs.Reordering.{Linking, linking-end, linking-more, linking-record, linking-start, tasks-few}
 use native.Mathlib.Omega.{arith}
@@ -32,11 +32,11 @@ words s = s.args.words.now
 order : (s : tie.Start invariant-loop decreases-loop) → Permutation (count (words s)) s.args.t2
 order s = subst (λ (n : ℕ). Permutation n s.args.t2) s.requires.size s.requires.permutation
 
-few : (s : tie.Start invariant-loop decreases-loop) → s.args.count ≤ mostTasks
+few : (s : tie.Start invariant-loop decreases-loop) → s.args.count ≤ most_tasks
 few s = omega (arith, s.requires.size, tasks-few (words s) s.requires.passes)
 
 -- the table has at most 229 words
-most : (s : tie.Start invariant-loop decreases-loop) → length (words s) ≤ mostWords
+most : (s : tie.Start invariant-loop decreases-loop) → length (words s) ≤ most_words
 most s = words-most (words s) (λ h. s.requires.passes 1 0 (one h))
 
 -- the place that is read is one of the chain
@@ -45,12 +45,12 @@ below c = let s = entry c.before in (order s).within c.before.loop.i (omega (ari
 
 -- its record has its words
 inside : (c : tie.After-record-at invariant-loop decreases-loop)
-    → (1 ≤ c.record-at.result) × (nextWordAt c.record-at.result < length (words (entry c.before.before)))
+    → (1 ≤ c.record-at.result) × (next_word_at c.record-at.result < length (words (entry c.before.before)))
 inside c =
     let s = entry c.before.before in
     let r =
     linking-record (words s) s.pre.passes s.args.t2 (order s) c.before.before.loop.i (omega (arith, s.pre.size, c.before.loop-test.true)) in
-    subst (λ (n : ℕ). (1 ≤ n) × (nextWordAt n < length (words s))) (sym c.record-at.ensures) r
+    subst (λ (n : ℕ). (1 ≤ n) × (next_word_at n < length (words s))) (sym c.record-at.ensures) r
 
 copied-requires : tie.Need-copied-requires invariant-loop decreases-loop
 copied-requires c κs = most c.before
@@ -59,7 +59,7 @@ loop-holds : tie.Need-loop-init invariant-loop decreases-loop
 loop-holds c =
     let s = c.before.before in
     linking-start (words s) s.requires.passes s.args.t2 (order s) c.copied.result
-    (ap (take (length (words s))) c.copied.ensures ∙ take_at (words s) (replicate (mostWords - length (words s)) 0) (length (words s)) refl)
+    (ap (take (length (words s))) c.copied.ensures ∙ take_at (words s) (replicate (most_words - length (words s)) 0) (length (words s)) refl)
 
 mul-place : tie.Need-overflow-mul-place invariant-loop decreases-loop
 mul-place c = let s = entry c.before in omega (arith, few s, c.loop-test.true)
@@ -82,6 +82,9 @@ array-write-copy c = let s = entry c.before.before in omega (arith, c.before.bef
 cast-link : tie.Need-overflow-cast-link invariant-loop decreases-loop
 cast-link c = let s = entry c.before.before in omega (arith, inside c, most s)
 
+sub-link : tie.Need-overflow-sub-link invariant-loop decreases-loop
+sub-link c = omega (arith, inside c)
+
 mul-link : tie.Need-overflow-mul-link invariant-loop decreases-loop
 mul-link c = let s = entry c.before.before in omega (arith, inside c, most s)
 
@@ -90,6 +93,9 @@ add-link c = let s = entry c.before.before in omega (arith, inside c, most s)
 
 add-i : tie.Need-overflow-add-i invariant-loop decreases-loop
 add-i c = let s = entry c.before.before in omega (arith, few s, c.before.loop-test.true)
+
+loop-less : tie.Need-loop-smaller invariant-loop decreases-loop
+loop-less c = omega (arith, c.before.loop-test.true)
 
 loop-again : tie.Need-loop-preserved invariant-loop decreases-loop
 loop-again c =
@@ -112,6 +118,25 @@ returns c =
 
 pub reordered-spec : {M : Type 1} → statement M
 reordered-spec =
-    tie.close (tie.spec invariant-loop decreases-loop copied-requires loop-holds mul-place array-read-place cast-place
-    record-at-requires mul-copy array-write-copy cast-link (λ c. omega (arith, inside c)) mul-link add-link add-i
-    (λ c. omega (arith, c.before.loop-test.true)) loop-again mul-copy-2 array-write-copy-2 returns)
+    tie.close
+    (tie.spec
+    invariant-loop
+    decreases-loop
+    copied-requires
+    loop-holds
+    mul-place
+    array-read-place
+    cast-place
+    record-at-requires
+    mul-copy
+    array-write-copy
+    cast-link
+    sub-link
+    mul-link
+    add-link
+    add-i
+    loop-less
+    loop-again
+    mul-copy-2
+    array-write-copy-2
+    returns)

@@ -17,6 +17,9 @@ same_length s =
     reordered-length s.args.words.now s.requires.passes s.args.order
     (subst (λ (n : ℕ). Permutation n s.args.order) s.requires.size s.requires.permutation)
 
+reordered-requires : tie.Need-reordered-requires
+reordered-requires c κs = search rules
+
 array-share-prefix-part : tie.Need-array-share-prefix-part
 array-share-prefix-part c =
     let r = c.reordered in
@@ -28,10 +31,18 @@ slice-aggregate-judge c =
     let s = c.before.before.before in
     sym (ap {B = ℕ} length c.before.reordered.ensures ∙ same_length s)
 
+judge-requires : tie.Need-judge-requires
+judge-requires c κs = search rules
+
 returns : tie.Need-returns
 returns c = subst (λ (us : List ℕ). Judged us c.judge.result) c.before.before.reordered.ensures c.judge.ensures
 
 pub verdict-in-spec : {M : Type 1} → statement M
 verdict-in-spec =
-    tie.close (tie.spec (λ c κs. search rules) array-share-prefix-part slice-aggregate-judge (λ c κs. search rules)
+    tie.close
+    (tie.spec
+    reordered-requires
+    array-share-prefix-part
+    slice-aggregate-judge
+    judge-requires
     returns)

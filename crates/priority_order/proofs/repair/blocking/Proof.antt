@@ -6,15 +6,15 @@ use lib.ListN.{length, length-take}
 use Rattle.model.specs.Horizon.{horizon}
 use Rattle.model.specs.Task.{Table}
 use Rattle.model.specs.Verdict.{FirstMiss}
-use Rattle.table.specs.declared.Answer.TheVariants.{Taken}
+use Rattle.table.specs.declared.Answer.TheVariants.{Passed}
 use Rattle.table.specs.Load.{LoadOf}
 use Rattle.table.specs.Words.{count, table_of}
 use Rattle.table.proofs.Fit.{fit, same-table}
-use Rattle.table.specs.Fit.{loadedTable}
+use Rattle.table.specs.Fit.{loaded_table}
 use Rattle.sentence.specs.Facts.{Facts}
-use Rattle.sentence.specs.Waiting.{factsAt}
+use Rattle.sentence.specs.Waiting.{facts_at}
 use Rattle.priority_order.specs.Orders.{Permutation, reordered}
-use Rattle.priority_order.specs.Repair.{mostRan}
+use Rattle.priority_order.specs.Repair.{most_ran}
 use Rattle.priority_order.proofs.Reordering.{reordered-length}
 use Rattle.priority_order.proofs.Repairing.{MissIn, late-miss, miss-in, passed-answer}
 use borrow.Author.Rules.{rules}
@@ -49,11 +49,14 @@ entry c = c.before.before.before.before.before
 loads : (c : tie.After-load) → LoadOf (reordered (words (entry c)) (order (entry c))) c.load.result
 loads c = subst (λ (us : List ℕ). LoadOf us c.load.result) c.before.before.reordered.ensures c.load.ensures
 
-passed : (c : tie.After-load) → c.load.result.answer ≡ Taken
+passed : (c : tie.After-load) → c.load.result.answer ≡ Passed
 passed c = passed-answer _ _ (loads c) (missed (entry c)).passes
 
-table : (c : tie.After-load) → loadedTable c.load.result ≡ table_of (reordered (words (entry c)) (order (entry c)))
+table : (c : tie.After-load) → loaded_table c.load.result ≡ table_of (reordered (words (entry c)) (order (entry c)))
 table c = same-table _ _ (loads c) (passed c)
+
+reordered-requires : tie.Need-reordered-requires
+reordered-requires c κs = search rules
 
 array-share-prefix-part : tie.Need-array-share-prefix-part
 array-share-prefix-part c =
@@ -65,6 +68,15 @@ slice-aggregate-load : tie.Need-slice-aggregate-load
 slice-aggregate-load c =
     let s = c.before.before.before.before in
     sym (ap {B = ℕ} length c.before.reordered.ensures ∙ same_length s)
+
+load-requires : tie.Need-load-requires
+load-requires c κs = search rules
+
+cast-count : tie.Need-overflow-cast-count
+cast-count c = search rules
+
+sub-count : tie.Need-overflow-sub-count
+sub-count c = omega (arith, (missed (entry c.before)).some)
 
 count-requires : tie.Need-count-requires
 count-requires c κs =
@@ -80,16 +92,27 @@ count-requires c κs =
       rw f.horizon (subst (λ (a : Table). x.tick ≤ horizon a) (sym (table l)) m.within),
     )
 
+most-ran-requires : tie.Need-most-ran-requires
+most-ran-requires c κs = search rules
+
 returns : tie.Need-returns
 returns c =
     let k = c.before.before in
     let l = k.before.before in
     let x = (entry l).args.late in
     c.most-ran.ensures
-    ∙ (ap (λ (f : Facts). mostRan f.others) k.count.ensures ∙ ap (λ (a : Table). mostRan (factsAt a x.tick (x.position - 1)).others) (table l))
+    ∙ (ap (λ (f : Facts). most_ran f.others) k.count.ensures ∙ ap (λ (a : Table). most_ran (facts_at a x.tick (x.position - 1)).others) (table l))
 
 pub blocking-spec : {M : Type 1} → statement M
 blocking-spec =
-    tie.close (tie.spec (λ c κs. search rules) array-share-prefix-part slice-aggregate-load (λ c κs. search rules)
-    (λ c. search rules) (λ c. omega (arith, (missed (entry c.before)).some)) count-requires (λ c κs. search rules)
+    tie.close
+    (tie.spec
+    reordered-requires
+    array-share-prefix-part
+    slice-aggregate-load
+    load-requires
+    cast-count
+    sub-count
+    count-requires
+    most-ran-requires
     returns)

@@ -1,14 +1,14 @@
 -- `priority_order::repair::most_ran` meets its contract: the most of what is left is the most of all. Assumes nothing.
 use mathlib.Core.Path.{◌≡◌, ap, refl, sym, ◌∙◌}
 use Prim.Native.Nat.{ℕ, suc, ◌-◌, ◌≤◌}
-use Rattle.model.specs.Sizes.{mostTasks}
+use Rattle.model.specs.Sizes.{most_tasks}
 use mathlib.Core.Logic.{⊎_elim}
 use native.Mathlib.Numerals.{add-one}
 use lib.ListN.{drop, drop_of_length-le, get_or}
 use borrow.Author.Tests.{le-ltb, lt-ltb}
 use mathlib.Core.List.{List, []}
-use Rattle.sentence.specs.Facts.{Part, named, namedFrom}
-use Rattle.priority_order.specs.Repair.{mostFrom}
+use Rattle.sentence.specs.Facts.{Part, named, named_from}
+use Rattle.priority_order.specs.Repair.{most_from}
 use Rattle.priority_order.proofs.Most.{better, most-end, most_step}
 use borrow.Author.Rules.{rules}
 use native.Mathlib.Omega.{arith}
@@ -17,11 +17,11 @@ use Rattle.priority_order.proofs.repair.most_ran.Tie as tie
 
 abbrev invariant-loop : tie.invariant-loop
 invariant-loop ran most₀ position₀ i₀ most position i =
-    (i ≤ mostTasks) × (mostFrom (record { position = position; count = most }) (namedFrom i (drop i ran)) ≡ mostFrom
+    (i ≤ most_tasks) × (most_from (record { position = position; count = most }) (named_from i (drop i ran)) ≡ most_from
     (record { position = 0; count = 0 }) (named ran))
 
 abbrev decreases-loop : tie.decreases-loop
-decreases-loop ran most₀ position₀ i₀ most position i = mostTasks - i
+decreases-loop ran most₀ position₀ i₀ most position i = most_tasks - i
 
 -- the best so far
 abbrev best : ℕ → ℕ → Part
@@ -29,6 +29,30 @@ best position count = record { position = position; count = count }
 
 loop-holds : tie.Need-loop-init invariant-loop decreases-loop
 loop-holds c = (omega arith, refl)
+
+mul-if1 : tie.Need-overflow-mul-if1 invariant-loop decreases-loop
+mul-if1 c = search rules
+
+array-read-if1 : tie.Need-array-read-if1 invariant-loop decreases-loop
+array-read-if1 c = search rules
+
+mul_most : tie.Need-overflow-mul-most invariant-loop decreases-loop
+mul_most c = search rules
+
+array-read-most : tie.Need-array-read-most invariant-loop decreases-loop
+array-read-most c = search rules
+
+cast-position : tie.Need-overflow-cast-position invariant-loop decreases-loop
+cast-position c = search rules
+
+add-position : tie.Need-overflow-add-position invariant-loop decreases-loop
+add-position c = search rules
+
+add-i : tie.Need-overflow-add-i invariant-loop decreases-loop
+add-i c = search rules
+
+loop-less : tie.Need-loop-smaller invariant-loop decreases-loop
+loop-less c = search rules
 
 loop-again : tie.Need-loop-preserved invariant-loop decreases-loop
 loop-again c =
@@ -42,7 +66,7 @@ loop-again c =
     (λ w. (λ k. record { position = (w.2 ∙ add-one l.i) k; count = w.1 k }) ∙ sym (simp (lt-ltb _ _ w.0.taken)))
     (λ w. (λ k. record { position = w.2 k; count = w.1 k }) ∙ sym (simp (le-ltb _ _ w.0.left)))
     c.if1.branch in
-    let more = ap (λ (x : Part). mostFrom x (namedFrom (suc l.i) (drop (suc l.i) ran))) better
+    let more = ap (λ (x : Part). most_from x (named_from (suc l.i) (drop (suc l.i) ran))) better
     ∙ (sym (most_step (best l.position l.most) l.i ran (omega (arith, c.before.before.before.requires, m))) ∙ l.invariant.1) in
     (omega (arith, m), rw (add-one l.i) more)
 
@@ -51,12 +75,24 @@ returns c =
     let l = c.before.loop in
     let s = c.before.before in
     let over : drop l.i s.args.t1 ≡ [] = drop_of_length-le s.args.t1 {i = l.i} (omega (arith, s.requires, c.loop-test.false)) in
-    let e : mostFrom (best l.position l.most) (namedFrom l.i []) ≡ mostFrom (best 0 0) (named s.args.t1) =
-    ap (λ (ns : List ℕ). mostFrom (best l.position l.most) (namedFrom l.i ns)) (sym over) ∙ l.invariant.1 in
+    let e : most_from (best l.position l.most) (named_from l.i []) ≡ most_from (best 0 0) (named s.args.t1) =
+    ap (λ (ns : List ℕ). most_from (best l.position l.most) (named_from l.i ns)) (sym over) ∙ l.invariant.1 in
     most-end (best l.position l.most) l.i ∙ ap (λ (x : Part). x.position) e
 
 pub most-ran-spec : {M : Type 1} → statement M
 most-ran-spec =
-    tie.close (tie.spec invariant-loop decreases-loop loop-holds (λ c. search rules) (λ c. search rules) (λ c. search rules)
-    (λ c. search rules) (λ c. search rules) (λ c. search rules) (λ c. search rules) (λ c. search rules) loop-again
+    tie.close
+    (tie.spec
+    invariant-loop
+    decreases-loop
+    loop-holds
+    mul-if1
+    array-read-if1
+    mul_most
+    array-read-most
+    cast-position
+    add-position
+    add-i
+    loop-less
+    loop-again
     returns)

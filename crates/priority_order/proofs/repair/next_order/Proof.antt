@@ -36,6 +36,15 @@ returns-2 c =
     let s = entry b.before.before in
     sym (next-stops s.args.words.now s.args.late s.pre.1 (not-false _ b.before.if1.false) (sym b.blocking.ensures ∙ c.if2.true))
 
+cast-moved : tie.Need-overflow-cast-moved
+cast-moved c = search rules
+
+sub-moved : tie.Need-overflow-sub-moved
+sub-moved c = search rules
+
+cast-moved-2 : tie.Need-overflow-cast-moved-2
+cast-moved-2 c = search rules
+
 sub-moved-2 : tie.Need-overflow-sub-moved-2
 sub-moved-2 c =
     let b = c.before.before in
@@ -59,5 +68,14 @@ returns-3 c =
 
 pub next-order-spec : {M : Type 1} → statement M
 next-order-spec =
-    tie.close (tie.spec returns blocking-requires returns-2 (λ c. search rules) (λ c. search rules) (λ c. search rules)
-    sub-moved-2 moved-requires returns-3)
+    tie.close
+    (tie.spec
+    returns
+    blocking-requires
+    returns-2
+    cast-moved
+    sub-moved
+    cast-moved-2
+    sub-moved-2
+    moved-requires
+    returns-3)

@@ -9,15 +9,23 @@ use Rattle.refinement.proofs.replays.code.Tie as tie
 abbrev entry : tie.After-known-told → tie.Start
 entry c = c.before.before.before
 
+enum_told : tie.Need-enum-told
+enum_told c = search rules
+
+enum-known-answer : tie.Need-enum-known-answer
+enum-known-answer c = search rules
+
 mul-result : tie.Need-overflow-mul-result
 mul-result c = let h = rw c.before.answer.given.1 at (entry c).requires in omega arith
 
 add-result : tie.Need-overflow-add-result
 add-result c = let h = rw c.before.answer.given.1 at (entry c).requires in omega arith
 
+returns : tie.Need-returns
+returns c = search rules
+
 returns-2 : tie.Need-returns-2
 returns-2 c = simp c.before.answer.given.1
 
 pub code-spec : {M : Type 1} → statement M
-code-spec = tie.close (tie.spec (λ c. search rules) (λ c. search rules) mul-result add-result (λ c. search rules)
-    returns-2)
+code-spec = tie.close (tie.spec enum_told enum-known-answer mul-result add-result returns returns-2)

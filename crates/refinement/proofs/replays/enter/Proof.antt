@@ -6,16 +6,25 @@ use Prim.Native.Nat.{ℕ}
 use lib.Dec.{eqb}
 use borrow.Author.Rules.{rules}
 use borrow.Author.Tests.{eq-eqb, ne_eqb}
-use Rattle.model.specs.Advance.{advance, withdraw, withdrawAll}
+use Rattle.model.specs.Advance.{advance, withdraw, withdraw_all}
 use Rattle.run.specs.declared.Run.{Run}
-use Rattle.run.specs.declared.RunAnswer.{RunAnswer}
+use Rattle.run.specs.declared.Advanced.{Advanced}
 use Rattle.refinement.specs.Entries.{entry_of}
 use Rattle.refinement.proofs.replays.enter.Statement.{statement}
 use Rattle.refinement.proofs.replays.enter.Tie as tie
 
 -- the entry by the tests of its first word, and what it gives
-abbrev by : Run → ℕ → ℕ → Bool → Bool → RunAnswer
-by r x y advances withdraws = entry_of r (cond advances (advance x y) (cond withdraws (withdraw x) (withdrawAll x)))
+abbrev by : Run → ℕ → ℕ → Bool → Bool → Advanced
+by r x y advances withdraws = entry_of r (cond advances (advance x y) (cond withdraws (withdraw x) (withdraw_all x)))
+
+advance-requires : tie.Need-advance-requires
+advance-requires c κs = search rules
+
+withdraw-requires : tie.Need-withdraw-requires
+withdraw-requires c κs = search rules
+
+withdraw-all-requires : tie.Need-withdraw-all-requires
+withdraw-all-requires c κs = search rules
 
 returns : tie.Need-returns
 returns c =
@@ -38,5 +47,4 @@ returns-3 c =
     ∙ ap₂ (by a.run a.first a.second) (sym (ne_eqb a.kind 0 e.if1.false)) (sym (ne_eqb a.kind 1 c.before.if2.false))
 
 pub enter_spec : {M : Type 1} → statement M
-enter_spec = tie.close (tie.spec (λ c κs. search rules) returns (λ c κs. search rules) returns-2 (λ c κs. search rules)
-    returns-3)
+enter_spec = tie.close (tie.spec advance-requires returns withdraw-requires returns-2 withdraw-all-requires returns-3)

@@ -8,12 +8,12 @@ use native.Mathlib.Omega.{arith}
 use lib.ListN.{length, drop, length-set}
 use borrow.Author.Rules.{rules}
 use Rattle.run.specs.declared.Run.{Run}
-use Rattle.run.specs.declared.RunAnswer.{RunAnswer}
-use Rattle.table.specs.AnswerMeaning.{answerMeaning}
+use Rattle.run.specs.declared.Advanced.{Advanced}
+use Rattle.run.specs.Answer.{answer_meaning}
 use Rattle.model.specs.Advance.{Entry}
 use Rattle.model.specs.Search.{up_from}
-use Rattle.refinement.specs.Entries.{entry_of, answers, runAfterList}
-use Rattle.refinement.specs.Listing.{entryCount, entry_at}
+use Rattle.refinement.specs.Entries.{entry_of, answers, run_after_list}
+use Rattle.refinement.specs.Listing.{entry_count, entry_at}
 use Rattle.refinement.specs.Replay.{code, codes}
 use Rattle.run.proofs.Written.{written-more}
 use Rattle.refinement.proofs.Listed.{after_more, codes-more, length-codes, entries-more, length-entries}
@@ -27,8 +27,8 @@ first es i = map (entry_at es) (up_from 0 i)
 
 abbrev invariant-loop : tie.invariant-loop
 invariant-loop entries numbers₀ last₀ count i₀ numbers last i =
-    (i ≤ count) × ((count ≡ entryCount entries) × ((length numbers ≡ length numbers₀)
-    × ((last ≡ runAfterList last₀ (first entries i)) × (numbers ≡ codes last₀ (first entries i) ++ drop i numbers₀))))
+    (i ≤ count) × ((count ≡ entry_count entries) × ((length numbers ≡ length numbers₀)
+    × ((last ≡ run_after_list last₀ (first entries i)) × (numbers ≡ codes last₀ (first entries i) ++ drop i numbers₀))))
 
 abbrev decreases-loop : tie.decreases-loop
 decreases-loop entries numbers₀ last₀ count i₀ numbers last i = count - i
@@ -50,13 +50,61 @@ abbrev entered : tie.After-next invariant-loop decreases-loop → tie.After-ente
 entered c = c.before.before
 
 loop-holds : tie.Need-loop-init invariant-loop decreases-loop
-unfolding runAfterList answers up_from
+unfolding run_after_list answers up_from
 loop-holds c = search rules
+
+mul-enter : tie.Need-overflow-mul-enter invariant-loop decreases-loop
+mul-enter c = omega arith
+
+mul-enter-2 : tie.Need-overflow-mul-enter-2 invariant-loop decreases-loop
+mul-enter-2 c = search rules
+
+shared-slice-read-enter : tie.Need-shared-slice-read-enter invariant-loop decreases-loop
+shared-slice-read-enter c = omega arith
+
+mul-enter-3 : tie.Need-overflow-mul-enter-3 invariant-loop decreases-loop
+mul-enter-3 c = omega arith
+
+add-enter : tie.Need-overflow-add-enter invariant-loop decreases-loop
+add-enter c = omega arith
+
+mul-enter-4 : tie.Need-overflow-mul-enter-4 invariant-loop decreases-loop
+mul-enter-4 c = search rules
+
+shared-slice-read-enter-2 : tie.Need-shared-slice-read-enter-2 invariant-loop decreases-loop
+shared-slice-read-enter-2 c = omega arith
+
+mul-enter-5 : tie.Need-overflow-mul-enter-5 invariant-loop decreases-loop
+mul-enter-5 c = omega arith
+
+add-enter-2 : tie.Need-overflow-add-enter-2 invariant-loop decreases-loop
+add-enter-2 c = omega arith
+
+mul-enter-6 : tie.Need-overflow-mul-enter-6 invariant-loop decreases-loop
+mul-enter-6 c = search rules
+
+shared-slice-read-enter-3 : tie.Need-shared-slice-read-enter-3 invariant-loop decreases-loop
+shared-slice-read-enter-3 c = omega arith
+
+enter-requires : tie.Need-enter-requires invariant-loop decreases-loop
+enter-requires c κs = search rules
 
 code-requires : tie.Need-code-requires invariant-loop decreases-loop
 code-requires c κs =
     let s = loop (read c) in
     rw c.enter.ensures (small-answer s.loop.last (entry_at (entry s).args.entries.now s.loop.i))
+
+mul-numbers : tie.Need-overflow-mul-numbers invariant-loop decreases-loop
+mul-numbers c = search rules
+
+slice-write-numbers : tie.Need-slice-write-numbers invariant-loop decreases-loop
+slice-write-numbers c = omega arith
+
+add-i : tie.Need-overflow-add-i invariant-loop decreases-loop
+add-i c = omega arith
+
+loop-less : tie.Need-loop-smaller invariant-loop decreases-loop
+loop-less c = omega arith
 
 loop-again : tie.Need-loop-preserved invariant-loop decreases-loop
 loop-again c =
@@ -66,11 +114,11 @@ loop-again c =
     let i = s.loop.i in
     let xs = first a.entries.now i in
     let x = entry_at a.entries.now i in
-    let v : d.enter.result ≡ entry_of (runAfterList a.run xs) x = d.enter.ensures ∙ ap (λ (r : Run). entry_of r x) s.loop.inv.1.1.1.0 in
+    let v : d.enter.result ≡ entry_of (run_after_list a.run xs) x = d.enter.ensures ∙ ap (λ (r : Run). entry_of r x) s.loop.inv.1.1.1.0 in
     let t : first a.entries.now (i + 1) ≡ xs ++ (x ∷ []) = entries-more a.entries.now i in
     let n : length (codes a.run xs) ≡ i = length-codes a.run xs ∙ length-entries a.entries.now i in
-    let w : c.before.code.result ≡ code (answerMeaning (entry_of (runAfterList a.run xs) x).answer) =
-    c.before.code.ensures ∙ ap (λ (b : RunAnswer). code (answerMeaning b.answer)) v in
+    let w : c.before.code.result ≡ code (answer_meaning (entry_of (run_after_list a.run xs) x).answer) =
+    c.before.code.ensures ∙ ap (λ (b : Advanced). code (answer_meaning b.answer)) v in
     let more = written-more (codes a.run xs) a.numbers.now i c.before.code.result 0 n (omega arith) in
     let all : codes a.run (first a.entries.now (i + 1)) ≡ codes a.run xs ++ (c.before.code.result ∷ []) =
     ap (codes a.run) t ∙ (codes-more a.run xs x ∙ ap (λ (k : ℕ). codes a.run xs ++ (k ∷ [])) (sym w)) in (
@@ -80,7 +128,7 @@ loop-again c =
         (
           simp length-set s.loop.inv.1.1.0,
           (
-            ap (λ (b : RunAnswer). b.run) v ∙ (sym (after_more a.run xs x) ∙ ap (runAfterList a.run) (sym t)),
+            ap (λ (b : Advanced). b.run) v ∙ (sym (after_more a.run xs x) ∙ ap (run_after_list a.run) (sym t)),
             simp s.loop.inv.1.1.1.1 (more ∙ ap (λ (l : List ℕ). l ++ drop (i + 1) a.numbers.now) (sym all)),
           ),
         ),
@@ -95,14 +143,35 @@ returns c =
     let s = c.before in
     let a = (entry s).args in
     let es = a.entries.now in
-    let e : s.loop.i ≡ entryCount es = omega arith in (
-      s.loop.invariant.1.1.1.0 ∙ ap (λ (k : ℕ). runAfterList a.run (first es k)) e,
+    let e : s.loop.i ≡ entry_count es = omega arith in (
+      s.loop.invariant.1.1.1.0 ∙ ap (λ (k : ℕ). run_after_list a.run (first es k)) e,
       s.loop.invariant.1.1.1.1 ∙ ap (λ (k : ℕ). codes a.run (first es k) ++ drop k a.numbers.now) e,
     )
 
 pub enter-all-spec : {M : Type 1} → statement M
 enter-all-spec =
-    tie.close (tie.spec invariant-loop decreases-loop loop-holds (λ c. omega arith) (λ c. search rules) (λ c. omega arith)
-    (λ c. omega arith) (λ c. omega arith) (λ c. search rules) (λ c. omega arith) (λ c. omega arith) (λ c. omega arith)
-    (λ c. search rules) (λ c. omega arith) (λ c κs. search rules) code-requires (λ c. search rules) (λ c. omega arith)
-    (λ c. omega arith) (λ c. omega arith) loop-again same_length returns)
+    tie.close
+    (tie.spec
+    invariant-loop
+    decreases-loop
+    loop-holds
+    mul-enter
+    mul-enter-2
+    shared-slice-read-enter
+    mul-enter-3
+    add-enter
+    mul-enter-4
+    shared-slice-read-enter-2
+    mul-enter-5
+    add-enter-2
+    mul-enter-6
+    shared-slice-read-enter-3
+    enter-requires
+    code-requires
+    mul-numbers
+    slice-write-numbers
+    add-i
+    loop-less
+    loop-again
+    same_length
+    returns)

@@ -4,8 +4,11 @@ use borrow.Author.Rules.{rules}
 use Rattle.refinement.proofs.replays.fits.Statement.{statement}
 use Rattle.refinement.proofs.replays.fits.Tie as tie
 
+listed-requires : tie.Need-listed-requires
+listed-requires c κs = search rules
+
 returns : tie.Need-returns
 returns c = simp c.listed.ensures
 
 pub fits-spec : {M : Type 1} → statement M
-fits-spec = tie.close (tie.spec (λ c κs. search rules) returns)
+fits-spec = tie.close (tie.spec listed-requires returns)

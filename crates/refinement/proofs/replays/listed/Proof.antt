@@ -6,14 +6,13 @@ use Prim.Native.Nat.{ℕ, ◌-◌, ◌≤◌, ◌<◌}
 use native.Mathlib.Omega.{arith}
 use borrow.Author.Count.{below_more}
 use borrow.Author.Rules.{rules}
-use Rattle.refinement.specs.Listing.{isEntry, entryCount, entryKindAt, entrySecondAt}
+use Rattle.refinement.specs.Listing.{is_entry, entry_count, entry_kind_at, entry_second_at}
 use Rattle.refinement.proofs.Listed.{is-entry-decides, listed-decides, not-listed-over, not-listed-at}
 use Rattle.refinement.proofs.replays.listed.Statement.{statement}
 use Rattle.refinement.proofs.replays.listed.Tie as tie
 
 abbrev invariant-loop : tie.invariant-loop
-invariant-loop entries count i₀ i =
-    (i ≤ count) × ((count ≡ entryCount entries) × ((k : ℕ) → k < i → isEntry (entryKindAt entries k) (entrySecondAt entries k) ≡ true))
+invariant-loop entries count i₀ i = (i ≤ count) × ((count ≡ entry_count entries) × ((k : ℕ) → k < i → is_entry (entry_kind_at entries k) (entry_second_at entries k) ≡ true))
 
 abbrev decreases-loop : tie.decreases-loop
 decreases-loop entries count i₀ i = count - i
@@ -28,6 +27,36 @@ entry c = c.before.before.before
 
 loop-holds : tie.Need-loop-init invariant-loop decreases-loop
 loop-holds c = (search rules, (search rules, λ (k : ℕ) h. absurd (omega arith)))
+
+mul-is-entry : tie.Need-overflow-mul-is-entry invariant-loop decreases-loop
+mul-is-entry c = omega arith
+
+mul-is-entry-2 : tie.Need-overflow-mul-is-entry-2 invariant-loop decreases-loop
+mul-is-entry-2 c = search rules
+
+shared-slice-read-is-entry : tie.Need-shared-slice-read-is-entry invariant-loop decreases-loop
+shared-slice-read-is-entry c = omega arith
+
+mul-is-entry-3 : tie.Need-overflow-mul-is-entry-3 invariant-loop decreases-loop
+mul-is-entry-3 c = omega arith
+
+add-is-entry : tie.Need-overflow-add-is-entry invariant-loop decreases-loop
+add-is-entry c = omega arith
+
+mul-is-entry-4 : tie.Need-overflow-mul-is-entry-4 invariant-loop decreases-loop
+mul-is-entry-4 c = search rules
+
+shared-slice-read-is-entry-2 : tie.Need-shared-slice-read-is-entry-2 invariant-loop decreases-loop
+shared-slice-read-is-entry-2 c = omega arith
+
+is-entry-requires : tie.Need-is-entry-requires invariant-loop decreases-loop
+is-entry-requires c κs = search rules
+
+add-i : tie.Need-overflow-add-i invariant-loop decreases-loop
+add-i c = omega arith
+
+loop-less : tie.Need-loop-smaller invariant-loop decreases-loop
+loop-less c = omega arith
 
 loop-again : tie.Need-loop-preserved invariant-loop decreases-loop
 loop-again c =
@@ -45,15 +74,31 @@ returns-2 : tie.Need-returns-2 invariant-loop decreases-loop
 returns-2 c =
     let s = c.before in
     let es = (entry s).args.entries.now in
-    let e : s.loop.i ≡ entryCount es = omega arith in
-    let all : (k : ℕ) → k < entryCount es → isEntry (entryKindAt es k) (entrySecondAt es k) ≡ true = rw e at s.loop.invariant.1.1 in
-    sym ((listed-decides es).1 (s.before.if1.true, λ k l. (is-entry-decides (entryKindAt es k) (entrySecondAt es k)).0 (all k l)))
+    let e : s.loop.i ≡ entry_count es = omega arith in
+    let all : (k : ℕ) → k < entry_count es → is_entry (entry_kind_at es k) (entry_second_at es k) ≡ true = rw e at s.loop.invariant.1.1 in
+    sym ((listed-decides es).1 (s.before.if1.true, λ k l. (is-entry-decides (entry_kind_at es k) (entry_second_at es k)).0 (all k l)))
 
 returns-3 : tie.Need-returns-3 invariant-loop decreases-loop
 returns-3 c = sym (not-listed-over c.before.before.args.entries.now c.if1.false)
 
 pub listed-spec : {M : Type 1} → statement M
 listed-spec =
-    tie.close (tie.spec invariant-loop decreases-loop loop-holds (λ c. omega arith) (λ c. search rules) (λ c. omega arith)
-    (λ c. omega arith) (λ c. omega arith) (λ c. search rules) (λ c. omega arith) (λ c κs. search rules)
-    (λ c. omega arith) (λ c. omega arith) loop-again returns returns-2 returns-3)
+    tie.close
+    (tie.spec
+    invariant-loop
+    decreases-loop
+    loop-holds
+    mul-is-entry
+    mul-is-entry-2
+    shared-slice-read-is-entry
+    mul-is-entry-3
+    add-is-entry
+    mul-is-entry-4
+    shared-slice-read-is-entry-2
+    is-entry-requires
+    add-i
+    loop-less
+    loop-again
+    returns
+    returns-2
+    returns-3)

@@ -5,14 +5,14 @@ use mathlib.Core.List.{List, ◌++◌}
 use Prim.Native.Nat.{ℕ}
 use lib.ListN.{drop}
 use borrow.Author.Rules.{rules}
-use Rattle.model.specs.Sizes.{mostCores}
+use Rattle.model.specs.Sizes.{most_cores}
 use Rattle.run.specs.declared.Run.{Run}
 use Rattle.run.specs.declared.Row.{Row}
 use Rattle.run.specs.Row.{row_of}
 use Rattle.refinement.specs.declared.Replayed.{Replayed}
-use Rattle.refinement.specs.Entries.{runAfterList}
-use Rattle.refinement.specs.Listing.{entriesIn}
-use Rattle.refinement.specs.Replay.{SlicesFit, rowCase, ReplayOutcome}
+use Rattle.refinement.specs.Entries.{run_after_list}
+use Rattle.refinement.specs.Listing.{entries_in}
+use Rattle.refinement.specs.Replay.{SlicesFit, row_case, ReplayOutcome}
 use Rattle.refinement.proofs.Outcomes.{fits-decides, replayed-unfit, replayed-fit}
 use Rattle.refinement.proofs.replays.replay_run.Statement.{statement}
 use Rattle.refinement.proofs.replays.replay_run.Tie as tie
@@ -47,11 +47,26 @@ fitting c =
     let a = (entry c.before.before).args in
     (fits-decides a.entries.now a.numbers.now a.bytes.now).0 (sym c.before.fits2.ensures ∙ c.if1.true)
 
+fits-requires : tie.Need-fits-requires
+fits-requires c κs = search rules
+
 enter-all-requires : tie.Need-enter-all-requires
 enter-all-requires c κs = (fitting c.before).1
 
+row-requires : tie.Need-row-requires
+row-requires c κs = search rules
+
 put-requires : tie.Need-put-requires
 put-requires c κs = (fitting (fit (gone (row-of c)))).2
+
+row-case-requires : tie.Need-row-case-requires
+row-case-requires c κs = search rules
+
+same_length : tie.Need-same-length
+same_length c = search rules
+
+same-length-2 : tie.Need-same-length-2
+same-length-2 c = search rules
 
 returns : tie.Need-returns
 returns c =
@@ -60,12 +75,12 @@ returns c =
     let v = gone w in
     let f = fit v in
     let a = (entry f.before.before).args in
-    let row : w.row.result ≡ row_of (runAfterList a.run (entriesIn a.entries.now)) 0 =
+    let row : w.row.result ≡ row_of (run_after_list a.run (entries_in a.entries.now)) 0 =
     w.row.ensures.value ∙ ap (λ (r : Run). row_of r 0) v.enter-all.ensures.0 in
     outcome
-    (c.row-case.ensures ∙ ap (λ (q : Row). rowCase q.answer) row)
+    (c.row-case.ensures ∙ ap (λ (q : Row). row_case q.answer) row)
     v.enter-all.ensures.1
-    (u.put.ensures ∙ ap (λ (q : Row). q.bytes ++ drop mostCores a.bytes.now) row)
+    (u.put.ensures ∙ ap (λ (q : Row). q.bytes ++ drop most_cores a.bytes.now) row)
     ∙ sym (replayed-fit a.run a.entries.now a.numbers.now a.bytes.now (sym f.before.fits2.ensures ∙ f.if1.taken))
 
 returns-2 : tie.Need-returns-2
@@ -75,5 +90,14 @@ returns-2 c =
 
 pub replay-run-spec : {M : Type 1} → statement M
 replay-run-spec =
-    tie.close (tie.spec (λ c κs. search rules) enter-all-requires (λ c κs. search rules) put-requires
-    (λ c κs. search rules) (λ c. search rules) (λ c. search rules) returns returns-2)
+    tie.close
+    (tie.spec
+    fits-requires
+    enter-all-requires
+    row-requires
+    put-requires
+    row-case-requires
+    same_length
+    same-length-2
+    returns
+    returns-2)

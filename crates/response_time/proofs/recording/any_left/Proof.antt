@@ -16,8 +16,8 @@ use Rattle.simulation.specs.Machine.{machine_of}
 use Rattle.simulation.specs.Places.{segment}
 use Rattle.simulation.proofs.Parts.{front_at}
 use Rattle.judge.proofs.LateByEvents.{RemainingDue, at-lowest, walk-passes}
-use Rattle.model.proofs.SetWalk.{Off, lowest}
-use Rattle.response_time.specs.Recording.{anyLeft}
+use Rattle.simulation.proofs.SetWalk.{Off, lowest}
+use Rattle.response_time.specs.Recording.{any_left}
 use Rattle.response_time.proofs.recording.any_left.Statement.{statement}
 use Rattle.response_time.proofs.recording.any_left.Tie as tie
 
@@ -36,15 +36,15 @@ left_at : (c : tie.In-loop invariant-loop decreases-loop) (xs : List ℕ) → ge
 left_at c xs = front_at xs (lowest c.before.loop.rest) (low c).below
 
 -- one is found
-found : (set : ℕ) (left : List ℕ) (p : ℕ) → p < 32 → bit set p ≡ true → 0 < get_or left p 0 → true ≡ anyLeft set left
-unfolding anyLeft
+found : (set : ℕ) (left : List ℕ) (p : ℕ) → p < 32 → bit set p ≡ true → 0 < get_or left p 0 → true ≡ any_left set left
+unfolding any_left
 found set left p l on some =
     sym (any_of 32 (λ q. bit set q && ltb 0 (get_or left q 0)) p l
     (and_both (bit set p) (ltb 0 (get_or left p 0)) on (lt-ltb 0 (get_or left p 0) some)))
 
 -- all have been handled
-none_found : (set : ℕ) (left : List ℕ) → ((p : ℕ) → bit set p ≡ true → get_or left p 0 ≡ 0) → false ≡ anyLeft set left
-unfolding anyLeft
+none_found : (set : ℕ) (left : List ℕ) → ((p : ℕ) → bit set p ≡ true → get_or left p 0 ≡ 0) → false ≡ any_left set left
+unfolding any_left
 none_found set left none = sym (none_any 32 (λ q. bit set q && ltb 0 (get_or left q 0)) (λ p l. go p (bit set p) refl))
   where
     go : (p : ℕ) (b : Bool) → bit set p ≡ b → b && ltb 0 (get_or left p 0) ≡ false
@@ -57,6 +57,15 @@ loop-holds c = record {
   seen = λ q e f. absurd (true≢false (sym e ∙ f));
   small = c.ranges.set.fits;
 }
+
+cast-if1 : tie.Need-overflow-cast-if1 invariant-loop decreases-loop
+cast-if1 c = omega (arith, (low c).below)
+
+mul-if1 : tie.Need-overflow-mul-if1 invariant-loop decreases-loop
+mul-if1 c = omega (arith, (low c).below)
+
+element-copy-out-if1 : tie.Need-element-copy-out-if1 invariant-loop decreases-loop
+element-copy-out-if1 c = omega (arith, (low c).below)
 
 returns : tie.Need-returns invariant-loop decreases-loop
 returns c =
@@ -87,6 +96,16 @@ returns-2 c =
 
 pub any-left-spec : {M : Type 1} → statement M
 any-left-spec =
-    tie.close (tie.spec invariant-loop decreases-loop loop-holds (λ c. omega (arith, (low c).below))
-    (λ c. omega (arith, (low c).below)) (λ c. omega (arith, (low c).below)) returns sub-rest loop-less loop-again
+    tie.close
+    (tie.spec
+    invariant-loop
+    decreases-loop
+    loop-holds
+    cast-if1
+    mul-if1
+    element-copy-out-if1
+    returns
+    sub-rest
+    loop-less
+    loop-again
     returns-2)

@@ -9,7 +9,7 @@ use lib.ListN.{get_or}
 use Rattle.model.specs.Search.{bit}
 use Rattle.simulation.specs.Places.{segment}
 use Rattle.simulation.proofs.Parts.{part_at}
-use Rattle.model.proofs.SetWalk.{taken, lowest, Off, off-turn}
+use Rattle.simulation.proofs.SetWalk.{taken, lowest, Off, off-turn}
 use Rattle.response_time.specs.Recording.{recorded}
 use Rattle.response_time.proofs.Recorded.{noted-none, noted_more, noted-all}
 use Rattle.response_time.proofs.recording.record_ends.Statement.{statement}
@@ -17,8 +17,7 @@ use Rattle.response_time.proofs.recording.record_ends.Tie as tie
 
 abbrev invariant-loop : tie.invariant-loop
 invariant-loop ended tick times places times₀ rest₀ longest rest =
-    (rest < 2 ^ 32) × ((p : ℕ) → bit rest p ≡ true → bit ended p ≡ true)
-    × (longest ≡ recorded (taken ended rest) tick (segment 64 times) (segment 64 places) times₀)
+    (rest < 2 ^ 32) × ((p : ℕ) → bit rest p ≡ true → bit ended p ≡ true) × (longest ≡ recorded (taken ended rest) tick (segment 64 times) (segment 64 places) times₀)
 
 abbrev decreases-loop : tie.decreases-loop
 decreases-loop ended tick times places times₀ rest₀ longest rest = rest
@@ -42,8 +41,7 @@ off c =
     off-turn c.before.before.args.ended l.rest c.loop-test.true l.invariant.0 l.invariant.1
 
 -- its period and its next release, as they are in the lists
-period-at :
-    (c : tie.In-loop invariant-loop decreases-loop) (xs : List ℕ) → get_or (segment 64 xs) (lowest c.before.loop.rest) 0 ≡ get_or xs (64 + lowest c.before.loop.rest) 0
+period-at : (c : tie.In-loop invariant-loop decreases-loop) (xs : List ℕ) → get_or (segment 64 xs) (lowest c.before.loop.rest) 0 ≡ get_or xs (64 + lowest c.before.loop.rest) 0
 period-at c xs = part_at 64 xs (lowest c.before.loop.rest) (off c).below
 
 -- the sum fits, and the next release is within it
@@ -62,11 +60,47 @@ small c =
     let N = period-at c a.places.now in
     record { fits = omega (arith, x.0, T); within = omega (arith, x.1, T, N) }
 
+cast-place : tie.Need-overflow-cast-place invariant-loop decreases-loop
+cast-place c = omega (arith, (off c).below)
+
+sub-rest : tie.Need-overflow-sub-rest invariant-loop decreases-loop
+sub-rest c = omega arith
+
+add-time : tie.Need-overflow-add-time invariant-loop decreases-loop
+add-time c = omega (arith, (off c).below)
+
+mul-time : tie.Need-overflow-mul-time invariant-loop decreases-loop
+mul-time c = omega (arith, (off c).below)
+
+element-copy-out-time : tie.Need-element-copy-out-time invariant-loop decreases-loop
+element-copy-out-time c = omega (arith, (off c).below)
+
+add-time-2 : tie.Need-overflow-add-time-2 invariant-loop decreases-loop
+add-time-2 c = omega (arith, (small c.before).fits)
+
+add-time-3 : tie.Need-overflow-add-time-3 invariant-loop decreases-loop
+add-time-3 c = omega (arith, (off c.before).below)
+
+mul-time-2 : tie.Need-overflow-mul-time-2 invariant-loop decreases-loop
+mul-time-2 c = omega (arith, (off c.before).below)
+
+element-copy-out-time-2 : tie.Need-element-copy-out-time-2 invariant-loop decreases-loop
+element-copy-out-time-2 c = omega (arith, (off c.before).below)
+
 sub-time : tie.Need-overflow-sub-time invariant-loop decreases-loop
 sub-time c = (small (worked c)).within
 
+mul-larger : tie.Need-overflow-mul-larger invariant-loop decreases-loop
+mul-larger c = omega (arith, (off (worked c)).below)
+
 element-copy-out-larger : tie.Need-element-copy-out-larger invariant-loop decreases-loop
 element-copy-out-larger c = (off (worked c)).below
+
+larger-requires : tie.Need-larger-requires invariant-loop decreases-loop
+larger-requires c κs = search rules
+
+mul-responses : tie.Need-overflow-mul-responses invariant-loop decreases-loop
+mul-responses c = omega (arith, (off (turn c)).below)
 
 element-write-responses : tie.Need-element-write-responses invariant-loop decreases-loop
 element-write-responses c = (off (turn c)).below
@@ -86,8 +120,7 @@ loop-again c =
       omega (arith, o.falls, l.inv.0),
       o.subset,
       noted_more a.tick T N a.responses.now a.ended l.rest l.responses o l.inv.2 c.larger.result
-          (c.larger.ensures ∙ ap₂ (λ (x y : ℕ). max (get_or l.responses p 0) (a.tick + x - y)) (sym (period-at n a.times.now))
-          (sym (period-at n a.places.now))),
+          (c.larger.ensures ∙ ap₂ (λ (x y : ℕ). max (get_or l.responses p 0) (a.tick + x - y)) (sym (period-at n a.times.now)) (sym (period-at n a.places.now))),
     )
 
 returns : tie.Need-returns invariant-loop decreases-loop
@@ -99,9 +132,26 @@ returns c =
 
 pub record-ends-spec : {M : Type 1} → statement M
 record-ends-spec =
-    tie.close (tie.spec invariant-loop decreases-loop loop-holds (λ c. omega (arith, (off c).below)) (λ c. omega arith)
-    (λ c. omega (arith, (off c).below)) (λ c. omega (arith, (off c).below)) (λ c. omega (arith, (off c).below))
-    (λ c. omega (arith, (small c.before).fits)) (λ c. omega (arith, (off c.before).below))
-    (λ c. omega (arith, (off c.before).below)) (λ c. omega (arith, (off c.before).below)) sub-time
-    (λ c. omega (arith, (off (worked c)).below)) element-copy-out-larger (λ c κs. search rules)
-    (λ c. omega (arith, (off (turn c)).below)) element-write-responses loop-less loop-again returns)
+    tie.close
+    (tie.spec
+    invariant-loop
+    decreases-loop
+    loop-holds
+    cast-place
+    sub-rest
+    add-time
+    mul-time
+    element-copy-out-time
+    add-time-2
+    add-time-3
+    mul-time-2
+    element-copy-out-time-2
+    sub-time
+    mul-larger
+    element-copy-out-larger
+    larger-requires
+    mul-responses
+    element-write-responses
+    loop-less
+    loop-again
+    returns)

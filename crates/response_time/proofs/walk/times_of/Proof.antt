@@ -6,9 +6,9 @@ use Prim.Native.Nat.{suc, ◌-◌}
 use native.Mathlib.Omega.{arith}
 use lib.ListN.{replicate}
 use Rattle.table.specs.declared.Loaded.{Loaded}
-use Rattle.simulation.specs.TickState.{Numbers, numbersBy}
+use Rattle.simulation.specs.TickState.{Numbers, numbers_by}
 use Rattle.table.specs.Fit.{Fit}
-use Rattle.simulation.specs.EventState.{EventState, eventStateOf, StateRepresents}
+use Rattle.simulation.specs.EventState.{EventState, event_state_of, StateRepresents}
 use Rattle.simulation.specs.Jump.{JumpStarts, JumpOf}
 use Rattle.simulation.proofs.AreEvents.{initial-represents}
 use Rattle.judge.proofs.OneStep.{one-jump}
@@ -18,8 +18,7 @@ use Rattle.response_time.proofs.walk.times_of.Statement.{statement}
 use Rattle.response_time.proofs.walk.times_of.Tie as tie
 
 abbrev invariant-loop : tie.invariant-loop
-invariant-loop table setting widths times registers₀ places₀ times₀ registers places longest =
-    StateRepresents table (eventStateOf registers places) × Noted table registers.tick longest
+invariant-loop table setting widths times registers₀ places₀ times₀ registers places longest = StateRepresents table (event_state_of registers places) × Noted table registers.tick longest
 
 abbrev decreases-loop : tie.decreases-loop
 decreases-loop table setting widths times registers₀ places₀ times₀ registers places longest = suc table.horizon - registers.tick
@@ -53,13 +52,13 @@ table_of p = (begin p).before.args.table
 abbrev nums : tie.After-places invariant-loop decreases-loop → Numbers
 nums p =
     let r = (begin p).columns_of.result in
-    numbersBy r.setting r.widths r.times
+    numbers_by r.setting r.widths r.times
 
 fit_of : (p : tie.After-places invariant-loop decreases-loop) → Fit (table_of p)
 fit_of p = (begin p).before.requires
 
 abbrev state-of : tie.At-loop invariant-loop decreases-loop → EventState
-state-of k = eventStateOf k.loop.registers k.loop.places
+state-of k = event_state_of k.loop.registers k.loop.places
 
 -- where no task is late a jump may begin
 begins : (c : tie.Else2 invariant-loop decreases-loop) → JumpStarts (table_of (turn c.before).before) (nums (turn c.before).before) (state-of (turn c.before))
@@ -75,6 +74,12 @@ begins c =
     }
 
 -- THE ANSWERS
+columns-of-requires : tie.Need-columns-of-requires invariant-loop decreases-loop
+columns-of-requires c κs = search rules
+
+start-requires : tie.Need-start-requires invariant-loop decreases-loop
+start-requires c κs = search rules
+
 loop-holds : tie.Need-loop-init invariant-loop decreases-loop
 loop-holds c =
     let t = table_of c in
@@ -82,6 +87,12 @@ loop-holds c =
       subst (StateRepresents t) (sym e) (initial-represents t (fit_of c)),
       subst (λ (s : EventState). Noted t s.tick (replicate 32 0)) (sym e) (noted-start t (fit_of c)),
     )
+
+any-left-requires : tie.Need-any-left-requires invariant-loop decreases-loop
+any-left-requires c κs = search rules
+
+refused-requires : tie.Need-refused-requires invariant-loop decreases-loop
+refused-requires c κs = search rules
 
 returns : tie.Need-returns invariant-loop decreases-loop
 returns c =
@@ -99,14 +110,12 @@ add-run-on c =
 
 run-on-requires : tie.Need-run-on-requires invariant-loop decreases-loop
 run-on-requires c κs =
-    let b = begins c.before.before.before.before in (
-      table_of (turn c.before.before.before.before.before).before,
-      record { fit = b.fit; numbers = b.numbers; represents = b.represents; early = omega (arith, b.early) },
-    )
+    let b = begins c.before.before.before.before in
+    (table_of (turn c.before.before.before.before.before).before, record { fit = b.fit; numbers = b.numbers; represents = b.represents; early = omega (arith, b.early) })
 
 -- one jump is taken
 jump-of : (a : tie.After-run-on invariant-loop decreases-loop) → let k = turn (clear a).before in
-    JumpOf (nums k.before) (state-of k) (eventStateOf a.run_on.result.registers a.run_on.new.1.1.1.1.0)
+    JumpOf (nums k.before) (state-of k) (event_state_of a.run_on.result.registers a.run_on.new.1.1.1.1.0)
 jump-of a =
     let k = turn (clear a).before in
     one-jump (table_of k.before) (nums k.before) (state-of k) _ _ (begins (clear a)) a.run_on.ensures
@@ -115,7 +124,7 @@ record-ends-requires : tie.Need-record-ends-requires invariant-loop decreases-lo
 record-ends-requires c κs =
     let a = jumped-in c in
     let k = turn (clear a).before in
-    jump_small (table_of k.before) (nums k.before) (state-of k) (eventStateOf a.run_on.result.registers _) (begins (clear a)) (jump-of a).value
+    jump_small (table_of k.before) (nums k.before) (state-of k) (event_state_of a.run_on.result.registers _) (begins (clear a)) (jump-of a).value
 
 loop-less : tie.Need-loop-smaller invariant-loop decreases-loop
 loop-less c =
@@ -130,18 +139,30 @@ loop-again c =
     let k = turn e.before in
     let t = table_of k.before in (
       ((jump-of a).lands t (begins e)).represents,
-      jump-recorded t (nums k.before) (state-of k) (eventStateOf a.run_on.result.registers _) (begins e) (jump-of a).value k.loop.responses
-          k.loop.inv.1
+      jump-recorded t (nums k.before) (state-of k) (event_state_of a.run_on.result.registers _) (begins e) (jump-of a).value k.loop.responses k.loop.inv.1
           _ c.record-ends.ensures,
     )
 
 returns-2 : tie.Need-returns-2 invariant-loop decreases-loop
 returns-2 c =
     let k = past c in
-    met-answer (table_of k.before) (fit_of k.before) k.loop.registers.tick c.if1.false k.loop.inv.0.met k.loop.responses
-    k.loop.inv.1
+    met-answer (table_of k.before) (fit_of k.before) k.loop.registers.tick c.if1.false k.loop.inv.0.met k.loop.responses k.loop.inv.1
 
 pub times-of-spec : {M : Type 1} → statement M
 times-of-spec =
-    tie.close (tie.spec invariant-loop decreases-loop (λ c κs. search rules) (λ c κs. search rules) loop-holds (λ c κs. search rules)
-    (λ c κs. search rules) returns add-run-on run-on-requires record-ends-requires loop-less loop-again returns-2)
+    tie.close
+    (tie.spec
+    invariant-loop
+    decreases-loop
+    columns-of-requires
+    start-requires
+    loop-holds
+    any-left-requires
+    refused-requires
+    returns
+    add-run-on
+    run-on-requires
+    record-ends-requires
+    loop-less
+    loop-again
+    returns-2)

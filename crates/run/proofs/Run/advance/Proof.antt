@@ -9,10 +9,10 @@ use lib.Dec.{eqb}
 use borrow.Author.Rules.{rules}
 use borrow.Author.Tests.{eq-eqb, ne_eqb}
 use Rattle.model.specs.Search.{bit}
-use Rattle.model.specs.Sizes.{mostTasks}
-use Rattle.table.specs.declared.Answer.TheVariants.{Taken}
-use Rattle.run.specs.Numbers.{wrongReportsIn}
-use Rattle.run.specs.Row.{rowAnswer}
+use Rattle.model.specs.Sizes.{most_tasks}
+use Rattle.run.specs.declared.Answer.TheVariants.{Taken}
+use Rattle.run.specs.Numbers.{wrong_reports_in}
+use Rattle.run.specs.Row.{row_answer}
 use Rattle.run.proofs.Cases.{advance-misreported, advance-refused, advance-taken, row-passes, sets-answer, working-by}
 use Rattle.run.proofs.Chosen.{may-report}
 use Rattle.run.proofs.Exact.{advance-of}
@@ -32,10 +32,10 @@ abbrev misreported : tie.Else1 → tie.After-enum-told
 misreported c = c.before.before
 
 -- the answer is the row's
-answered : (c : tie.After-tick) → (let a = c.before.args in c.tick.result.answer ≡ rowAnswer a.self a.empties)
+answered : (c : tie.After-tick) → (let a = c.before.args in c.tick.result.answer ≡ row_answer a.self a.empties)
 answered c = let a = c.before.args in c.tick.ensures.answered ∙ sets-answer a.self a.empties
 
-taken : (c : tie.After-enum-told) → (let a = (looked c).before.args in rowAnswer a.self a.empties ≡ Taken)
+taken : (c : tie.After-enum-told) → (let a = (looked c).before.args in row_answer a.self a.empties ≡ Taken)
 taken c = sym (answered (looked c)) ∙ c.enum_told.given.1
 
 -- 16 is decided by one test of sets
@@ -44,7 +44,7 @@ Within c =
     let t = looked c in
     let a = t.before.args in
     let k = t.tick.result in
-    wrongReportsIn a.self a.empties a.reports ≡ not (eqb (bit_and a.reports k.working) a.reports)
+    wrong_reports_in a.self a.empties a.reports ≡ not (eqb (bit_and a.reports k.working) a.reports)
 
 within : (c : tie.After-enum-told) → Within c
 within c =
@@ -54,7 +54,16 @@ within c =
     let r = s.args.self in
     let e = s.args.empties in
     may-report r e k.working (λ p. ap (λ (x : ℕ). bit x p) (t.tick.ensures.works ∙ working-by r e (taken c)) ∙ works_at r e (taken c) p)
-    s.args.reports mostTasks s.fits.reports.fits
+    s.args.reports most_tasks s.fits.reports.fits
+
+tick-requires : tie.Need-tick-requires
+tick-requires c κs = search rules
+
+enum-known-answer : tie.Need-enum-known-answer
+enum-known-answer c = search rules
+
+refused-requires : tie.Need-refused-requires
+refused-requires c κs = search rules
 
 returns : tie.Need-returns
 returns c =
@@ -63,6 +72,9 @@ returns c =
     let a = t.before.args in
     advance-of a.self a.empties a.reports c.refused.result
     (c.refused.ensures ∙ sym (advance-refused a.self a.empties a.reports _ _ (sym (answered t) ∙ o.answer.given.1)))
+
+enum_told : tie.Need-enum-told
+enum_told c = search rules
 
 moved-requires : tie.Need-moved-requires
 moved-requires c κs =
@@ -80,6 +92,9 @@ returns-2 c =
     advance-of a.self a.empties a.reports c.moved.result
     (c.moved.ensures ∙ sym (advance-taken a.self a.empties a.reports (taken e) m))
 
+refused-requires-2 : tie.Need-refused-requires-2
+refused-requires-2 c κs = search rules
+
 returns-3 : tie.Need-returns-3
 returns-3 c =
     let e = misreported c.before in
@@ -90,5 +105,14 @@ returns-3 c =
 
 pub advance-spec : {M : Type 1} → statement M
 advance-spec =
-    tie.close (tie.spec (λ c κs. search rules) (λ c. search rules) (λ c κs. search rules) returns (λ c. search rules)
-    moved-requires returns-2 (λ c κs. search rules) returns-3)
+    tie.close
+    (tie.spec
+    tick-requires
+    enum-known-answer
+    refused-requires
+    returns
+    enum_told
+    moved-requires
+    returns-2
+    refused-requires-2
+    returns-3)

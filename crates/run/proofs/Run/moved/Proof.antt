@@ -10,13 +10,13 @@ use lib.ListN.{length, get_or, length-map}
 use borrow.Author.Rules.{rules}
 use Rattle.model.specs.Search.{bit}
 use Rattle.model.proofs.Digits.{or-bit}
-use Rattle.model.specs.Sizes.{mostTasks}
+use Rattle.model.specs.Sizes.{most_tasks}
 use Rattle.run.specs.declared.Run.{Run}
-use Rattle.run.specs.declared.RunAnswer.{RunAnswer}
-use Rattle.table.specs.declared.Answer.TheVariants.{Taken}
-use Rattle.phase.specs.Task.{pastEnd}
-use Rattle.run.specs.Run.{mapFirst, next_at, moved}
-use Rattle.run.proofs.Places.{mapFirst-past, mapFirst-step}
+use Rattle.run.specs.declared.Advanced.{Advanced}
+use Rattle.run.specs.declared.Answer.TheVariants.{Taken}
+use Rattle.phase.specs.Task.{past_end}
+use Rattle.run.specs.Run.{map_first, next_at, moved}
+use Rattle.run.proofs.Places.{map_first-past, map_first-step}
 use Rattle.run.proofs.RunOut.{few, has_room}
 use Rattle.run.proofs.Run.moved.Statement.{statement}
 use Rattle.run.proofs.Run.moved.Tie as tie
@@ -29,15 +29,15 @@ moved_to reported e r n = record {
   fence = r.fence;
   withdrawn = r.withdrawn;
   count = r.count;
-  tasks = mapFirst (next_at r reported e) n r.tasks;
+  tasks = map_first (next_at r reported e) n r.tasks;
 }
 
 -- an advance that gives a run
-abbrev taken : Run → RunAnswer
+abbrev taken : Run → Advanced
 taken r = record { answer = Taken; run = r }
 
 abbrev invariant-loop : tie.invariant-loop
-invariant-loop given lent reports empties run₀ rule count emptied i₀ run i = (i ≤ count) × ((count ≤ mostTasks) × (run ≡ moved_to (bit reports) empties run₀ i))
+invariant-loop given lent reports empties run₀ rule count emptied i₀ run i = (i ≤ count) × ((count ≤ most_tasks) × (run ≡ moved_to (bit reports) empties run₀ i))
 
 abbrev decreases-loop : tie.decreases-loop
 decreases-loop given lent reports empties run₀ rule count emptied i₀ run i = count - i
@@ -55,16 +55,49 @@ abbrev entry : tie.At-loop invariant-loop decreases-loop → tie.Start invariant
 entry s = s.before.before
 
 loop-holds : tie.Need-loop-init invariant-loop decreases-loop
-unfolding mapFirst
+unfolding map_first
 loop-holds c = (search rules, (few c.before.args.self c.before.requires.0, refl))
+
+mul-task : tie.Need-overflow-mul-task invariant-loop decreases-loop
+mul-task c = omega arith
+
+element-copy-out-task : tie.Need-element-copy-out-task invariant-loop decreases-loop
+element-copy-out-task c = omega arith
+
+cast-place : tie.Need-overflow-cast-place invariant-loop decreases-loop
+cast-place c = omega arith
+
+has-requires : tie.Need-has-requires invariant-loop decreases-loop
+has-requires c κs = omega arith
+
+has-requires-2 : tie.Need-has-requires-2 invariant-loop decreases-loop
+has-requires-2 c κs = omega arith
+
+has-requires-3 : tie.Need-has-requires-3 invariant-loop decreases-loop
+has-requires-3 c κs = omega arith
+
+has-requires-4 : tie.Need-has-requires-4 invariant-loop decreases-loop
+has-requires-4 c κs = omega arith
 
 next-requires : tie.Need-next-requires invariant-loop decreases-loop
 next-requires c κs =
     let s = loop (read c) in
     let a = (entry s).args in
     let i = s.loop.i in
-    simp (s.loop.inv.1.1, mapFirst-past (next_at a.self (bit a.reports) a.empties) i a.self.tasks i pastEnd (le_refl i))
+    simp (s.loop.inv.1.1, map_first-past (next_at a.self (bit a.reports) a.empties) i a.self.tasks i past_end (le_refl i))
     (has_room a.self (entry s).pre.0 i (omega arith))
+
+mul_next : tie.Need-overflow-mul-next invariant-loop decreases-loop
+mul_next c = omega arith
+
+element-set-from-next : tie.Need-element-set-from-next invariant-loop decreases-loop
+element-set-from-next c = omega arith
+
+add-i : tie.Need-overflow-add-i invariant-loop decreases-loop
+add-i c = omega arith
+
+loop-less : tie.Need-loop-smaller invariant-loop decreases-loop
+loop-less c = omega arith
 
 loop-again : tie.Need-loop-preserved invariant-loop decreases-loop
 loop-again c =
@@ -74,21 +107,11 @@ loop-again c =
     let r = a.self in
     let i = s.loop.i in
     let f = next_at r (bit a.reports) a.empties in
-    let len : length r.tasks ≡ mostTasks = simp length-map at (entry s).good.0.1.1.1.1.1.1.1.0.1.0.1 in
-    let past = mapFirst-past f i r.tasks i pastEnd (le_refl i) in
-    let e : c.next.result ≡ f i (get_or r.tasks i pastEnd) =
-    simp (
-      c.next.ensures,
-      h.has.ensures ∙ or-bit a.empties r.withdrawn i,
-      c.before.before.before.has2.ensures,
-      c.before.before.has3.ensures,
-      c.before.has4.ensures,
-      (entry s).pre.1.0 i,
-      (entry s).pre.1.1 i,
-      s.loop.inv.1.1,
-      past,
-    ) in
-    (omega arith, (omega arith, simp (s.loop.inv.1.1, e, add-one, mapFirst-step f i r.tasks pastEnd (omega arith))))
+    let len : length r.tasks ≡ most_tasks = simp length-map at (entry s).good.0.1.1.1.1.1.1.1.0.1.0.1 in
+    let past = map_first-past f i r.tasks i past_end (le_refl i) in
+    let e : c.next.result ≡ f i (get_or r.tasks i past_end) =
+    simp (c.next.ensures, h.has.ensures ∙ or-bit a.empties r.withdrawn i, c.before.before.before.has2.ensures, c.before.before.has3.ensures, c.before.has4.ensures, (entry s).pre.1.0 i, (entry s).pre.1.1 i, s.loop.inv.1.1, past) in
+    (omega arith, (omega arith, simp (s.loop.inv.1.1, e, add-one, map_first-step f i r.tasks past_end (omega arith))))
 
 returns : tie.Need-returns invariant-loop decreases-loop
 unfolding moved
@@ -100,6 +123,22 @@ returns c =
 
 pub moved-spec : {M : Type 1} → statement M
 moved-spec =
-    tie.close (tie.spec invariant-loop decreases-loop loop-holds (λ c. omega arith) (λ c. omega arith) (λ c. omega arith)
-    (λ c κs. omega arith) (λ c κs. omega arith) (λ c κs. omega arith) (λ c κs. omega arith) next-requires
-    (λ c. omega arith) (λ c. omega arith) (λ c. omega arith) (λ c. omega arith) loop-again returns)
+    tie.close
+    (tie.spec
+    invariant-loop
+    decreases-loop
+    loop-holds
+    mul-task
+    element-copy-out-task
+    cast-place
+    has-requires
+    has-requires-2
+    has-requires-3
+    has-requires-4
+    next-requires
+    mul_next
+    element-set-from-next
+    add-i
+    loop-less
+    loop-again
+    returns)

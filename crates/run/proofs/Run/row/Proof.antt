@@ -6,14 +6,14 @@ use Prim.Native.Nat.{ℕ, ◌-◌}
 use lib.ListN.{length, replicate, take, length-map}
 use borrow.Author.Rules.{rules}
 use Rattle.model.specs.Row.{row}
-use Rattle.model.specs.Sizes.{mostCores, mostTasks}
+use Rattle.model.specs.Sizes.{most_cores, most_tasks}
 use Rattle.model.proofs.Rows.{row-length}
 use Rattle.cores.specs.Cores.{cores}
 use Rattle.rule.specs.Lent.{Showable}
-use Rattle.table.specs.declared.Answer.TheVariants.{Taken}
+use Rattle.run.specs.declared.Answer.TheVariants.{Taken}
 use Rattle.run.specs.declared.Row.{Row}
-use Rattle.run.specs.Row.{bytesIn, rowAnswer}
-use Rattle.run.specs.Run.{shownIn}
+use Rattle.run.specs.Row.{bytes_in, row_answer}
+use Rattle.run.specs.Run.{shown_in}
 use Rattle.run.proofs.Cases.{row-passes, row-refused, row-shown, sets-answer, sets-by}
 use Rattle.run.proofs.Exact.{row-of}
 use Rattle.run.proofs.RunOut.{few, few-cores}
@@ -30,23 +30,32 @@ abbrev shown : List ℕ → Row
 shown bytes = record { answer = Taken; bytes = bytes }
 
 -- the answer is the row's
-answered : (c : tie.After-tick) → (let a = c.before.args in c.tick.result.answer ≡ rowAnswer a.self a.empties)
+answered : (c : tie.After-tick) → (let a = c.before.args in c.tick.result.answer ≡ row_answer a.self a.empties)
 answered c = let a = c.before.args in c.tick.ensures.answered ∙ sets-answer a.self a.empties
 
-taken : (c : tie.After-enum-told) → (let a = (looked c).before.args in rowAnswer a.self a.empties ≡ Taken)
+taken : (c : tie.After-enum-told) → (let a = (looked c).before.args in row_answer a.self a.empties ≡ Taken)
 taken c = sym (answered (looked c)) ∙ c.enum_told.given.1
 
 -- the cores of the first sets are those that the tick shows
 listed : (c : tie.After-enum-told)
-    → (let t = looked c in let a = t.before.args in map cores (take a.self.count t.tick.result.sets) ≡ shownIn a.self a.empties)
+    → (let t = looked c in let a = t.before.args in map cores (take a.self.count t.tick.result.sets) ≡ shown_in a.self a.empties)
 listed c =
     let t = looked c in
     let a = t.before.args in
     let r = a.self in
     let q = taken c in
-    let len : length r.tasks ≡ mostTasks = simp length-map at t.before.good.0.1.1.1.1.1.1.1.0.1.0.1 in
+    let len : length r.tasks ≡ most_tasks = simp length-map at t.before.good.0.1.1.1.1.1.1.1.0.1.0.1 in
     ap (λ (sets : List ℕ). map cores (take r.count sets)) (t.tick.ensures.shows ∙ sets-by r a.empties q)
     ∙ front-in r a.empties (few-cores r (row-passes r a.empties q)) len (few r (row-passes r a.empties q))
+
+tick-requires : tie.Need-tick-requires
+tick-requires c κs = search rules
+
+enum-known-answer : tie.Need-enum-known-answer
+enum-known-answer c = search rules
+
+row-refused-requires : tie.Need-row-refused-requires
+row-refused-requires c κs = search rules
 
 returns : tie.Need-returns
 returns c =
@@ -55,6 +64,9 @@ returns c =
     let a = t.before.args in
     row-of a.self a.empties c.row-refused.result
     (c.row-refused.ensures ∙ sym (row-refused a.self a.empties _ _ (sym (answered t) ∙ o.answer.given.1)))
+
+enum_told : tie.Need-enum-told
+enum_told c = search rules
 
 row-in-requires : tie.Need-row-in-requires
 row-in-requires c κs =
@@ -65,19 +77,18 @@ row-in-requires c κs =
     ((few-cores r q, few r q), subst (Showable r.fence r.cores) (sym (listed e)) (run-showable r a.empties))
 
 returns-2 : tie.Need-returns-2
-unfolding bytesIn
+unfolding bytes_in
 returns-2 c =
     let e = c.before.before.before in
     let a = (looked e).before.args in
     let r = a.self in
-    let bytes = row r.fence r.cores (shownIn r a.empties) in
+    let bytes = row r.fence r.cores (shown_in r a.empties) in
     row-of r a.empties (shown c.row_in.result)
     (ap shown
     (c.row_in.ensures
-    ∙ (ap (λ (gs : List (List ℕ)). row r.fence r.cores gs ++ replicate (mostCores - r.cores) 0) (listed e)
-    ∙ ap (λ (n : ℕ). bytes ++ replicate (mostCores - n) 0) (sym (row-length r.fence r.cores (shownIn r a.empties)))))
+    ∙ (ap (λ (gs : List (List ℕ)). row r.fence r.cores gs ++ replicate (most_cores - r.cores) 0) (listed e)
+    ∙ ap (λ (n : ℕ). bytes ++ replicate (most_cores - n) 0) (sym (row-length r.fence r.cores (shown_in r a.empties)))))
     ∙ sym (row-shown r a.empties (taken e)))
 
 pub row-spec : {M : Type 1} → statement M
-row-spec = tie.close (tie.spec (λ c κs. search rules) (λ c. search rules) (λ c κs. search rules) returns
-    (λ c. search rules) row-in-requires returns-2)
+row-spec = tie.close (tie.spec tick-requires enum-known-answer row-refused-requires returns enum_told row-in-requires returns-2)

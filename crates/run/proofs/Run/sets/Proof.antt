@@ -4,9 +4,9 @@ use mathlib.Core.Path.{◌≡◌, ap₂}
 use mathlib.Core.List.{List}
 use Prim.Native.Nat.{ℕ}
 use borrow.Author.Rules.{rules}
-use Rattle.table.specs.declared.Answer.{Answer}
+use Rattle.run.specs.declared.Answer.{Answer}
 use Rattle.run.specs.declared.Sets.{Sets}
-use Rattle.run.proofs.RunSets.{sets_of}
+use Rattle.run.proofs.RunSets.{sets_of_lem}
 use Rattle.run.proofs.Run.sets.Statement.{statement}
 use Rattle.run.proofs.Run.sets.Tie as tie
 
@@ -14,11 +14,14 @@ use Rattle.run.proofs.Run.sets.Tie as tie
 abbrev both : Answer → List ℕ → Sets
 both a sets = record { answer = a; sets = sets }
 
+tick-requires : tie.Need-tick-requires
+tick-requires c κs = search rules
+
 returns : tie.Need-returns
 returns c =
     let t = c.before in
     let a = t.before.args in
-    sets_of a.self a.empties (both t.tick.result.answer t.tick.result.sets) (ap₂ both t.tick.ensures.answered t.tick.ensures.shows)
+    sets_of_lem a.self a.empties (both t.tick.result.answer t.tick.result.sets) (ap₂ both t.tick.ensures.answered t.tick.ensures.shows)
 
 pub sets-spec : {M : Type 1} → statement M
-sets-spec = tie.close (tie.spec (λ c κs. search rules) returns)
+sets-spec = tie.close (tie.spec tick-requires returns)

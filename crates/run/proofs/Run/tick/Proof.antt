@@ -15,24 +15,24 @@ use borrow.Author.Tests.{eq-eqb, ne_eqb}
 use mir.Syntax.{w32}
 use mir.Val.{Fits}
 use Rattle.model.specs.Fence.{unfenced}
-use Rattle.model.specs.Sizes.{mostTasks}
+use Rattle.model.specs.Sizes.{most_tasks}
 use Rattle.model.proofs.Digits.{same_set}
 use Rattle.model.proofs.Search.{least-none}
 use Rattle.cores.proofs.Unfenced.{open_of}
 use Rattle.run.specs.declared.Run.{Run}
 use Rattle.run.specs.declared.Sets.{Sets}
 use Rattle.run.specs.declared.tick.Tick.{Tick}
-use Rattle.table.specs.declared.Answer.TheVariants.{Refused}
-use Rattle.run.specs.Numbers.{firstLateIn, lateAt, wrongEmptiesIn, placeOut, runOut}
-use Rattle.run.specs.Run.{ruleIn}
-use Rattle.run.specs.Sets.{no_sets, setsOf}
+use Rattle.run.specs.declared.Answer.TheVariants.{Refused}
+use Rattle.run.specs.Numbers.{first_late_in, late_at, wrong_empties_in, place_out, run_out}
+use Rattle.run.specs.Run.{rule_in}
+use Rattle.run.specs.Sets.{no_sets, sets_of}
 use Rattle.run.specs.Allocation.{AllocationOf}
 use Rattle.run.specs.Tick.{TickOf}
 use Rattle.run.proofs.Cases.{sets-answer, sets-empty, sets-late, sets-out, sets-shown, working-by, working-none}
 use Rattle.run.proofs.Chosen.{has-cores, has-lent, may-begin, may-end, same-sets, ws}
-use Rattle.table.proofs.AnswerMeaning.{not_taken}
+use Rattle.run.proofs.First.{not_taken}
 use Rattle.run.proofs.Found.{none-gathered, some-gathered}
-use Rattle.run.proofs.RunOut.{head_few, head-few-cores, headOut, out-by-head, out-by-place}
+use Rattle.run.proofs.RunOut.{head_few, head-few-cores, head_out, out-by-head, out-by-place}
 use Rattle.run.proofs.Working.{works_at}
 use Rattle.run.proofs.Run.tick.Statement.{statement}
 use Rattle.run.proofs.Run.tick.Tie as tie
@@ -41,7 +41,7 @@ use Rattle.run.proofs.Run.tick.Tie as tie
 abbrev tick-refused : ℕ → ℕ → Tick
 tick-refused n p = record { answer = Refused n p; given = 0; lent = 0; working = 0; sets = no_sets }
 
-refused : (r : Run) (e n p : ℕ) (t : Tick) → t ≡ tick-refused n p → setsOf r e ≡ record { answer = Refused n p; sets = no_sets } → TickOf r e t
+refused : (r : Run) (e n p : ℕ) (t : Tick) → t ≡ tick-refused n p → sets_of r e ≡ record { answer = Refused n p; sets = no_sets } → TickOf r e t
 refused r e n p t i q = record {
   answered = ap (λ (t : Tick). t.answer) i ∙ sym (ap (λ (w : Sets). w.answer) q);
   shows = ap (λ (t : Tick). t.sets) i ∙ sym (ap (λ (w : Sets). w.sets) q);
@@ -63,43 +63,41 @@ abbrev in-time : tie.Else3 → tie.After-claims
 in-time c = within c.before.before
 
 abbrev begun-in : tie.After-allocate → tie.Then4
-begun-in c = c.before.before
+begun-in c = c.before.before.before.before
 
 abbrev gathered : tie.After-allocate → tie.After-claims
 gathered c = in-time (begun-in c).before.before
 
 -- past the first test the head passes 14
-head_in : (c : tie.Else1) → headOut c.before.before.args.self ≡ false
+head_in : (c : tie.Else1) → head_out c.before.before.args.self ≡ false
 head_in c = sym c.before.head-out.ensures ∙ c.if1.false
 
 -- past the second the places do
-passes : (c : tie.Else2) → runOut (entry (within c)).args.self ≡ false
+passes : (c : tie.Else2) → run_out (entry (within c)).args.self ≡ false
 passes c =
     let g = within c in
     let r = (entry g).args.self in
-    out-by-place r (head_in g.before) ∙ none-gathered (placeOut r) r.count g.claims.result.broken g.claims.ensures.outside-limits
-    (omega (arith, c.if2.false))
+    out-by-place r (head_in g.before) ∙ none-gathered (place_out r) r.count g.claims.result.broken g.claims.ensures.outside-limits (omega (arith, c.if2.false))
 
 -- and past the third no task is late
-none-late : (c : tie.Else3) → (let r = (entry (in-time c)).args.self in r.count ≤ firstLateIn r)
-unfolding firstLateIn
+none-late : (c : tie.Else3) → (let r = (entry (in-time c)).args.self in r.count ≤ first_late_in r)
+unfolding first_late_in
 none-late c =
     let g = in-time c in
     let r = (entry g).args.self in
-    let n = least-none r.count (lateAt r) (none-gathered (lateAt r) r.count g.claims.result.late g.claims.ensures.being-late
-    (omega (arith, c.if3.false))) in
+    let n = least-none r.count (late_at r) (none-gathered (late_at r) r.count g.claims.result.late g.claims.ensures.being-late (omega (arith, c.if3.false))) in
     omega (arith, n)
 
 -- 20 is decided by one test of sets
 abbrev Begun : tie.After-claims → Type 0
 Begun g =
     let s = entry g in
-    wrongEmptiesIn s.args.self s.args.empties ≡ not (eqb (bit_and s.args.empties g.claims.result.released) s.args.empties)
+    wrong_empties_in s.args.self s.args.empties ≡ not (eqb (bit_and s.args.empties g.claims.result.released) s.args.empties)
 
 begun : (g : tie.After-claims) → Begun g
 begun g =
     let s = entry g in
-    may-begin s.args.self s.args.empties g.claims.result g.claims.ensures mostTasks s.fits.empties.fits
+    may-begin s.args.self s.args.empties g.claims.result g.claims.ensures most_tasks s.fits.empties.fits
 
 -- what the tasks are given and borrow of these cores
 abbrev SharedOf : tie.After-allocate → List ℕ → Type 0
@@ -107,12 +105,12 @@ SharedOf c F =
     let g = gathered c in
     let a = (entry g).args in
     let k = g.claims.result in
-    AllocationOf (ruleIn a.self) (ws a.self a.empties k g.claims.ensures) k.claiming k.working F a.self.count c.allocate.result
+    AllocationOf (rule_in a.self) (ws a.self a.empties k g.claims.ensures) k.claiming k.working F a.self.count c.allocate.result
 
 -- they are the cores outside the fence
 shared : (c : tie.After-allocate) → (let r = (entry (gathered c)).args.self in SharedOf c (unfenced r.fence r.cores))
 shared c =
-    let f = c.before.unfenced-cores in
+    let f = c.before.before.unfenced-cores in
     let g = gathered c in
     let r = (entry g).args.self in
     subst (SharedOf c) (open_of f.result r.fence r.cores (head-few-cores r (head_in g.before)) f.ensures) c.allocate.ensures
@@ -127,13 +125,19 @@ small g =
 -- the lowest late place is the first late one
 first-late : (c : tie.Then3) → (let g = within c.before.before in
     let r = (entry g).args.self in
-    (count_trailing_zeros 32 g.claims.result.late < r.count) × (firstLateIn r ≡ count_trailing_zeros 32 g.claims.result.late))
-unfolding firstLateIn
+    (count_trailing_zeros 32 g.claims.result.late < r.count) × (first_late_in r ≡ count_trailing_zeros 32 g.claims.result.late))
+unfolding first_late_in
 first-late c =
     let g = within c.before.before in
     let r = (entry g).args.self in
-    let f = some-gathered (lateAt r) r.count g.claims.result.late g.claims.ensures.being-late 32 (small g).1 c.if3.true in
+    let f = some-gathered (late_at r) r.count g.claims.result.late g.claims.ensures.being-late 32 (small g).1 c.if3.true in
     (f.0, f.2)
+
+head-out-requires : tie.Need-head-out-requires
+head-out-requires c κs = search rules
+
+tick-refused-requires : tie.Need-tick-refused-requires
+tick-refused-requires c κs = search rules
 
 returns : tie.Need-returns
 returns c =
@@ -147,6 +151,9 @@ claims-requires c κs =
     let r = c.before.before.args.self in
     (head_few r (head_in c), head-few-cores r (head_in c))
 
+tick-refused-requires-2 : tie.Need-tick-refused-requires-2
+tick-refused-requires-2 c κs = search rules
+
 returns-2 : tie.Need-returns-2
 returns-2 c =
     let t = c.before in
@@ -156,13 +163,16 @@ returns-2 c =
     refused r a.empties 14 0 c.tick-refused2.result c.tick-refused2.ensures
     (sets-out r a.empties
     (out-by-place r (head_in g.before)
-    ∙ (some-gathered (placeOut r) r.count g.claims.result.broken g.claims.ensures.outside-limits 32 (small g).0 t.if2.true).1))
+    ∙ (some-gathered (place_out r) r.count g.claims.result.broken g.claims.ensures.outside-limits 32 (small g).0 t.if2.true).1))
 
 add-tick-refused : tie.Need-overflow-add-tick-refused
 add-tick-refused c =
     let g = within c.before.before.before in
     let r = (entry g).args.self in
     Fits-under w32 (count_trailing_zeros 32 g.claims.result.late + 1) 33 (omega (arith, (first-late c.before).0, head_few r (head_in g.before))) tt
+
+tick-refused-requires-3 : tie.Need-tick-refused-requires-3
+tick-refused-requires-3 c κs = search rules
 
 returns-3 : tie.Need-returns-3
 returns-3 c =
@@ -172,14 +182,17 @@ returns-3 c =
     let a = (entry g).args in
     let r = a.self in
     let f = first-late t in
-    let at : count_trailing_zeros 32 g.claims.result.late + 1 ≡ suc (firstLateIn r) =
+    let at : count_trailing_zeros 32 g.claims.result.late + 1 ≡ suc (first_late_in r) =
     add-one (count_trailing_zeros 32 g.claims.result.late) ∙ ap (λ (n : ℕ). suc n) (sym f.1) in
-    refused r a.empties 15 (suc (firstLateIn r)) c.tick-refused3.result (c.tick-refused3.ensures ∙ ap (tick-refused 15) at)
+    refused r a.empties 15 (suc (first_late_in r)) c.tick-refused3.result (c.tick-refused3.ensures ∙ ap (tick-refused 15) at)
     (sets-late r a.empties (passes e) (omega (arith, f.0, f.1)))
+
+unfenced-cores-requires : tie.Need-unfenced-cores-requires
+unfenced-cores-requires c κs = search rules
 
 allocate-requires : tie.Need-allocate-requires
 allocate-requires c κs =
-    let g = in-time c.before.before.before in
+    let g = in-time c.before.before.before.before.before in
     head_few (entry g).args.self (head_in g.before)
 
 returns-4 : tie.Need-returns-4
@@ -189,7 +202,7 @@ returns-4 c =
     let e = t.before.before in
     let g = in-time e in
     let a = (entry g).args in
-    let m : wrongEmptiesIn a.self a.empties ≡ false = begun g ∙ ap not (eq-eqb _ _ t.if4.taken) in
+    let m : wrong_empties_in a.self a.empties ≡ false = begun g ∙ ap not (eq-eqb _ _ t.if4.taken) in
     let q = sets-shown a.self a.empties (passes e.before.before) (none-late e) m in
     let w = sym (sets-answer a.self a.empties) ∙ ap (λ (w : Sets). w.answer) q in
     record {
@@ -207,6 +220,9 @@ returns-4 c =
       none = λ n p x. absurd (not_taken n p (sym x));
     }
 
+tick-refused-requires-4 : tie.Need-tick-refused-requires-4
+tick-refused-requires-4 c κs = search rules
+
 returns-5 : tie.Need-returns-5
 returns-5 c =
     let t = c.before in
@@ -219,6 +235,19 @@ returns-5 c =
 
 pub tick-spec : {M : Type 1} → statement M
 tick-spec =
-    tie.close (tie.spec (λ c κs. search rules) (λ c κs. search rules) returns claims-requires (λ c κs. search rules)
-    returns-2 add-tick-refused (λ c κs. search rules) returns-3 (λ c κs. search rules) allocate-requires returns-4
-    (λ c κs. search rules) returns-5)
+    tie.close
+    (tie.spec
+    head-out-requires
+    tick-refused-requires
+    returns
+    claims-requires
+    tick-refused-requires-2
+    returns-2
+    add-tick-refused
+    tick-refused-requires-3
+    returns-3
+    unfenced-cores-requires
+    allocate-requires
+    returns-4
+    tick-refused-requires-4
+    returns-5)

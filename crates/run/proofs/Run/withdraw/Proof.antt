@@ -5,13 +5,13 @@ use mathlib.Core.Bool.{true, false}
 use Prim.Native.Nat.{ℕ, ◌-◌, ◌≤◌}
 use native.Mathlib.Omega.{arith}
 use borrow.Author.Rules.{rules}
-use Rattle.model.specs.Sizes.{mostTasks}
+use Rattle.model.specs.Sizes.{most_tasks}
 use Rattle.model.proofs.Digits.{shifted_one}
 use Rattle.run.specs.declared.Run.{Run}
-use Rattle.run.specs.declared.RunAnswer.{RunAnswer}
-use Rattle.table.specs.declared.Answer.TheVariants.{Taken}
-use Rattle.run.specs.Run.{firmIn, withdrawnIn}
-use Rattle.run.specs.Numbers.{runOut}
+use Rattle.run.specs.declared.Advanced.{Advanced}
+use Rattle.run.specs.declared.Answer.TheVariants.{Taken}
+use Rattle.run.specs.Run.{firm_in, withdrawn_in}
+use Rattle.run.specs.Numbers.{run_out}
 use Rattle.run.proofs.RunOut.{few}
 use Rattle.run.proofs.Cases.{withdraw-out, withdraw-not-firm, withdraw-unknown, withdraw-taken}
 use Rattle.run.proofs.WithdrawExact.{known_from, withdraw-of}
@@ -30,15 +30,15 @@ abbrev asked-known : tie.Else3 → tie.After-is-firm
 asked-known c = c.before.before.before
 
 -- past the first test the run passes 14
-passes : (c : tie.Else1) → runOut c.before.before.args.self ≡ false
+passes : (c : tie.Else1) → run_out c.before.before.args.self ≡ false
 passes c = sym c.before.out.ensures ∙ c.if1.false
 
 -- past the second its rule and widths are firm
-firm-then : (c : tie.Then2) → firmIn (entry c.before).args.self ≡ true
+firm-then : (c : tie.Then2) → firm_in (entry c.before).args.self ≡ true
 firm-then c = sym c.before.is-firm.ensures ∙ c.if2.true
 
 -- past the third the position is one of the run, and so a digit of 32
-known : (c : tie.Else3) → (let a = (entry (asked-known c)).args in (1 ≤ a.position) × (a.position ≤ mostTasks))
+known : (c : tie.Else3) → (let a = (entry (asked-known c)).args in (1 ≤ a.position) × (a.position ≤ most_tasks))
 known c =
     let s = asked-known c in
     let a = (entry s).args in
@@ -46,8 +46,14 @@ known c =
     (k.0, omega (arith, k.1, few a.self (passes s.before)))
 
 -- a run that a withdrawal gives
-abbrev taken : Run → RunAnswer
+abbrev taken : Run → Advanced
 taken r = record { answer = Taken; run = r }
+
+out-requires : tie.Need-out-requires
+out-requires c κs = search rules
+
+refused-requires : tie.Need-refused-requires
+refused-requires c κs = search rules
 
 returns : tie.Need-returns
 returns c =
@@ -64,6 +70,9 @@ cast-if3 c =
     let s = entry c.before.before in
     omega (arith, few s.args.self (passes c.before.before.before))
 
+refused-requires-2 : tie.Need-refused-requires-2
+refused-requires-2 c κs = search rules
+
 returns-2 : tie.Need-returns-2
 returns-2 c =
     let s = asked c.before in
@@ -75,14 +84,23 @@ returns-2 c =
 sub-with-withdrawn : tie.Need-overflow-sub-with-withdrawn
 sub-with-withdrawn c = (known c).0
 
+shl-with-withdrawn : tie.Need-overflow-shl-with-withdrawn
+shl-with-withdrawn c = omega (arith, (known c).0, (known c).1)
+
+with-withdrawn-requires : tie.Need-with-withdrawn-requires
+with-withdrawn-requires c κs = search rules
+
 returns-3 : tie.Need-returns-3
 returns-3 c =
     let s = asked-known c.before in
     let a = (entry s).args in
     let one = shifted_one 32 (a.position - 1) (omega (arith, (known c.before).0, (known c.before).1)) in
     withdraw-of a.self a.position (taken c.with-withdrawn.result)
-    (ap taken (c.with-withdrawn.ensures ∙ ap (λ (x : ℕ). withdrawnIn x a.self) one)
+    (ap taken (c.with-withdrawn.ensures ∙ ap (λ (x : ℕ). withdrawn_in x a.self) one)
     ∙ sym (withdraw-taken a.self a.position (passes s.before) (firm-then c.before.before.before) c.before.if3.false))
+
+refused-requires-3 : tie.Need-refused-requires-3
+refused-requires-3 c κs = search rules
 
 returns-4 : tie.Need-returns-4
 returns-4 c =
@@ -94,6 +112,18 @@ returns-4 c =
 
 pub withdraw-spec : {M : Type 1} → statement M
 withdraw-spec =
-    tie.close (tie.spec (λ c κs. search rules) (λ c κs. search rules) returns is-firm-requires cast-if3
-    (λ c κs. search rules) returns-2 sub-with-withdrawn (λ c. omega (arith, (known c).0, (known c).1))
-    (λ c κs. search rules) returns-3 (λ c κs. search rules) returns-4)
+    tie.close
+    (tie.spec
+    out-requires
+    refused-requires
+    returns
+    is-firm-requires
+    cast-if3
+    refused-requires-2
+    returns-2
+    sub-with-withdrawn
+    shl-with-withdrawn
+    with-withdrawn-requires
+    returns-3
+    refused-requires-3
+    returns-4)

@@ -4,10 +4,10 @@ use mathlib.Core.Path.{◌≡◌, sym, ap, ◌∙◌}
 use mathlib.Core.Bool.{true, false}
 use borrow.Author.Rules.{rules}
 use Rattle.run.specs.declared.Run.{Run}
-use Rattle.run.specs.declared.RunAnswer.{RunAnswer}
-use Rattle.table.specs.declared.Answer.TheVariants.{Taken}
-use Rattle.run.specs.Run.{firmIn}
-use Rattle.run.specs.Numbers.{runOut}
+use Rattle.run.specs.declared.Advanced.{Advanced}
+use Rattle.run.specs.declared.Answer.TheVariants.{Taken}
+use Rattle.run.specs.Run.{firm_in}
+use Rattle.run.specs.Numbers.{run_out}
 use Rattle.run.proofs.RunOut.{few}
 use Rattle.run.proofs.Cases.{withdraw-all-out, withdraw-all-not-firm, withdraw-all-past, withdraw-all-taken}
 use Rattle.run.proofs.WithdrawSet.{withdraw-set}
@@ -19,16 +19,22 @@ abbrev entry : tie.After-is-firm → tie.Start
 entry c = c.before.before.before
 
 -- past the first test the run passes 14
-passes : (c : tie.Else1) → runOut c.before.before.args.self ≡ false
+passes : (c : tie.Else1) → run_out c.before.before.args.self ≡ false
 passes c = sym c.before.out.ensures ∙ c.if1.false
 
 -- past the second its rule and widths are firm
-firm-then : (c : tie.Then2) → firmIn (entry c.before).args.self ≡ true
+firm-then : (c : tie.Then2) → firm_in (entry c.before).args.self ≡ true
 firm-then c = sym c.before.is-firm.ensures ∙ c.if2.true
 
 -- a run that a withdrawal gives
-abbrev taken : Run → RunAnswer
+abbrev taken : Run → Advanced
 taken r = record { answer = Taken; run = r }
+
+out-requires : tie.Need-out-requires
+out-requires c κs = search rules
+
+refused-requires : tie.Need-refused-requires
+refused-requires c κs = search rules
 
 returns : tie.Need-returns
 returns c =
@@ -40,6 +46,12 @@ returns c =
 is-firm-requires : tie.Need-is-firm-requires
 is-firm-requires c κs = few c.before.before.args.self (passes c)
 
+past-requires : tie.Need-past-requires
+past-requires c κs = search rules
+
+refused-requires-2 : tie.Need-refused-requires-2
+refused-requires-2 c κs = search rules
+
 returns-2 : tie.Need-returns-2
 returns-2 c =
     let l = c.before.before in
@@ -49,6 +61,9 @@ returns-2 c =
     (c.refused2.ensures
     ∙ sym (withdraw-all-past a.self a.set (passes s.before) (firm-then l.before) (sym l.past.ensures ∙ c.before.if3.true)))
 
+with-withdrawn-requires : tie.Need-with-withdrawn-requires
+with-withdrawn-requires c κs = search rules
+
 returns-3 : tie.Need-returns-3
 returns-3 c =
     let l = c.before.before in
@@ -57,6 +72,9 @@ returns-3 c =
     withdraw-set a.self a.set (taken c.with-withdrawn.result)
     (ap taken c.with-withdrawn.ensures
     ∙ sym (withdraw-all-taken a.self a.set (passes s.before) (firm-then l.before) (sym l.past.ensures ∙ c.before.if3.false)))
+
+refused-requires-3 : tie.Need-refused-requires-3
+refused-requires-3 c κs = search rules
 
 returns-4 : tie.Need-returns-4
 returns-4 c =
@@ -68,5 +86,16 @@ returns-4 c =
 
 pub withdraw-all-spec : {M : Type 1} → statement M
 withdraw-all-spec =
-    tie.close (tie.spec (λ c κs. search rules) (λ c κs. search rules) returns is-firm-requires (λ c κs. search rules)
-    (λ c κs. search rules) returns-2 (λ c κs. search rules) returns-3 (λ c κs. search rules) returns-4)
+    tie.close
+    (tie.spec
+    out-requires
+    refused-requires
+    returns
+    is-firm-requires
+    past-requires
+    refused-requires-2
+    returns-2
+    with-withdrawn-requires
+    returns-3
+    refused-requires-3
+    returns-4)

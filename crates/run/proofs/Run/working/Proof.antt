@@ -3,7 +3,7 @@
 use mathlib.Core.Path.{◌∙◌, ap₂}
 use Prim.Native.Nat.{ℕ}
 use borrow.Author.Rules.{rules}
-use Rattle.table.specs.declared.Answer.{Answer}
+use Rattle.run.specs.declared.Answer.{Answer}
 use Rattle.run.specs.declared.WorkingPositions.{WorkingPositions}
 use Rattle.run.proofs.Cases.{working-answer}
 use Rattle.run.proofs.Working.{working-of}
@@ -14,6 +14,9 @@ use Rattle.run.proofs.Run.working.Tie as tie
 abbrev both : Answer → ℕ → WorkingPositions
 both a set = record { answer = a; set = set }
 
+tick-requires : tie.Need-tick-requires
+tick-requires c κs = search rules
+
 returns : tie.Need-returns
 returns c =
     let a = c.before.args in
@@ -21,4 +24,4 @@ returns c =
     (ap₂ both (c.tick.ensures.answered ∙ working-answer a.self a.empties) c.tick.ensures.works)
 
 pub working-spec : {M : Type 1} → statement M
-working-spec = tie.close (tie.spec (λ c κs. search rules) returns)
+working-spec = tie.close (tie.spec tick-requires returns)

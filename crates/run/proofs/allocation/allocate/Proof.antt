@@ -14,9 +14,9 @@ use denote.Plain.{UInt}
 use borrow.Author.Rules.{elem_Fits, rules}
 use borrow.Author.Tests.{ne_eqb}
 use Rattle.model.specs.Lending.{lends}
-use Rattle.model.specs.Task.{ruleOf}
+use Rattle.model.specs.Task.{rule_of}
 use Rattle.phase.proofs.Rules.{lends-rule}
-use Rattle.rule.specs.Widths.{widthsIn}
+use Rattle.rule.specs.Widths.{widths_in}
 use Rattle.rule.proofs.Widths.{front_length}
 use Rattle.run.proofs.Loans.{Machine, one-or-other, shared-lent, shared-own}
 use Rattle.run.proofs.allocation.allocate.Statement.{statement}
@@ -24,7 +24,7 @@ use Rattle.run.proofs.allocation.allocate.Tie as tie
 
 -- the state at the call
 abbrev entry : tie.After-owners → tie.Start
-entry c = c.before.before.before.before.before
+entry c = c.before.before.before
 
 -- the sets that are given
 abbrev granted : tie.After-owners → tie.After-grants
@@ -32,58 +32,62 @@ granted c = c.before.before
 
 -- the widths of the places below the count, and the number of them
 abbrev ws : tie.After-owners → List ℕ
-ws c = let a = (entry c).args in take a.count (widthsIn a.claims.even a.claims.widths)
+ws c = let a = (entry c).args in take a.count (widths_in a.even a.widths.now)
 
 size : (c : tie.After-owners) → length (ws c) ≡ (entry c).args.count
-size c = let a = (entry c).args in front_length a.claims.even a.claims.widths a.count (entry c).requires
+size c = let a = (entry c).args in front_length a.even a.widths.now a.count (entry c).requires
 
 -- the rule lends
-lending : (c : tie.Then1) → lends (ruleOf (entry c.before).args.rule) ≡ true
-lending c = ap (λ (n : ℕ). lends (ruleOf n)) c.if1.true
+lending : (c : tie.Then1) → lends (rule_of (entry c.before).args.rule) ≡ true
+lending c = ap (λ (n : ℕ). lends (rule_of n)) c.if1.true
 
 -- the state after the cores are lent
 abbrev lent-in : tie.After-borrowed2 → tie.After-lend
 lent-in c = c.before.before.before.before
 
--- the state in which they are
-abbrev lends-in : tie.After-lend → tie.Then1
-lends-in l = l.before.before.before.before.before.before.before
-
 -- an array of 32 sets is one of machine numbers
 machine : (sets : List ℕ) (vs : List Val) → Is (Array (UInt w64) 32) sets vs → Machine sets
 machine sets vs p = (p.1.0.1, λ q. (elem_Fits w64 w64 sets p.0 q p.1.1 tt).fits)
 
+grants-requires : tie.Need-grants-requires
+grants-requires c κs = search rules
+
+owners-requires : tie.Need-owners-requires
+owners-requires c κs = search rules
+
 lend-requires : tie.Need-lend-requires
-lend-requires c κs = (entry c.before.before.before.before.before.before.before).requires
+lend-requires c κs = (entry c.before.before).requires
+
+owners-requires-2 : tie.Need-owners-requires-2
+owners-requires-2 c κs = search rules
 
 shown-requires : tie.Need-shown-requires
 shown-requires c κs =
     let l = lent-in c in
-    let o = (lends-in l).before in
+    let o = l.before.before.before in
     let a = (entry o).args in (
       (entry o).pre,
-      one-or-other (ruleOf a.rule) (ws o) a.claims.claiming a.claims.working a.free a.count (size o) (entry o).pre (granted o).grants.result
-          (granted o).grants.ensures o.owners.result o.owners.ensures (lending (lends-in l)) l.lend.result l.lend.ensures,
+      one-or-other (rule_of a.rule) (ws o) a.claiming a.working a.free a.count (size o) (entry o).pre (granted o).grants.result
+          (granted o).grants.ensures o.owners.result o.owners.ensures (lending l.before.before) l.lend.result l.lend.ensures,
     )
 
 returns : tie.Need-returns
 returns c =
     let l = lent-in c.before in
-    let o = (lends-in l).before in
+    let o = l.before.before.before in
     let a = (entry o).args in
     let w = c.before.before.before in
-    shared-lent (ruleOf a.rule) (ws o) a.claims.claiming a.claims.working a.free a.count (size o) (entry o).pre (granted o).grants.result
-    (granted o).grants.ensures o.owners.result o.owners.ensures (lending (lends-in l)) l.lend.result l.lend.ensures
+    shared-lent (rule_of a.rule) (ws o) a.claiming a.working a.free a.count (size o) (entry o).pre (granted o).grants.result
+    (granted o).grants.ensures o.owners.result o.owners.ensures (lending l.before.before) l.lend.result l.lend.ensures
     w.owners2.result w.owners2.ensures c.shown.result c.shown.ensures (machine c.shown.result _ c.shown.type-inv)
 
 returns-2 : tie.Need-returns-2
 returns-2 c =
     let o = c.before in
     let a = (entry o).args in
-    let none : lends (ruleOf a.rule) ≡ false = lends-rule a.rule ∙ ne_eqb a.rule 4 c.if1.false in
-    shared-own (ruleOf a.rule) (ws o) a.claims.claiming a.claims.working a.free a.count (size o) (entry o).requires (granted o).grants.result
+    let none : lends (rule_of a.rule) ≡ false = lends-rule a.rule ∙ ne_eqb a.rule 4 c.if1.false in
+    shared-own (rule_of a.rule) (ws o) a.claiming a.working a.free a.count (size o) (entry o).requires (granted o).grants.result
     (granted o).grants.ensures o.owners.result o.owners.ensures (machine (granted o).grants.result _ (granted o).grants.type-inv) none
 
 pub allocate_spec : {M : Type 1} → statement M
-allocate_spec = tie.close (tie.spec (λ c κs. search rules) (λ c κs. search rules) lend-requires (λ c κs. search rules)
-    shown-requires returns returns-2)
+allocate_spec = tie.close (tie.spec grants-requires owners-requires lend-requires owners-requires-2 shown-requires returns returns-2)

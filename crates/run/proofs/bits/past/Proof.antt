@@ -3,16 +3,22 @@
 -- Assumes nothing.
 use mathlib.Core.Path.{sym, ◌∙◌}
 use borrow.Author.Rules.{rules}
-use Rattle.model.specs.Sizes.{mostTasks}
+use Rattle.model.specs.Sizes.{most_tasks}
 use Rattle.run.proofs.SetTests.{past_shift, past_all}
 use Rattle.run.proofs.bits.past.Statement.{statement}
 use Rattle.run.proofs.bits.past.Tie as tie
+
+cast-result : tie.Need-overflow-cast-result
+cast-result c = search rules
+
+shr-result : tie.Need-overflow-shr-result
+shr-result c = search rules
 
 returns : tie.Need-returns
 returns c = sym (past_shift c.before.args.count c.before.args.set)
 
 returns-2 : tie.Need-returns-2
-returns-2 c = sym (past_all c.before.args.count mostTasks c.before.args.set c.before.ranges.set.fits c.if1.false)
+returns-2 c = sym (past_all c.before.args.count most_tasks c.before.args.set c.before.ranges.set.fits c.if1.false)
 
 pub past-spec : {M : Type 1} → statement M
-past-spec = tie.close (tie.spec (λ c. search rules) (λ c. search rules) returns returns-2)
+past-spec = tie.close (tie.spec cast-result shr-result returns returns-2)

@@ -3,9 +3,9 @@
 use mathlib.Core.Path.{ap, ◌∙◌}
 use borrow.Author.Rules.{rules}
 use Rattle.table.specs.Load.{LoadedAs}
-use Rattle.table.specs.declared.Answer.TheVariants.{Taken}
+use Rattle.run.specs.declared.Answer.TheVariants.{Taken}
 use Rattle.run.specs.declared.Run.{Run}
-use Rattle.run.specs.declared.RunAnswer.{RunAnswer}
+use Rattle.run.specs.declared.Started.{Started}
 use Rattle.run.proofs.ByVerdict.{loaded-table}
 use Rattle.run.proofs.starts.begun.Statement.{statement}
 use Rattle.run.proofs.starts.begun.Tie as tie
@@ -15,8 +15,11 @@ held : (c : tie.After-load) → LoadedAs c.before.before.args.words.now c.load.r
 held c = c.load.ensures.holds (c.load.ensures.passed.1 c.before.before.requires)
 
 -- a run as it starts
-abbrev taken : Run → RunAnswer
+abbrev taken : Run → Started
 taken r = record { answer = Taken; run = r }
+
+load-requires : tie.Need-load-requires
+load-requires c κs = search rules
 
 started-requires : tie.Need-started-requires
 started-requires c κs = (held c.before).count-from.1
@@ -27,4 +30,4 @@ returns c =
     ap taken (c.started.ensures ∙ loaded-table l.before.before.args.words.now l.load.result (held l))
 
 pub begun-spec : {M : Type 1} → statement M
-begun-spec = tie.close (tie.spec (λ c κs. search rules) started-requires returns)
+begun-spec = tie.close (tie.spec load-requires started-requires returns)

@@ -8,38 +8,37 @@ use lib.ListN.{length, get_or, take, drop, replicate, length-map}
 use lib.Seq.{length-take-le}
 use borrow.Author.Rules.{rules}
 use Rattle.model.proofs.Lists.{map_more}
-use Rattle.model.specs.Sizes.{mostTasks}
+use Rattle.model.specs.Sizes.{most_tasks}
 use Rattle.table.specs.declared.Task as table
-use Rattle.table.specs.Task.{task_of, tasksOf, noTask}
+use Rattle.table.specs.Task.{task_of, tasks_of, no_task}
 use Rattle.phase.specs.declared.Task.{Task}
 use Rattle.run.specs.declared.Run.{Run}
-use Rattle.phase.specs.Task.{unused, pastEnd, startTask}
-use Rattle.run.specs.Start.{startedRun}
+use Rattle.phase.specs.Task.{unused, past_end, start_task}
+use Rattle.run.specs.Start.{started_run}
 use Rattle.run.proofs.Written.{written-more, take_more, drop-equal}
 use Rattle.run.proofs.starts.started.Statement.{statement}
 use Rattle.run.proofs.starts.started.Tie as tie
 
 -- the first i tasks as they start
 abbrev starting : List table.Task → ℕ → List Task
-starting tasks i = map startTask (tasksOf tasks i)
+starting tasks i = map start_task (tasks_of tasks i)
 
 length-starting : (tasks : List table.Task) (i : ℕ) → i ≤ length tasks → length (starting tasks i) ≡ i
 length-starting tasks i h =
-    length-map (tasksOf tasks i) startTask ∙ (length-map (take i tasks) task_of ∙ length-take-le i tasks h)
+    length-map (tasks_of tasks i) start_task ∙ (length-map (take i tasks) task_of ∙ length-take-le i tasks h)
 
 -- one more
-starting-more :
-    (tasks : List table.Task) (i : ℕ) → i < length tasks → starting tasks (i + 1) ≡ starting tasks i ++ (startTask (task_of (get_or tasks i noTask)) ∷ [])
+starting-more : (tasks : List table.Task) (i : ℕ) → i < length tasks → starting tasks (i + 1) ≡ starting tasks i ++ (start_task (task_of (get_or tasks i no_task)) ∷ [])
 starting-more tasks i h =
-    ap (λ (l : List table.Task). map startTask (map task_of l)) (take_more tasks i noTask h)
-    ∙ (ap (map startTask) (map_more task_of (take i tasks) (get_or tasks i noTask)) ∙ map_more startTask (tasksOf tasks i) (task_of (get_or tasks i noTask)))
+    ap (λ (l : List table.Task). map start_task (map task_of l)) (take_more tasks i no_task h)
+    ∙ (ap (map start_task) (map_more task_of (take i tasks) (get_or tasks i no_task)) ∙ map_more start_task (tasks_of tasks i) (task_of (get_or tasks i no_task)))
 
 abbrev made : ℕ → ℕ → ℕ → ℕ → List Task → Run
 made rule cores fence count tasks = record { rule = rule; cores = cores; fence = fence; withdrawn = 0; count = count; tasks = tasks }
 
 abbrev invariant-loop : tie.invariant-loop
 invariant-loop rule cores fence count tasks places₀ i₀ places i =
-    (i ≤ count) × (places ≡ starting tasks i ++ drop i (replicate mostTasks unused))
+    (i ≤ count) × (places ≡ starting tasks i ++ drop i (replicate most_tasks unused))
 
 abbrev decreases-loop : tie.decreases-loop
 decreases-loop rule cores fence count tasks places₀ i₀ places i = count - i
@@ -48,39 +47,71 @@ decreases-loop rule cores fence count tasks places₀ i₀ places i = count - i
 abbrev loop : tie.After-start-task invariant-loop decreases-loop → tie.At-loop invariant-loop decreases-loop
 loop c = c.before.before.before
 
+unused-requires : tie.Need-unused-requires invariant-loop decreases-loop
+unused-requires c κs = search rules
+
 loop-holds : tie.Need-loop-init invariant-loop decreases-loop
 loop-holds c = (search rules, simp c.unused.ensures)
+
+mul-task : tie.Need-overflow-mul-task invariant-loop decreases-loop
+mul-task c = omega arith
+
+array-copy-out-task : tie.Need-array-copy-out-task invariant-loop decreases-loop
+array-copy-out-task c = omega arith
+
+start-task-requires : tie.Need-start-task-requires invariant-loop decreases-loop
+start-task-requires c κs = search rules
+
+mul-places : tie.Need-overflow-mul-places invariant-loop decreases-loop
+mul-places c = omega arith
+
+array-set-from-places : tie.Need-array-set-from-places invariant-loop decreases-loop
+array-set-from-places c = omega arith
+
+add-i : tie.Need-overflow-add-i invariant-loop decreases-loop
+add-i c = omega arith
+
+loop-less : tie.Need-loop-smaller invariant-loop decreases-loop
+loop-less c = omega arith
 
 loop-again : tie.Need-loop-preserved invariant-loop decreases-loop
 loop-again c =
     let s = loop c in
     let tasks = s.before.before.args.t4 in
     let i = s.loop.i in
-    let len : length tasks ≡ mostTasks = search rules in
-    let more = written-more (starting tasks i) (replicate mostTasks unused) i (startTask (task_of (get_or tasks i noTask))) pastEnd
-    (length-starting tasks i (omega arith)) (omega arith) in (
-      omega arith,
-      simp (s.loop.inv.1, c.start-task.ensures)
-          (more ∙ ap (λ (l : List Task). l ++ drop (i + 1) (replicate mostTasks unused)) (sym (starting-more tasks i (omega arith)))),
-    )
+    let len : length tasks ≡ most_tasks = search rules in
+    let more = written-more (starting tasks i) (replicate most_tasks unused) i (start_task (task_of (get_or tasks i no_task))) past_end (length-starting tasks i (omega arith)) (omega arith) in
+    (omega arith, simp (s.loop.inv.1, c.start-task.ensures) (more ∙ ap (λ (l : List Task). l ++ drop (i + 1) (replicate most_tasks unused)) (sym (starting-more tasks i (omega arith)))))
 
 returns : tie.Need-returns invariant-loop decreases-loop
-unfolding startedRun
+unfolding started_run
 returns c =
     let s = c.before in
     let a = s.before.before.args in
     let e : s.loop.i ≡ a.count = omega arith in
-    let len : length a.t4 ≡ mostTasks = search rules in
+    let len : length a.t4 ≡ most_tasks = search rules in
     let few = s.before.before.requires in
-    let n : length (tasksOf a.t4 a.count) ≡ a.count = length-map (take a.count a.t4) task_of ∙ length-take-le a.count a.t4 (omega arith) in
-    let tasks : s.loop.places ≡ starting a.t4 a.count ++ replicate (mostTasks - a.count) unused =
-    s.loop.invariant.1 ∙ (ap (λ (k : ℕ). starting a.t4 k ++ drop k (replicate mostTasks unused)) e
-    ∙ ap (λ (l : List Task). starting a.t4 a.count ++ l) (drop-equal mostTasks a.count unused)) in
+    let n : length (tasks_of a.t4 a.count) ≡ a.count = length-map (take a.count a.t4) task_of ∙ length-take-le a.count a.t4 (omega arith) in
+    let tasks : s.loop.places ≡ starting a.t4 a.count ++ replicate (most_tasks - a.count) unused =
+    s.loop.invariant.1 ∙ (ap (λ (k : ℕ). starting a.t4 k ++ drop k (replicate most_tasks unused)) e
+    ∙ ap (λ (l : List Task). starting a.t4 a.count ++ l) (drop-equal most_tasks a.count unused)) in
     ap (made a.rule a.cores a.fence a.count) tasks
-    ∙ ap (λ (k : ℕ). made a.rule a.cores a.fence k (starting a.t4 a.count ++ replicate (mostTasks - k) unused)) (sym n)
+    ∙ ap (λ (k : ℕ). made a.rule a.cores a.fence k (starting a.t4 a.count ++ replicate (most_tasks - k) unused)) (sym n)
 
 pub started-spec : {M : Type 1} → statement M
 started-spec =
-    tie.close (tie.spec invariant-loop decreases-loop (λ c κs. search rules) loop-holds (λ c. omega arith) (λ c. omega arith)
-    (λ c κs. search rules) (λ c. omega arith) (λ c. omega arith) (λ c. omega arith) (λ c. omega arith) loop-again
+    tie.close
+    (tie.spec
+    invariant-loop
+    decreases-loop
+    unused-requires
+    loop-holds
+    mul-task
+    array-copy-out-task
+    start-task-requires
+    mul-places
+    array-set-from-places
+    add-i
+    loop-less
+    loop-again
     returns)

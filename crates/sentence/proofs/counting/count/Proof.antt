@@ -1,291 +1,350 @@
--- `sentence::counting::count` meets its contract: the run goes to the late job's release, which is an event. After each jump from there it represents the
--- table's full-length run, and the waiting ticks so far are counted (`Counting`); at the end what is left of C is what the late job did not have.
--- Assumes nothing.
+-- `sentence::counting::count` meets its contract: before each tick the run represents the table's full-length run, and the waiting ticks so far are
+-- counted (`Counting`); at the end what is left of C is what the late job did not have. Assumes nothing.
 use borrow.Author.Rules.{rules}
-use mathlib.Core.Path.{◌≡◌, sym, ap, ◌∙◌, subst}
+use mathlib.Core.Path.{◌≡◌, refl, sym, ap, ◌∙◌, subst}
 use mathlib.Core.List.{List}
 use Prim.Native.Nat.{ℕ, suc, ◌+◌, ◌-◌, ◌≤◌, ◌<◌}
 use native.Mathlib.Omega.{arith}
 use borrow.Author.Tests.{not-true, not-false}
-use lib.ListN.{length, get_or}
+use lib.ListN.{length, get_or, replicate}
 use Rattle.model.specs.Task.{Task, task}
 use Rattle.model.specs.Verdict.{FirstMiss}
 use Rattle.table.specs.declared.Loaded.{Loaded}
-use Rattle.table.specs.Task.{task_of, noTask}
-use Rattle.table.specs.Fit.{loadedTable, Fit}
+use Rattle.table.specs.Task.{task_of, no_task}
 use Rattle.table.proofs.Places.{task-at}
-use Rattle.simulation.specs.TickState.{Numbers, numbersBy}
-use Rattle.simulation.specs.EventState.{EventState, eventStateOf, StateRepresents}
-use Rattle.simulation.specs.Jump.{JumpStarts, JumpOf}
+use Rattle.simulation.specs.TickState.{Numbers, numbers_by, loaded_numbers, TickState, tick_state_of, next_tick_state}
+use Rattle.simulation.specs.Machine.{machine_of}
 use Rattle.simulation.proofs.Parts.{front_at}
+use Rattle.simulation.proofs.Steps.{tick-on}
+use Rattle.simulation.proofs.MachineRelated.{MachineRelated}
+use Rattle.table.specs.Fit.{loaded_table, Fit}
 use Rattle.simulation.proofs.AtTick.{size}
-use Rattle.simulation.proofs.AreEvents.{initial-represents}
-use Rattle.judge.specs.RunOn.{JumpsBegin}
-use Rattle.judge.proofs.OneStep.{one-jump}
+use Rattle.simulation.proofs.RefinesTick.{TickStarts}
+use Rattle.judge.specs.RunOn.{TicksBegin}
+use Rattle.judge.proofs.OneStep.{one-tick}
 use Rattle.sentence.specs.Facts.{named}
-use Rattle.sentence.specs.Waiting.{releaseOf, hadBy}
+use Rattle.sentence.specs.Waiting.{release_of, had_by}
 use Rattle.sentence.proofs.Waiting.{missed_here, deadline-within, Counted, counted-small, counted-named}
-use Rattle.sentence.proofs.CountingPass.{left-had, Counting, CountingBegins, counting-start, jump-starts, up_to, counting-runs, counting-waits}
+use Rattle.sentence.proofs.CountingPass.{left-had, Counting, counting-start, met-here, counting-early, counting-runs, counting-waits}
 use Rattle.sentence.proofs.counting.count.Statement.{statement}
 use Rattle.sentence.proofs.counting.count.Tie as tie
 
--- of every table whose counting begins so
+-- of every table whose run begins so and that misses here first
 abbrev invariant-loop : tie.invariant-loop
-invariant-loop tick place late release setting widths times places₀ registers₀ ran₀ places registers ran =
-    (t : Loaded) → CountingBegins t (numbersBy setting widths times) tick place (eventStateOf registers₀ places₀)
-    → Counting t tick place (eventStateOf registers places) ran
+invariant-loop tick place late release setting widths times registers₀ places₀ ran₀ registers places ran =
+    (t : Loaded) → TickStarts t setting widths times registers₀ places₀ → FirstMiss (loaded_table t) tick (suc place) → release ≡ release_of (loaded_table t) tick place
+    → Counting t tick place (tick_state_of registers places) ran
 
 abbrev decreases-loop : tie.decreases-loop
-decreases-loop tick place late release setting widths times places₀ registers₀ ran₀ places registers ran = tick - registers.tick
+decreases-loop tick place late release setting widths times registers₀ places₀ ran₀ registers places ran = tick - registers.tick
 
--- THE STATES: where the first run begins, what it rests on, and the iteration that each step of the loop belongs to
-abbrev start-of : tie.After-places2 invariant-loop decreases-loop → tie.After-start invariant-loop decreases-loop
-start-of p = p.before.before.before.before
+-- the state after `places`
+abbrev places-from-else1 : tie.Else1 invariant-loop decreases-loop → tie.After-places invariant-loop decreases-loop
+places-from-else1 c = c.before.before.before
 
-abbrev columns_of : tie.After-places2 invariant-loop decreases-loop → tie.After-columns-of invariant-loop decreases-loop
-columns_of p = (start-of p).before.before.before.before
+-- the state where the test `if1` holds
+abbrev then1 : tie.After-run-on invariant-loop decreases-loop → tie.Then1 invariant-loop decreases-loop
+then1 c = c.before.before.before.before
 
-abbrev entry : tie.After-places2 invariant-loop decreases-loop → tie.Start invariant-loop decreases-loop
-entry p = (columns_of p).before.before.before.before
+-- the state after `has`
+abbrev has : tie.After-add invariant-loop decreases-loop → tie.After-has invariant-loop decreases-loop
+has c = c.before.before.before
 
-abbrev first-state : tie.At-loop invariant-loop decreases-loop → tie.After-places2 invariant-loop decreases-loop
-first-state k = k.before.before.before
+-- the state after `run_on`
+abbrev run_on : tie.Else3 invariant-loop decreases-loop → tie.After-run-on invariant-loop decreases-loop
+run_on c = c.before.before.before.before
 
-abbrev inside-loop : tie.After-places3 invariant-loop decreases-loop → tie.Then1 invariant-loop decreases-loop
-inside-loop c = c.before.before.before
+-- the state at the call
+abbrev entry-from-struct-known : tie.After-struct-known invariant-loop decreases-loop → tie.Start invariant-loop decreases-loop
+entry-from-struct-known c = c.before.before.before
 
-abbrev turn : tie.After-places3 invariant-loop decreases-loop → tie.At-loop invariant-loop decreases-loop
-turn c = (inside-loop c).before.before
+-- the state at the head of the loop
+abbrev loop-from-struct-known3 : tie.After-struct-known3 invariant-loop decreases-loop → tie.At-loop invariant-loop decreases-loop
+loop-from-struct-known3 c = c.before.before.before
 
-abbrev jumped-in : tie.After-has invariant-loop decreases-loop → tie.After-run-on2 invariant-loop decreases-loop
-jumped-in c = c.before.before
+abbrev loop-from-run-on : tie.After-run-on invariant-loop decreases-loop → tie.At-loop invariant-loop decreases-loop
+loop-from-run-on c = (then1 c).before.before
 
-abbrev has_of : tie.After-struct-known3 invariant-loop decreases-loop → tie.After-has invariant-loop decreases-loop
-has_of c = c.before.before
+abbrev loop-from-then3 : tie.Then3 invariant-loop decreases-loop → tie.At-loop invariant-loop decreases-loop
+loop-from-then3 c = loop-from-run-on c.before.before.before.before
 
-abbrev past : tie.Else1 invariant-loop decreases-loop → tie.At-loop invariant-loop decreases-loop
-past c = c.before.before
+abbrev loop-from-ran : tie.After-ran invariant-loop decreases-loop → tie.At-loop invariant-loop decreases-loop
+loop-from-ran c = loop-from-then3 c.before
 
--- WHAT THE FUNCTION IS GIVEN
-abbrev table_of : tie.After-places2 invariant-loop decreases-loop → Loaded
-table_of p = (entry p).args.table
+-- the state where the test `if1` fails
+abbrev else1 : tie.After-struct-known4 invariant-loop decreases-loop → tie.Else1 invariant-loop decreases-loop
+else1 c = c.before.before.before
 
-abbrev tick-of : tie.After-places2 invariant-loop decreases-loop → ℕ
-tick-of p = (entry p).args.tick
+-- the state after `columns_of`
+abbrev columns-of-from-start : tie.After-start invariant-loop decreases-loop → tie.After-columns-of invariant-loop decreases-loop
+columns-of-from-start c = c.before.before.before.before
 
-abbrev place_of : tie.After-places2 invariant-loop decreases-loop → ℕ
-place_of p = (entry p).args.place
+abbrev columns-of-from-places : tie.After-places invariant-loop decreases-loop → tie.After-columns-of invariant-loop decreases-loop
+columns-of-from-places c = columns-of-from-start c.before.before
 
-abbrev nums : tie.After-places2 invariant-loop decreases-loop → Numbers
-nums p =
-    let r = (columns_of p).columns_of.result in
-    numbersBy r.setting r.widths r.times
+-- the state at the call
+abbrev entry-from-places : tie.After-places invariant-loop decreases-loop → tie.Start invariant-loop decreases-loop
+entry-from-places c = (columns-of-from-places c).before.before.before.before
+
+abbrev entry-from-else1 : tie.Else1 invariant-loop decreases-loop → tie.Start invariant-loop decreases-loop
+entry-from-else1 c = entry-from-places (places-from-else1 c)
+
+abbrev entry-from-then2 : tie.Then2 invariant-loop decreases-loop → tie.Start invariant-loop decreases-loop
+entry-from-then2 c = entry-from-places (loop-from-run-on c.before.before).before
+
+-- THE PLACES. What the function is given
+abbrev table_of : tie.After-places invariant-loop decreases-loop → Loaded
+table_of p = (entry-from-places p).args.table
+
+abbrev tick-of : tie.After-places invariant-loop decreases-loop → ℕ
+tick-of p = (entry-from-places p).args.tick
+
+abbrev place_of : tie.After-places invariant-loop decreases-loop → ℕ
+place_of p = (entry-from-places p).args.place
+
+-- the run begins as that of table t does
+abbrev Of : tie.After-places invariant-loop decreases-loop → Loaded → Type 0
+Of p t =
+    let co = columns-of-from-places p in
+    TickStarts t co.columns_of.result.setting co.columns_of.result.widths
+    co.columns_of.result.times p.before.before.start.result.registers p.before.before.start.result.places
+
+own : (p : tie.After-places invariant-loop decreases-loop) → Of p (table_of p)
+own p = record {
+  fit = (entry-from-places p).requires.0;
+  numbers = (columns-of-from-places p).columns_of.ensures;
+  state-start = p.before.before.start.ensures.0;
+}
 
 -- the place is one of the table's
-inside : (t : Loaded) (fit : Fit t) (tick place : ℕ) → FirstMiss (loadedTable t) tick (suc place) → (place < t.count) × (place < 32)
+inside : (t : Loaded) (fit : Fit t) (tick place : ℕ) → FirstMiss (loaded_table t) tick (suc place) → (place < t.count) × (place < 32)
 inside t fit tick place f =
-    let l = (missed_here (loadedTable t) fit.valid tick place f).0 in
+    let l = (missed_here (loaded_table t) fit.valid tick place f).0 in
     (omega (arith, size t fit), omega (arith, size t fit, fit.few))
 
-here : (x : tie.Start invariant-loop decreases-loop) → x.args.place < 32
-here x = (inside x.args.table x.requires.0 x.args.tick x.args.place x.requires.1).1
-
 -- the task there
-same-task :
-    (t : Loaded) (fit : Fit t) (tick place : ℕ) → FirstMiss (loadedTable t) tick (suc place)
-    → task (loadedTable t) place ≡ task_of (get_or t.tasks place noTask)
+same-task : (t : Loaded) (fit : Fit t) (tick place : ℕ) → FirstMiss (loaded_table t) tick (suc place) → task (loaded_table t) place ≡ task_of (get_or t.tasks place no_task)
 same-task t fit tick place f = task-at t.tasks t.count place (inside t fit tick place f).0
 
-own-task : (p : tie.After-places2 invariant-loop decreases-loop) → task (loadedTable (table_of p)) (place_of p) ≡ task_of (get_or (table_of p).tasks (place_of p) noTask)
-own-task p = let x = entry p in same-task (table_of p) x.pre.0 (tick-of p) (place_of p) x.pre.1
+-- before each tick
+counting-of : (k : tie.At-loop invariant-loop decreases-loop) → Counting (table_of k.before) (tick-of k.before) (place_of k.before) (tick_state_of k.loop.registers k.loop.places) k.loop.ran
+counting-of k =
+    let p = k.before in
+    let x = entry-from-places p in
+    k.loop.invariant (table_of p) (own p) x.pre.1 (ap (λ (τ : Task). tick-of p - τ.deadline) (sym (same-task (table_of p) x.pre.0 (tick-of p) (place_of p) x.pre.1)))
 
--- TO THE RELEASE
-abbrev released : tie.After-places2 invariant-loop decreases-loop → ℕ
-released p = tick-of p - (get_or (table_of p).tasks (place_of p) noTask).deadline
+-- the run before a tick, and where it goes on by one: no deadline of the tick is missed
+abbrev state-of : tie.At-loop invariant-loop decreases-loop → TickState
+state-of k = tick_state_of k.loop.registers k.loop.places
 
-release-is : (p : tie.After-places2 invariant-loop decreases-loop) → released p ≡ releaseOf (loadedTable (table_of p)) (tick-of p) (place_of p)
-release-is p = ap (λ (τ : Task). tick-of p - τ.deadline) (sym (own-task p))
+abbrev nums : tie.After-places invariant-loop decreases-loop → Numbers
+nums p = let r = (columns-of-from-places p).columns_of.result in numbers_by r.setting r.widths r.times
 
-run-begins : (p : tie.After-places2 invariant-loop decreases-loop) → let m = (start-of p).start.result in
-    JumpsBegin (table_of p) (nums p) (eventStateOf m.registers m.places) (released p)
-run-begins p =
-    let x = entry p in
-    record {
-      fit = x.pre.0;
-      numbers = (columns_of p).columns_of.ensures;
-      represents = subst (StateRepresents (table_of p)) (sym (start-of p).start.ensures) (initial-represents (table_of p) x.pre.0);
-      early = omega (arith, x.pre.2);
-    }
+ticks-begin : (k : tie.At-loop invariant-loop decreases-loop) → k.loop.registers.tick < tick-of k.before
+    → TicksBegin (table_of k.before) (nums k.before) (state-of k) (k.loop.registers.tick + 1)
+ticks-begin k l =
+    let x = entry-from-places k.before in
+    record { fit = x.pre.0; numbers = (own k.before).numbers; refines = (counting-of k).follows; within = omega arith; early = omega (arith, l, x.pre.2) }
 
-counting-begins : (r : tie.After-run-on invariant-loop decreases-loop) → let p = r.before in
-    CountingBegins (table_of p) (nums p) (tick-of p) (place_of p) (eventStateOf r.run_on.result.registers r.run_on.new.1.1.1.1.0)
-counting-begins r =
-    let p = r.before in
-    let x = entry p in
-    record {
-      fit = x.pre.0;
-      numbers = (columns_of p).columns_of.ensures;
-      miss = x.pre.1;
-      early = x.pre.2;
-      start =
-          counting-start (table_of p) x.pre.0 (tick-of p) (place_of p) x.pre.1 (nums p) _ _ _ (released p) (release-is p) (run-begins p)
-          (ap (λ (s : EventState). s.tick) (start-of p).start.ensures) r.run_on.ensures;
-    }
+stepped : (g : tie.After-run-on invariant-loop decreases-loop)
+    → tick_state_of g.run_on.result.registers g.run_on.new.1.1.1.1.0 ≡ next_tick_state (nums (loop-from-run-on g).before) (state-of (loop-from-run-on g))
+stepped g =
+    let k = loop-from-run-on g in
+    let p = k.before in
+    let x = entry-from-places p in
+    let l = (then1 g).if1.true in
+    one-tick (table_of p) (nums p) (state-of k) _ _ (ticks-begin k l)
+    (met-here (table_of p) x.pre.0 (tick-of p) (place_of p) x.pre.1 (state-of k) k.loop.ran (counting-of k) l) g.run_on.ensures
 
--- JUMP BY JUMP
-abbrev state-of : tie.At-loop invariant-loop decreases-loop → EventState
-state-of k = eventStateOf k.loop.registers k.loop.places
+-- .. as a tick of table t
+ticked : (g : tie.After-run-on invariant-loop decreases-loop) (t : Loaded) → Of (loop-from-run-on g).before t
+    → tick_state_of g.run_on.result.registers g.run_on.new.1.1.1.1.0 ≡ next_tick_state (loaded_numbers t) (state-of (loop-from-run-on g))
+ticked g t b = stepped g ∙ ap (λ (n : Numbers). next_tick_state n (state-of (loop-from-run-on g))) b.numbers
 
-counting-of :
-    (k : tie.At-loop invariant-loop decreases-loop) → Counting (table_of (first-state k)) (tick-of (first-state k)) (place_of (first-state k)) (state-of k) k.loop.ran
-counting-of k = k.loop.invariant (table_of (first-state k)) (counting-begins k.before.before)
+on : (g : tie.After-run-on invariant-loop decreases-loop) → g.run_on.result.registers.tick ≡ (loop-from-run-on g).loop.registers.tick + 1
+on g = tick-on _ _ _ (stepped g)
 
-starts : (c : tie.After-places3 invariant-loop decreases-loop) → let k = turn c in JumpStarts (table_of (first-state k)) (nums (first-state k)) (state-of k)
-starts c =
-    let k = turn c in
-    let p = first-state k in
-    let x = entry p in
-    jump-starts (table_of p) x.pre.0 (tick-of p) (place_of p) x.pre.1 (nums p) (columns_of p).columns_of.ensures x.pre.2 (state-of k)
-    k.loop.ran
-    (counting-of k) (inside-loop c).if1.true
+-- at the end: the tick is that of the miss, and what is left of the late job
+at_tick : (e : tie.Else1 invariant-loop decreases-loop) → e.before.before.loop.registers.tick ≡ tick-of (places-from-else1 e)
+at_tick e = omega (arith, (counting-of e.before.before).within, e.if1.false)
 
-abbrev there : tie.After-run-on2 invariant-loop decreases-loop → EventState
-there a = eventStateOf a.run-on2.result.registers a.run-on2.new.1.1.1.1.0
-
-jump-of : (a : tie.After-run-on2 invariant-loop decreases-loop) → let k = turn a.before in JumpOf (nums (first-state k)) (state-of k) (there a)
-jump-of a =
-    let k = turn a.before in
-    one-jump (table_of (first-state k)) (nums (first-state k)) (state-of k) _ _ (starts a.before) a.run-on2.ensures
-
-moves : (a : tie.After-run-on2 invariant-loop decreases-loop) → let k = turn a.before in
-    (k.loop.registers.tick < a.run-on2.result.registers.tick) × (a.run-on2.result.registers.tick ≤ tick-of (first-state k))
-moves a =
-    let k = turn a.before in
-    let p = first-state k in
-    let x = entry p in
-    up_to (table_of p) x.pre.0 (tick-of p) (place_of p) x.pre.1 (nums p) (columns_of p).columns_of.ensures x.pre.2 (state-of k) k.loop.ran
-    (counting-of k) (inside-loop a.before).if1.taken (there a) (jump-of a)
-
--- AT THE END: the tick is that of the miss, and what is left of the late job
-at_tick : (e : tie.Else1 invariant-loop decreases-loop) → (past e).loop.registers.tick ≡ tick-of (first-state (past e))
-at_tick e = omega (arith, (counting-of (past e)).within, e.if1.false)
-
-counted-end : (e : tie.Else1 invariant-loop decreases-loop) → let p = first-state (past e) in
-    Counted (loadedTable (table_of p)) (tick-of p) (place_of p) (tick-of p) (past e).loop.ran
+counted-end : (e : tie.Else1 invariant-loop decreases-loop) → Counted (loaded_table (table_of (places-from-else1 e)))
+    (tick-of (places-from-else1 e)) (place_of (places-from-else1 e)) (tick-of (places-from-else1 e)) e.before.before.loop.ran
 counted-end e =
-    let p = first-state (past e) in
-    subst (λ (n : ℕ). Counted (loadedTable (table_of p)) (tick-of p) (place_of p) n (past e).loop.ran) (at_tick e) (counting-of (past e)).counted
+    let places-state = places-from-else1 e in
+    subst (λ (n : ℕ). Counted (loaded_table (table_of places-state)) (tick-of places-state) (place_of places-state) n e.before.before.loop.ran) (at_tick e)
+    (counting-of e.before.before).counted
 
-at-end : (e : tie.Else1 invariant-loop decreases-loop) → let k = past e in let p = first-state k in
-    (get_or k.loop.places (place_of p) 0 ≤ (get_or (table_of p).tasks (place_of p) noTask).length)
-    × ((get_or (table_of p).tasks (place_of p) noTask).length - get_or k.loop.places (place_of p) 0 ≡ hadBy (loadedTable (table_of p)) (tick-of p) (place_of p))
+at-end : (e : tie.Else1 invariant-loop decreases-loop)
+    → (get_or e.before.before.loop.places (place_of (places-from-else1 e)) 0 ≤ (get_or (table_of (places-from-else1 e)).tasks (place_of (places-from-else1 e)) no_task).length)
+    × ((get_or (table_of (places-from-else1 e)).tasks (place_of (places-from-else1 e)) no_task).length - get_or e.before.before.loop.places (place_of (places-from-else1 e)) 0
+    ≡ had_by (loaded_table (table_of (places-from-else1 e))) (tick-of (places-from-else1 e)) (place_of (places-from-else1 e)))
 at-end e =
-    let k = past e in
-    let p = first-state k in
-    let x = entry p in
+    let k = e.before.before in
+    let p = k.before in
+    let x = entry-from-places p in
     let t = table_of p in
-    let h = left-had t x.pre.0 (state-of k) (counting-of k).represents (place_of p)
-    (subst (λ (n : ℕ). FirstMiss (loadedTable t) n (suc (place_of p))) (sym (at_tick e)) x.pre.1) in
-    let same = ap (λ (τ : Task). τ.length) (own-task p) in
-    let at = front_at k.loop.places (place_of p) (here x) in
-    let had = ap (λ (n : ℕ). hadBy (loadedTable t) n (place_of p)) (at_tick e) in
-    (omega (arith, same, at, h.0), omega (arith, same, at, h.1, had))
+    let h = left-had (loaded_table t) x.pre.0.valid (tick-of p) (place_of p) x.pre.1 (machine_of k.loop.places k.loop.registers.claiming)
+    (subst (λ (n : ℕ). MachineRelated (loaded_table t) n (machine_of k.loop.places k.loop.registers.claiming)) (at_tick e) (counting-of k).follows.before.related) in
+    let same = ap (λ (τ : Task). τ.length) (same-task t x.pre.0 (tick-of p) (place_of p) x.pre.1) in
+    let at = front_at k.loop.places (place_of p) (inside t x.pre.0 (tick-of p) (place_of p) x.pre.1).1 in
+    (omega (arith, same, at, h.0), omega (arith, same, at, h.1))
 
--- THE ANSWERS
 mul-late : tie.Need-overflow-mul-late invariant-loop decreases-loop
-mul-late c = omega (arith, here c.before)
+mul-late c = let x = c.before in omega (arith, (inside x.args.table x.requires.0 x.args.tick x.args.place x.requires.1).1)
 
 array-copy-out-late : tie.Need-array-copy-out-late invariant-loop decreases-loop
-array-copy-out-late c = here c.before
+array-copy-out-late c = let x = c.before in (inside x.args.table x.requires.0 x.args.tick x.args.place x.requires.1).1
 
 sub-release : tie.Need-overflow-sub-release invariant-loop decreases-loop
 sub-release c =
-    let x = c.before.before.before in
-    subst (λ (τ : Task). τ.deadline ≤ x.args.tick) (same-task x.args.table x.requires.0 x.args.tick x.args.place x.requires.1)
-    (deadline-within (loadedTable x.args.table) x.requires.0.valid x.args.tick x.args.place x.requires.1)
+    let x = entry-from-struct-known c in
+    subst (λ (τ : Task). τ.deadline ≤ x.args.tick) (same-task x.args.table x.pre.0 x.args.tick x.args.place x.pre.1)
+    (deadline-within (loaded_table x.args.table) x.pre.0.valid x.args.tick x.args.place x.pre.1)
 
-run-on-requires : tie.Need-run-on-requires invariant-loop decreases-loop
-run-on-requires c κs = (table_of c, run-begins c)
+columns-of-requires : tie.Need-columns-of-requires invariant-loop decreases-loop
+columns-of-requires c κs = search rules
+
+start-requires : tie.Need-start-requires invariant-loop decreases-loop
+start-requires c κs = search rules
 
 loop-holds : tie.Need-loop-init invariant-loop decreases-loop
-loop-holds c = λ t b. b.start
+loop-holds c =
+    λ t b f r. subst (λ (y : TickState). Counting t (tick-of c) (place_of c) y (replicate 32 0)) (sym b.state-start) (counting-start t b.fit (tick-of c) (place_of c) f)
 
 add-run-on : tie.Need-overflow-add-run-on invariant-loop decreases-loop
-add-run-on c = omega (arith, (inside-loop c).if1.true, (entry (first-state (turn c))).fits.tick)
+add-run-on c =
+    let e = c.before.before.before in
+    omega (arith, e.if1.true, (entry-from-places e.before.before.before).fits.tick)
 
-run-on-requires-2 : tie.Need-run-on-requires-2 invariant-loop decreases-loop
-run-on-requires-2 c κs =
-    let b = starts c in
-    (table_of (first-state (turn c)), record { fit = b.fit; numbers = b.numbers; represents = b.represents; early = omega (arith, b.early) })
-
-cast-has : tie.Need-overflow-cast-has invariant-loop decreases-loop
-cast-has c = omega (arith, here (entry (first-state (turn c.before.before))))
+run-on-requires : tie.Need-run-on-requires invariant-loop decreases-loop
+run-on-requires c κs =
+    let e = c.before.before.before in
+    (table_of e.before.before.before, ticks-begin e.before.before e.if1.true)
 
 has-requires : tie.Need-has-requires invariant-loop decreases-loop
-has-requires c κs = here (entry (first-state (turn c.before.before)))
+has-requires c κs = let x = entry-from-then2 c in (inside x.args.table x.pre.0 x.args.tick x.args.place x.pre.1).1
 
 add-requires : tie.Need-add-requires invariant-loop decreases-loop
 add-requires c κs =
     λ q.
-    let k = turn (jumped-in (has_of c.before)).before in
-    omega (arith, counted-small _ _ _ _ _ (counting-of k).counted q, (counting-of k).within, (entry (first-state k)).fits.tick)
+    let k = loop-from-ran c in
+    omega (arith, counted-small _ _ _ _ _ (counting-of k).counted q, (counting-of k).within, (entry-from-places k.before).fits.tick)
 
 loop-less : tie.Need-loop-smaller invariant-loop decreases-loop
-loop-less c =
-    let a = jumped-in (has_of c.before.before) in
-    omega (arith, (moves a).0, (inside-loop a.before).if1.taken)
+loop-less c = let g = (has c).before.before.before in omega (arith, on g, (then1 g).if1.taken)
 
 loop-again : tie.Need-loop-preserved invariant-loop decreases-loop
 loop-again c =
-    λ t b.
-    let has-state = has_of c.before.before in
-    let a = jumped-in has-state in
-    let k = turn a.before in
-    let p = first-state k in
-    subst (λ (l : List ℕ). Counting t (tick-of p) (place_of p) (there a) l) (sym c.add.ensures)
-    (counting-waits t b.fit (tick-of p) (place_of p) b.miss (nums p) b.numbers b.early (state-of k) k.loop.ran (k.loop.inv t b)
-    (inside-loop a.before).if1.taken (there a) (jump-of a) (sym has-state.has.ensures ∙ not-true _ c.before.before.before.if2.true))
+    let has-state = has c in
+    λ t b f r.
+    let g = has-state.before.before.before in
+    let k = loop-from-run-on g in
+    let p = k.before in
+    subst (λ (l : List ℕ). Counting t (tick-of p) (place_of p) (tick_state_of g.run_on.result.registers g.run_on.last.1.1.1.1.0) l) (sym c.add.ensures)
+    (counting-waits t b.fit (tick-of p) (place_of p) f (tick_state_of k.loop.registers k.loop.places) k.loop.ran (k.loop.inv t b f r) (then1 g).if1.taken _
+    (ticked g t b) (omega (arith, r, has-state.before.if2.taken)) (sym has-state.has.ensures ∙ not-true _ c.before.before.if3.true))
 
 loop-less-2 : tie.Need-loop-smaller-2 invariant-loop decreases-loop
-loop-less-2 c =
-    let a = jumped-in c.before in
-    omega (arith, (moves a).0, (inside-loop a.before).if1.taken)
+loop-less-2 c = let g = run_on c in omega (arith, on g, (then1 g).if1.taken)
 
 loop-again-2 : tie.Need-loop-preserved-2 invariant-loop decreases-loop
 loop-again-2 c =
-    λ t b.
-    let a = jumped-in c.before in
-    let k = turn a.before in
-    let p = first-state k in
-    counting-runs t b.fit (tick-of p) (place_of p) b.miss (nums p) b.numbers b.early (state-of k) k.loop.ran (k.loop.inv t b)
-    (inside-loop a.before).if1.taken (there a) (jump-of a) (sym c.before.has.ensures ∙ not-false _ c.if2.false)
+    λ t b f r.
+    let g = run_on c in
+    let k = loop-from-run-on g in
+    let p = k.before in
+    counting-runs t b.fit (tick-of p) (place_of p) f (tick_state_of k.loop.registers k.loop.places) k.loop.ran (k.loop.inv t b f r)
+    (then1 g).if1.taken _ (ticked g t b) (omega (arith, r, c.before.before.if2.true)) (sym c.before.has.ensures ∙ not-false _ c.if3.false)
 
-facts-with-requires : tie.Need-facts-with-requires invariant-loop decreases-loop
-facts-with-requires c κs =
-    let k = past c in
-    ((at-end c).0, here (entry (first-state k)), (counting-of k).counted.size)
+loop-less-3 : tie.Need-loop-smaller-3 invariant-loop decreases-loop
+loop-less-3 c = let g = c.before.before in omega (arith, on g, (then1 g).if1.true)
+
+loop-again-3 : tie.Need-loop-preserved-3 invariant-loop decreases-loop
+loop-again-3 c =
+    λ t b f r.
+    let g = c.before.before in
+    let k = loop-from-run-on g in
+    let p = k.before in
+    counting-early t b.fit (tick-of p) (place_of p) f (tick_state_of k.loop.registers k.loop.places) k.loop.ran
+    (k.loop.inv t b f r) (then1 g).if1.true _ (ticked g t b) (omega (arith, r, c.if2.false))
+
+cast-position : tie.Need-overflow-cast-position invariant-loop decreases-loop
+cast-position c = let x = entry-from-else1 c in omega (arith, (inside x.args.table x.pre.0 x.args.tick x.args.place x.pre.1).1)
+
+add-position : tie.Need-overflow-add-position invariant-loop decreases-loop
+add-position c = let x = entry-from-else1 c in omega (arith, (inside x.args.table x.pre.0 x.args.tick x.args.place x.pre.1).1)
+
+mul-had : tie.Need-overflow-mul-had invariant-loop decreases-loop
+mul-had c = let x = entry-from-else1 c in omega (arith, (inside x.args.table x.pre.0 x.args.tick x.args.place x.pre.1).1)
+
+array-read-had : tie.Need-array-read-had invariant-loop decreases-loop
+array-read-had c = let x = entry-from-else1 c in omega (arith, (inside x.args.table x.pre.0 x.args.tick x.args.place x.pre.1).1)
+
+sub-had : tie.Need-overflow-sub-had invariant-loop decreases-loop
+sub-had c = (at-end c.before).0
+
+counts-above-requires : tie.Need-counts-above-requires invariant-loop decreases-loop
+counts-above-requires c κs =
+    let k = loop-from-struct-known3 c in
+    let x = entry-from-else1 c.before in
+    let l = (inside x.args.table x.pre.0 x.args.tick x.args.place x.pre.1).1 in
+    (omega arith, (counting-of k).counted.size)
+
+cast-t39 : tie.Need-overflow-cast-t39 invariant-loop decreases-loop
+cast-t39 c = search rules
+
+cast-t40 : tie.Need-overflow-cast-t40 invariant-loop decreases-loop
+cast-t40 c = search rules
 
 returns : tie.Need-returns invariant-loop decreases-loop
 returns c =
-    let e = c.before in
-    let k = past e in
-    let p = first-state k in
+    let e = else1 c in
+    let k = e.before.before in
+    let p = k.before in
+    let x = entry-from-places p in
     let t = table_of p in
-    let f = c.facts-with.ensures in
-    let others = ap named f.4 ∙ counted-named (loadedTable t) (tick-of p) (place_of p) k.loop.ran (counted-end e)
-    (omega (arith, here (entry p))) in
+    let same = same-task t x.pre.0 (tick-of p) (place_of p) x.pre.1 in
+    let w = at-end e in
+    let position : place_of p + 1 ≡ suc (place_of p) = omega arith in
+    let others = ap named c.before.counts-above.ensures ∙ counted-named (loaded_table t) (tick-of p) (place_of p)
+    k.loop.ran (counted-end e) (omega (arith, (inside t x.pre.0 (tick-of p) (place_of p) x.pre.1).1)) in
     λ i. record {
-      position = f.0 i;
-      tick = f.1 i;
-      had = (f.2 ∙ (at-end e).1) i;
-      length = (f.3 ∙ ap (λ (τ : Task). τ.length) (sym (own-task p))) i;
+      position = position i;
+      tick = tick-of p;
+      had = w.1 i;
+      length = ap (λ (τ : Task). τ.length) (sym same) i;
       others = others i;
     }
 
 pub count_spec : {M : Type 1} → statement M
 count_spec =
-    tie.close (tie.spec invariant-loop decreases-loop mul-late array-copy-out-late sub-release (λ c κs. search rules)
-    (λ c κs. search rules) run-on-requires loop-holds add-run-on run-on-requires-2 cast-has has-requires
-    (λ c. omega (arith, (moves (jumped-in (has_of c))).0)) add-requires loop-less loop-again loop-less-2 loop-again-2
-    (λ c. omega (arith, here (entry (first-state (past c)))))
-    (λ c. omega (arith, here (entry (first-state (past c))))) facts-with-requires returns)
+    tie.close
+    (tie.spec
+    invariant-loop
+    decreases-loop
+    mul-late
+    array-copy-out-late
+    sub-release
+    columns-of-requires
+    start-requires
+    loop-holds
+    add-run-on
+    run-on-requires
+    has-requires
+    add-requires
+    loop-less
+    loop-again
+    loop-less-2
+    loop-again-2
+    loop-less-3
+    loop-again-3
+    cast-position
+    add-position
+    mul-had
+    array-read-had
+    sub-had
+    counts-above-requires
+    cast-t39
+    cast-t40
+    returns)

@@ -31,11 +31,23 @@ loop c = c.before.before.before.before
 loop-holds : tie.Need-loop-init invariant-loop decreases-loop
 loop-holds c = (omega arith, rw add-zero)
 
+sub-if1 : tie.Need-overflow-sub-if1 invariant-loop decreases-loop
+sub-if1 c = search rules
+
 returns : tie.Need-returns invariant-loop decreases-loop
 returns c =
     let a = (entry c).args in
     let l = c.before.before.loop in
     sym (l.invariant.1 ∙ begins-past a.word.now a.bytes.now l.k (a.at + l.k) (omega arith) (omega arith))
+
+add-if2 : tie.Need-overflow-add-if2 invariant-loop decreases-loop
+add-if2 c = search rules
+
+shared-slice-read-if2 : tie.Need-shared-slice-read-if2 invariant-loop decreases-loop
+shared-slice-read-if2 c = search rules
+
+shared-slice-read-if2-2 : tie.Need-shared-slice-read-if2-2 invariant-loop decreases-loop
+shared-slice-read-if2-2 c = search rules
 
 returns-2 : tie.Need-returns-2 invariant-loop decreases-loop
 returns-2 c =
@@ -43,6 +55,12 @@ returns-2 c =
     let l = (loop c.before).loop in
     let e : eqb (get_or a.word.now l.k 0) (get_or a.bytes.now (a.at + l.k) 0) ≡ false = ne_eqb _ _ (λ q. c.if2.true (sym q)) in
     sym (l.inv.1 ∙ begins-on a.word.now a.bytes.now l.k (a.at + l.k) (omega arith) (omega arith) ∙ rw e)
+
+add-k : tie.Need-overflow-add-k invariant-loop decreases-loop
+add-k c = search rules
+
+loop-less : tie.Need-loop-smaller invariant-loop decreases-loop
+loop-less c = search rules
 
 loop-again : tie.Need-loop-preserved invariant-loop decreases-loop
 loop-again c =
@@ -63,5 +81,18 @@ returns-3 c =
 
 pub begins-with-spec : {M : Type 1} → statement M
 begins-with-spec =
-    tie.close (tie.spec invariant-loop decreases-loop loop-holds (λ c. search rules) returns (λ c. search rules) (λ c. search rules)
-    (λ c. search rules) returns-2 (λ c. search rules) (λ c. search rules) loop-again returns-3)
+    tie.close
+    (tie.spec
+    invariant-loop
+    decreases-loop
+    loop-holds
+    sub-if1
+    returns
+    add-if2
+    shared-slice-read-if2
+    shared-slice-read-if2-2
+    returns-2
+    add-k
+    loop-less
+    loop-again
+    returns-3)

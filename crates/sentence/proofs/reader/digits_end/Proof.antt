@@ -4,13 +4,13 @@ use mathlib.Core.Path.{◌≡◌}
 use Prim.Native.Nat.{◌+◌, ◌-◌}
 use native.Mathlib.Omega.{arith}
 use lib.ListN.{length, drop}
-use Rattle.sentence.specs.Reading.{digitsOf}
+use Rattle.sentence.specs.Reading.{digits_of}
 use Rattle.sentence.proofs.Reading.{digits-on, digits_low, digits-high, digits-none}
 use Rattle.sentence.proofs.reader.digits_end.Statement.{statement}
 use Rattle.sentence.proofs.reader.digits_end.Tie as tie
 
 abbrev invariant-loop : tie.invariant-loop
-invariant-loop bytes at end₀ end = at + digitsOf (drop at bytes) ≡ end + digitsOf (drop end bytes)
+invariant-loop bytes at end₀ end = at + digits_of (drop at bytes) ≡ end + digits_of (drop end bytes)
 
 abbrev decreases-loop : tie.decreases-loop
 decreases-loop bytes at end₀ end = length bytes - end
@@ -22,13 +22,23 @@ loop-from-else1 c = c.before.before.before
 abbrev loop-from-then1 : tie.Then1 invariant-loop decreases-loop → tie.At-loop invariant-loop decreases-loop
 loop-from-then1 c = c.before.before.before
 
+loop-holds : tie.Need-loop-init invariant-loop decreases-loop
+loop-holds c = omega arith
+
+shared-slice-read-byte : tie.Need-shared-slice-read-byte invariant-loop decreases-loop
+shared-slice-read-byte c = omega arith
+
 returns : tie.Need-returns invariant-loop decreases-loop
 returns c = let a = (loop-from-then1 c).before.args in omega (arith, digits_low a.bytes.now (loop-from-then1 c).loop.end (omega arith) c.if1.true)
 
 returns-2 : tie.Need-returns-2 invariant-loop decreases-loop
-returns-2 c =
-    let a = (loop-from-else1 c.before).before.args
-    in omega (arith, digits-high a.bytes.now (loop-from-else1 c.before).loop.end (omega arith) c.if2.true)
+returns-2 c = let a = (loop-from-else1 c.before).before.args in omega (arith, digits-high a.bytes.now (loop-from-else1 c.before).loop.end (omega arith) c.if2.true)
+
+add-end : tie.Need-overflow-add-end invariant-loop decreases-loop
+add-end c = omega arith
+
+loop-less : tie.Need-loop-smaller invariant-loop decreases-loop
+loop-less c = omega arith
 
 loop-again : tie.Need-loop-preserved invariant-loop decreases-loop
 loop-again c =
@@ -41,5 +51,15 @@ returns-3 c = let a = c.before.before.args in omega (arith, digits-none a.bytes.
 
 pub digits-end-spec : {M : Type 1} → statement M
 digits-end-spec =
-    tie.close (tie.spec invariant-loop decreases-loop (λ c. omega arith) (λ c. omega arith) returns returns-2 (λ c. omega arith)
-    (λ c. omega arith) loop-again returns-3)
+    tie.close
+    (tie.spec
+    invariant-loop
+    decreases-loop
+    loop-holds
+    shared-slice-read-byte
+    returns
+    returns-2
+    add-end
+    loop-less
+    loop-again
+    returns-3)

@@ -26,15 +26,25 @@ entry-from-then1 c = c.before.before.before.before
 abbrev entry-from-missing : tie.After-missing → tie.Start
 entry-from-missing c = entry-from-then1 c.before
 
+missing-requires : tie.Need-missing-requires
+missing-requires c κs = search rules
+
 returns : tie.Need-returns
-returns c =
-    let a = (entry-from-missing c).args in field-none a.bytes.now a.word.now a.before _ c.missing.ensures (not-true _ c.before.if1.true)
+returns c = let a = (entry-from-missing c).args in field-none a.bytes.now a.word.now a.before _ c.missing.ensures (not-true _ c.before.if1.true)
+
+begins-with-requires : tie.Need-begins-with-requires
+begins-with-requires c κs = search rules
+
+missing-requires-2 : tie.Need-missing-requires-2
+missing-requires-2 c κs = search rules
 
 returns-2 : tie.Need-returns-2
 returns-2 c =
     let a = (entry-from-begins-with c.before.before).args in
-    field-other a.bytes.now a.word.now a.before _ c.missing2.ensures
-    (sym c.before.before.begins-with.ensures ∙ not-true _ c.before.if2.true)
+    field-other a.bytes.now a.word.now a.before _ c.missing2.ensures (sym c.before.before.begins-with.ensures ∙ not-true _ c.before.if2.true)
+
+add-read-number : tie.Need-overflow-add-read-number
+add-read-number c = search rules
 
 read-number-requires : tie.Need-read-number-requires
 read-number-requires c κs =
@@ -49,5 +59,13 @@ returns-3 c =
 
 pub read-field-spec : {M : Type 1} → statement M
 read-field-spec =
-    tie.close (tie.spec (λ c κs. search rules) returns (λ c κs. search rules) (λ c κs. search rules) returns-2
-    (λ c. search rules) read-number-requires returns-3)
+    tie.close
+    (tie.spec
+    missing-requires
+    returns
+    begins-with-requires
+    missing-requires-2
+    returns-2
+    add-read-number
+    read-number-requires
+    returns-3)

@@ -51,6 +51,12 @@ digits-end-from-missing2 c = digits-end-from-then2 c.before
 abbrev digits-end-from-past-loop : tie.After-loop invariant-loop decreases-loop → tie.After-digits-end invariant-loop decreases-loop
 digits-end-from-past-loop c = (is-padded c).before.before.before
 
+digits-end-requires : tie.Need-digits-end-requires invariant-loop decreases-loop
+digits-end-requires c κs = search rules
+
+missing-requires : tie.Need-missing-requires invariant-loop decreases-loop
+missing-requires c κs = search rules
+
 returns : tie.Need-returns invariant-loop decreases-loop
 returns c =
     let a = (entry-from-missing c).args in
@@ -59,12 +65,20 @@ returns c =
 shared-slice-read-is-padded : tie.Need-shared-slice-read-is-padded invariant-loop decreases-loop
 shared-slice-read-is-padded c = let a = (entry-from-else1 c.before).args in inside a.bytes.now a.at a.at (omega arith) (omega arith)
 
+sub-is-padded : tie.Need-overflow-sub-is-padded invariant-loop decreases-loop
+sub-is-padded c = search rules
+
+is-padded-requires : tie.Need-is-padded-requires invariant-loop decreases-loop
+is-padded-requires c κs = search rules
+
+missing-requires-2 : tie.Need-missing-requires-2 invariant-loop decreases-loop
+missing-requires-2 c κs = search rules
+
 returns-2 : tie.Need-returns-2 invariant-loop decreases-loop
 returns-2 c =
     let a = (digits-end-from-missing2 c).before.before.args in
     no_number a.bytes.now a.at _ c.missing2.ensures
-    (zero-first a.bytes.now a.at _ (digits-end-from-missing2 c).digits-end.ensures
-    (sym c.before.before.is-padded.ensures ∙ c.before.if2.true))
+    (zero-first a.bytes.now a.at _ (digits-end-from-missing2 c).digits-end.ensures (sym c.before.before.is-padded.ensures ∙ c.before.if2.true))
 
 loop-holds : tie.Need-loop-init invariant-loop decreases-loop
 unfolding value
@@ -74,21 +88,19 @@ loop-holds c =
     (omega arith, omega arith, omega arith, ap (λ (k : ℕ). value (take k (drop a.at a.bytes.now))) (sym z))
 
 shared-slice-read-digit : tie.Need-shared-slice-read-digit invariant-loop decreases-loop
-shared-slice-read-digit c =
-    let a = (entry-from-shared-slice-known3 c).args in inside a.bytes.now a.at c.before.before.loop.i (omega arith) (omega arith)
+shared-slice-read-digit c = let a = (entry-from-shared-slice-known3 c).args in inside a.bytes.now a.at c.before.before.loop.i (omega arith) (omega arith)
 
 sub-digit : tie.Need-overflow-sub-digit invariant-loop decreases-loop
 sub-digit c = let a = (entry-from-shared-slice-known3 c).args in (digit-inside a.bytes.now a.at c.before.before.loop.i (omega arith) (omega arith)).0
 
 cast-digit : tie.Need-overflow-cast-digit invariant-loop decreases-loop
-cast-digit c =
-    let a = (entry-from-shared-slice-known3 c).args in let d = digit-inside a.bytes.now a.at c.before.before.loop.i (omega arith) (omega arith)
-    in omega (arith, d.0, d.1)
+cast-digit c = let a = (entry-from-shared-slice-known3 c).args in let d = digit-inside a.bytes.now a.at c.before.before.loop.i (omega arith) (omega arith) in omega (arith, d.0, d.1)
 
 sub-if3 : tie.Need-overflow-sub-if3 invariant-loop decreases-loop
-sub-if3 c =
-    let a = (entry-from-shared-slice-known3 c).args in let d = digit-inside a.bytes.now a.at c.before.before.loop.i (omega arith) (omega arith)
-    in omega (arith, d.0, d.1)
+sub-if3 c = let a = (entry-from-shared-slice-known3 c).args in let d = digit-inside a.bytes.now a.at c.before.before.loop.i (omega arith) (omega arith) in omega (arith, d.0, d.1)
+
+missing-requires-3 : tie.Need-missing-requires-3 invariant-loop decreases-loop
+missing-requires-3 c κs = search rules
 
 returns-3 : tie.Need-returns-3 invariant-loop decreases-loop
 returns-3 c =
@@ -96,8 +108,10 @@ returns-3 c =
     let l = (loop-from-missing3 c).loop in
     let d = digit-inside a.bytes.now a.at l.i (omega arith) (omega arith) in
     no_number a.bytes.now a.at _ c.missing3.ensures
-    (too_large a.bytes.now a.at l.i l.value (omega arith) (omega arith) (omega arith) l.inv.3
-    (omega (arith, d.0, d.1, c.before.if3.true)))
+    (too_large a.bytes.now a.at l.i l.value (omega arith) (omega arith) (omega arith) l.inv.3 (omega (arith, d.0, d.1, c.before.if3.true)))
+
+mul-value : tie.Need-overflow-mul-value invariant-loop decreases-loop
+mul-value c = omega (arith, c.if3.false)
 
 add-value : tie.Need-overflow-add-value invariant-loop decreases-loop
 add-value c =
@@ -105,9 +119,10 @@ add-value c =
     let d = digit-inside a.bytes.now a.at (loop-from-else3 c).loop.i (omega arith) (omega arith) in omega (arith, c.if3.false, d.0, d.1)
 
 add-i : tie.Need-overflow-add-i invariant-loop decreases-loop
-add-i c =
-    let a = (entry-from-shared-slice-known3 c.before).args
-    in omega (arith, inside a.bytes.now a.at (loop-from-else3 c).loop.i (omega arith) (omega arith))
+add-i c = let a = (entry-from-shared-slice-known3 c.before).args in omega (arith, inside a.bytes.now a.at (loop-from-else3 c).loop.i (omega arith) (omega arith))
+
+loop-less : tie.Need-loop-smaller invariant-loop decreases-loop
+loop-less c = search rules
 
 loop-again : tie.Need-loop-preserved invariant-loop decreases-loop
 loop-again c =
@@ -131,7 +146,28 @@ returns-4 c =
 
 pub read-number-spec : {M : Type 1} → statement M
 read-number-spec =
-    tie.close (tie.spec invariant-loop decreases-loop (λ c κs. search rules) (λ c κs. search rules) returns
-    shared-slice-read-is-padded (λ c. search rules) (λ c κs. search rules) (λ c κs. search rules) returns-2 loop-holds
-    shared-slice-read-digit sub-digit cast-digit sub-if3 (λ c κs. search rules) returns-3
-    (λ c. omega (arith, c.if3.false)) add-value add-i (λ c. search rules) loop-again returns-4)
+    tie.close
+    (tie.spec
+    invariant-loop
+    decreases-loop
+    digits-end-requires
+    missing-requires
+    returns
+    shared-slice-read-is-padded
+    sub-is-padded
+    is-padded-requires
+    missing-requires-2
+    returns-2
+    loop-holds
+    shared-slice-read-digit
+    sub-digit
+    cast-digit
+    sub-if3
+    missing-requires-3
+    returns-3
+    mul-value
+    add-value
+    add-i
+    loop-less
+    loop-again
+    returns-4)

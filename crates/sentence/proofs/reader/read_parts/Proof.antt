@@ -55,11 +55,23 @@ entry-from-struct-known2 c = (place-from-may-follow c.before.before).before.befo
 loop-holds : tie.Need-loop-init invariant-loop decreases-loop
 loop-holds c = read-start c.before.args.bytes.now c.before.args.from c.before.args.position (omega arith)
 
+place-requires : tie.Need-place-requires invariant-loop decreases-loop
+place-requires c κs = search rules
+
+slice-aggregate-read-field : tie.Need-slice-aggregate-read-field invariant-loop decreases-loop
+slice-aggregate-read-field c = search rules
+
 read-field-requires : tie.Need-read-field-requires invariant-loop decreases-loop
 read-field-requires c κs = let e = ap (λ (f : Field). f.next) c.before.place.ensures in omega (arith, e, c.before.before.loop.invariant.within)
 
+slice-aggregate-read-field-2 : tie.Need-slice-aggregate-read-field-2 invariant-loop decreases-loop
+slice-aggregate-read-field-2 c = search rules
+
 read-field-requires-2 : tie.Need-read-field-requires-2 invariant-loop decreases-loop
 read-field-requires-2 c κs = c.before.read-field.ensures.within
+
+stops-requires : tie.Need-stops-requires invariant-loop decreases-loop
+stops-requires c κs = search rules
 
 returns : tie.Need-returns invariant-loop decreases-loop
 returns c =
@@ -73,6 +85,9 @@ returns c =
     subst (λ (b : Bool). PartsOf a.bytes.now a.from a.position (record { found = b; ran = l.ran })) (sym c.stops.ensures)
     (read-stop a.bytes.now a.from a.position l.ran l.last l.at task.result count.result
     l.inv (entry-from-stops c).requires.1 first count.ensures (not-true _ c.before.if1.true))
+
+may-follow-requires : tie.Need-may-follow-requires invariant-loop decreases-loop
+may-follow-requires c κs = search rules
 
 returns-2 : tie.Need-returns-2 invariant-loop decreases-loop
 returns-2 c =
@@ -129,12 +144,27 @@ loop-again c =
     let count = (read-field2-from-struct-known2 c).read-field2 in
     let first : FieldOf a.bytes.now (letters "; task ") (place l.at) task.result = subst
     (λ (b : Field). FieldOf a.bytes.now (letters "; task ") b task.result) (place-from-may-follow c.before.before).place.ensures task.ensures in
-    read_more a.bytes.now a.from a.position l.ran l.last l.at task.result count.result l.inv (entry-from-struct-known2 c).requires.1
-    first
+    read_more a.bytes.now a.from a.position l.ran l.last l.at task.result count.result l.inv (entry-from-struct-known2 c).requires.1 first
     count.ensures (not-false _ (else1 c).if1.false) (sym c.before.before.may-follow.ensures ∙ not-false _ c.before.if2.false)
 
 pub read-parts-spec : {M : Type 1} → statement M
 read-parts-spec =
-    tie.close (tie.spec invariant-loop decreases-loop loop-holds (λ c κs. search rules) (λ c. search rules) read-field-requires
-    (λ c. search rules) read-field-requires-2 (λ c κs. search rules) returns (λ c κs. search rules) returns-2 sub-ran
-    mul-ran array-write-ran loop-less loop-again)
+    tie.close
+    (tie.spec
+    invariant-loop
+    decreases-loop
+    loop-holds
+    place-requires
+    slice-aggregate-read-field
+    read-field-requires
+    slice-aggregate-read-field-2
+    read-field-requires-2
+    stops-requires
+    returns
+    may-follow-requires
+    returns-2
+    sub-ran
+    mul-ran
+    array-write-ran
+    loop-less
+    loop-again)

@@ -8,7 +8,7 @@ use lib.ListN.{length, set, length-set}
 use Rattle.text.specs.Output.{letters}
 use Rattle.text.specs.Written.{Put}
 use Rattle.text.proofs.Writing.{put_one, put-length}
-use Rattle.sentence.specs.Facts.{factsBy}
+use Rattle.sentence.specs.Facts.{facts_by}
 use Rattle.sentence.specs.Sentence.{parts}
 use Rattle.sentence.proofs.Putting.{room_after, put_both, second, third, fourth, pieces, room-1, room-2, room-3, room-4, room-5, room-6, room-7}
 use borrow.Author.Rules.{rules}
@@ -83,39 +83,54 @@ put-field-from-copy-arg2 c = put-field-from-put-field-arg6 (put-field3-from-copy
 abbrev put-field-from-slice-known7 : tie.After-slice-known7 → tie.After-put-field
 put-field-from-slice-known7 c = put-field-from-copy-arg2 (copy-from-slice-known7 c).before
 
+slice-aggregate-put-field : tie.Need-slice-aggregate-put-field
+slice-aggregate-put-field c = search rules
+
+cast-put-field : tie.Need-overflow-cast-put-field
+cast-put-field c = search rules
+
 put-field-requires : tie.Need-put-field-requires
 put-field-requires c κs =
     let a = (entry-from-struct-known c).args in
-    let f = factsBy a.facts in
+    let f = facts_by a.facts in
     let n = length a.line.now in
     let h = (entry-from-struct-known c).requires in
     room-1 f n h
+
+slice-aggregate-put-field-2 : tie.Need-slice-aggregate-put-field-2
+slice-aggregate-put-field-2 c = search rules
 
 put-field-requires-2 : tie.Need-put-field-requires-2
 put-field-requires-2 c κs =
     let p = put-field-from-put-field-arg4 c in
     let a = (entry-from-struct-known p.before).args in
-    let f = factsBy a.facts in
+    let f = facts_by a.facts in
     let n = length a.line.now in
     let h = (entry-from-struct-known p.before).requires in
     let p1 = p.put-field.ensures in
     room_after (second f) p1 (room-2 f n h)
 
+slice-aggregate-put-field-3 : tie.Need-slice-aggregate-put-field-3
+slice-aggregate-put-field-3 c = search rules
+
 put-field-requires-3 : tie.Need-put-field-requires-3
 put-field-requires-3 c κs =
     let a = (entry-from-put-field-arg6 c).args in
-    let f = factsBy a.facts in
+    let f = facts_by a.facts in
     let n = length a.line.now in
     let h = (entry-from-put-field-arg6 c).requires in
     let p1 = (put-field-from-put-field-arg6 c).put-field.ensures in
     let p2 = put_both p1 (put-field2-from-put-field-arg6 c).put-field2.ensures (room-2 f n h) in
     room_after (third f) p2 (room-3 f n h)
 
+slice-aggregate-put-field-4 : tie.Need-slice-aggregate-put-field-4
+slice-aggregate-put-field-4 c = search rules
+
 put-field-requires-4 : tie.Need-put-field-requires-4
 put-field-requires-4 c κs =
     let p = put-field3-from-put-field-arg8 c in
     let a = (entry-from-put-field-arg6 p.before).args in
-    let f = factsBy a.facts in
+    let f = facts_by a.facts in
     let n = length a.line.now in
     let h = (entry-from-put-field-arg6 p.before).requires in
     let p1 = (put-field-from-put-field-arg6 p.before).put-field.ensures in
@@ -123,10 +138,13 @@ put-field-requires-4 c κs =
     let p3 = put_both p2 p.put-field3.ensures (room-3 f n h) in
     room_after (fourth f) p3 (room-4 f n h)
 
+slice-aggregate-copy : tie.Need-slice-aggregate-copy
+slice-aggregate-copy c = search rules
+
 copy-requires : tie.Need-copy-requires
 copy-requires c κs =
     let a = (entry-from-copy-arg2 c).args in
-    let f = factsBy a.facts in
+    let f = facts_by a.facts in
     let n = length a.line.now in
     let h = (entry-from-copy-arg2 c).requires in
     let p1 = (put-field-from-copy-arg2 c).put-field.ensures in
@@ -139,7 +157,7 @@ put-parts-requires : tie.Need-put-parts-requires
 put-parts-requires c κs =
     let copy = copy-from-put-parts-arg c in
     let a = (entry-from-copy-arg2 copy.before).args in
-    let f = factsBy a.facts in
+    let f = facts_by a.facts in
     let n = length a.line.now in
     let h = (entry-from-copy-arg2 copy.before).requires in
     let p1 = (put-field-from-copy-arg2 copy.before).put-field.ensures in
@@ -152,7 +170,7 @@ put-parts-requires c κs =
 slice-write-line : tie.Need-slice-write-line
 slice-write-line c =
     let a = (entry-from-slice-known7 c).args in
-    let f = factsBy a.facts in
+    let f = facts_by a.facts in
     let n = length a.line.now in
     let h = (entry-from-slice-known7 c).requires in
     let p1 = (put-field-from-slice-known7 c).put-field.ensures in
@@ -169,7 +187,7 @@ add-result : tie.Need-overflow-add-result
 add-result c =
     let s = entry-from-slice-known7 c in
     let a = s.args in
-    let f = factsBy a.facts in
+    let f = facts_by a.facts in
     let n = length a.line.now in
     let h = s.pre in
     let p1 = (put-field-from-slice-known7 c).put-field.ensures in
@@ -186,7 +204,7 @@ add-result c =
 same_length : tie.Need-same-length
 same_length c =
     let a = (entry-from-slice-known7 c).args in
-    let f = factsBy a.facts in
+    let f = facts_by a.facts in
     let n = length a.line.now in
     let h = (entry-from-slice-known7 c).requires in
     let p1 = (put-field-from-slice-known7 c).put-field.ensures in
@@ -203,7 +221,7 @@ same_length c =
 returns : tie.Need-returns
 returns c =
     let a = (entry-from-slice-known7 c).args in
-    let f = factsBy a.facts in
+    let f = facts_by a.facts in
     let n = length a.line.now in
     let h = (entry-from-slice-known7 c).requires in
     let p1 = (put-field-from-slice-known7 c).put-field.ensures in
@@ -219,6 +237,21 @@ returns c =
 
 pub put_spec : {M : Type 1} → statement M
 put_spec =
-    tie.close (tie.spec (λ c. search rules) (λ c. search rules) put-field-requires (λ c. search rules)
-    put-field-requires-2 (λ c. search rules) put-field-requires-3 (λ c. search rules) put-field-requires-4
-    (λ c. search rules) copy-requires put-parts-requires slice-write-line add-result same_length returns)
+    tie.close
+    (tie.spec
+    slice-aggregate-put-field
+    cast-put-field
+    put-field-requires
+    slice-aggregate-put-field-2
+    put-field-requires-2
+    slice-aggregate-put-field-3
+    put-field-requires-3
+    slice-aggregate-put-field-4
+    put-field-requires-4
+    slice-aggregate-copy
+    copy-requires
+    put-parts-requires
+    slice-write-line
+    add-result
+    same_length
+    returns)

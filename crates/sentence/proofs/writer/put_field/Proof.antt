@@ -33,6 +33,9 @@ put-requires c κs =
     let r = room_after (decimal a.number) (put_word a.word.now copy.copy.ensures) (entry copy.before).requires in
     omega (arith, r, decimal-length a.number)
 
+same_length : tie.Need-same-length
+same_length c = search rules
+
 returns : tie.Need-returns
 returns c =
     let copy = copy-from-line2 c.before in
@@ -40,4 +43,4 @@ returns c =
     put_both (put_word a.word.now copy.copy.ensures) c.before.before.put.ensures (entry copy.before).requires
 
 pub put-field-spec : {M : Type 1} → statement M
-put-field-spec = tie.close (tie.spec copy-requires put-requires (λ c. search rules) returns)
+put-field-spec = tie.close (tie.spec copy-requires put-requires same_length returns)

@@ -8,7 +8,7 @@ use lib.ListN.{length, get_or, take}
 use lib.Seq.{take_all}
 use Rattle.text.specs.Written.{Put}
 use Rattle.text.proofs.Writing.{put-none, put-length}
-use Rattle.sentence.specs.Facts.{named, namedFrom}
+use Rattle.sentence.specs.Facts.{named, named_from}
 use Rattle.sentence.specs.Sentence.{parts}
 use Rattle.sentence.proofs.Putting.{room_after, put_both, parts_next, parts_first}
 use borrow.Author.Rules.{rules}
@@ -16,8 +16,7 @@ use Rattle.sentence.proofs.writer.put_parts.Statement.{statement}
 use Rattle.sentence.proofs.writer.put_parts.Tie as tie
 
 abbrev invariant-loop : tie.invariant-loop
-invariant-loop line₀ from ran at₀ place₀ line at place =
-    Put line₀ from (parts (named (take place ran)) []) line at × (place ≤ 32) × (length line ≡ length line₀) × (length ran ≡ 32)
+invariant-loop line₀ from ran at₀ place₀ line at place = Put line₀ from (parts (named (take place ran)) []) line at × (place ≤ 32) × (length line ≡ length line₀) × (length ran ≡ 32)
 
 abbrev decreases-loop : tie.decreases-loop
 decreases-loop line₀ from ran at₀ place₀ line at place = 32 - place
@@ -37,38 +36,48 @@ abbrev in-loop : tie.After-slice-known2 invariant-loop decreases-loop → tie.In
 in-loop c = c.before.before.before.before
 
 loop-holds : tie.Need-loop-init invariant-loop decreases-loop
-unfolding parts namedFrom
+unfolding parts named_from
 loop-holds c = (put-none _ _, omega arith, refl, search rules)
+
+mul-put-part : tie.Need-overflow-mul-put-part invariant-loop decreases-loop
+mul-put-part c = search rules
+
+array-read-put-part : tie.Need-array-read-put-part invariant-loop decreases-loop
+array-read-put-part c = search rules
 
 put-part-requires : tie.Need-put-part-requires invariant-loop decreases-loop
 put-part-requires c κs =
     let a = (entry-from-put-part-arg c).args in
     let l = c.before.before.loop in
-    let u = parts (namedFrom l.place (get_or a.t3 l.place 0 ∷ [])) [] in
+    let u = parts (named_from l.place (get_or a.t3 l.place 0 ∷ [])) [] in
     let t : l.place < 32 = omega (arith, c.before.loop-test.true) in
-    let e : parts (named (take l.place a.t3)) [] ++ u
-    ≡ parts (named (take (l.place + 1) a.t3)) [] = parts_next a.t3 l.place (omega (arith, l.invariant.3)) in
+    let e : parts (named (take l.place a.t3)) [] ++ u ≡ parts (named (take (l.place + 1) a.t3)) [] = parts_next a.t3 l.place (omega (arith, l.invariant.3)) in
     let r : a.from + length (parts (named (take l.place a.t3)) [] ++ u) ≤ length a.line.now =
-    subst (λ (x : List ℕ). a.from + length x ≤ length a.line.now) (sym e)
-    (omega (arith, parts_first a.t3 (l.place + 1), (entry-from-put-part-arg c).requires)) in
+    subst (λ (x : List ℕ). a.from + length x ≤ length a.line.now) (sym e) (omega (arith, parts_first a.t3 (l.place + 1), (entry-from-put-part-arg c).requires)) in
     (omega arith, room_after u l.invariant.0 r)
+
+add-place : tie.Need-overflow-add-place invariant-loop decreases-loop
+add-place c = search rules
+
+loop-less : tie.Need-loop-smaller invariant-loop decreases-loop
+loop-less c = search rules
 
 loop-again : tie.Need-loop-preserved invariant-loop decreases-loop
 loop-again c =
     let a = (entry-from-slice-known2 c).args in
     let l = (in-loop c).before.loop in
-    let u = parts (namedFrom l.place (get_or a.t3 l.place 0 ∷ [])) [] in
+    let u = parts (named_from l.place (get_or a.t3 l.place 0 ∷ [])) [] in
     let t : l.place < 32 = omega (arith, (in-loop c).loop-test.true) in
-    let e : parts (named (take l.place a.t3)) [] ++ u
-    ≡ parts (named (take (l.place + 1) a.t3)) [] = parts_next a.t3 l.place (omega (arith, l.inv.3)) in
+    let e : parts (named (take l.place a.t3)) [] ++ u ≡ parts (named (take (l.place + 1) a.t3)) [] = parts_next a.t3 l.place (omega (arith, l.inv.3)) in
     let r : a.from + length (parts (named (take l.place a.t3)) [] ++ u) ≤ length a.line.now =
-    subst (λ (x : List ℕ). a.from + length x ≤ length a.line.now) (sym e)
-    (omega (arith, parts_first a.t3 (l.place + 1), (entry-from-slice-known2 c).requires)) in
+    subst (λ (x : List ℕ). a.from + length x ≤ length a.line.now) (sym e) (omega (arith, parts_first a.t3 (l.place + 1), (entry-from-slice-known2 c).requires)) in
     let p = put_both l.inv.0 c.before.before.put-part.ensures r in
-    let q : Put a.line.now a.from (parts (named (take (l.place + 1) a.t3)) []) c.before.before.put-part.new.0
-    c.before.before.put-part.result =
+    let q : Put a.line.now a.from (parts (named (take (l.place + 1) a.t3)) []) c.before.before.put-part.new.0 c.before.before.put-part.result =
     subst (λ (x : List ℕ). Put a.line.now a.from x c.before.before.put-part.new.0 c.before.before.put-part.result) e p in
     (q, omega arith, put-length p (omega (arith, r, p.ends)), l.inv.3)
+
+same_length : tie.Need-same-length invariant-loop decreases-loop
+same_length c = search rules
 
 returns : tie.Need-returns invariant-loop decreases-loop
 returns c =
@@ -79,5 +88,16 @@ returns c =
 
 pub put-parts-spec : {M : Type 1} → statement M
 put-parts-spec =
-    tie.close (tie.spec invariant-loop decreases-loop loop-holds (λ c. search rules) (λ c. search rules) put-part-requires
-    (λ c. search rules) (λ c. search rules) loop-again (λ c. search rules) returns)
+    tie.close
+    (tie.spec
+    invariant-loop
+    decreases-loop
+    loop-holds
+    mul-put-part
+    array-read-put-part
+    put-part-requires
+    add-place
+    loop-less
+    loop-again
+    same_length
+    returns)

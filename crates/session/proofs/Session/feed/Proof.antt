@@ -8,6 +8,24 @@ use Rattle.session.proofs.Feeding.{fed-in, over-fed}
 use Rattle.session.proofs.Session.feed.Statement.{statement}
 use Rattle.session.proofs.Session.feed.Tie as tie
 
+enum_told : tie.Need-enum-told
+enum_told c = search rules
+
+feed-table-requires : tie.Need-feed-table-requires
+feed-table-requires c κs = search rules
+
+enum-told-2 : tie.Need-enum-told-2
+enum-told-2 c = search rules
+
+feed-operations-requires : tie.Need-feed-operations-requires
+feed-operations-requires c κs = search rules
+
+enum-told-3 : tie.Need-enum-told-3
+enum-told-3 c = search rules
+
+fed-with-requires : tie.Need-fed-with-requires
+fed-with-requires c κs = search rules
+
 returns : tie.Need-returns
 returns c = fed-in _ Table _ _ _ _ _ c.before.before.enum_told.given.1 c.feed-table.ensures
 
@@ -19,5 +37,14 @@ returns-3 c = fed-in _ Over _ _ _ _ _ c.before.enum-told3.given.1 (subst⁻¹ (F
 
 pub feed-spec : {M : Type 1} → statement M
 feed-spec =
-    tie.close (tie.spec (λ c. search rules) (λ c κs. search rules) (λ c. search rules) (λ c κs. search rules)
-    (λ c. search rules) (λ c κs. search rules) returns returns-2 returns-3)
+    tie.close
+    (tie.spec
+    enum_told
+    feed-table-requires
+    enum-told-2
+    feed-operations-requires
+    enum-told-3
+    fed-with-requires
+    returns
+    returns-2
+    returns-3)

@@ -5,6 +5,15 @@ use Rattle.session.specs.Session.{is_over}
 use Rattle.session.proofs.Session.is_over.Statement.{statement}
 use Rattle.session.proofs.Session.is_over.Tie as tie
 
+enum_told : tie.Need-enum-told
+enum_told c = search rules
+
+enum-told-2 : tie.Need-enum-told-2
+enum-told-2 c = search rules
+
+enum-told-3 : tie.Need-enum-told-3
+enum-told-3 c = search rules
+
 returns : tie.Need-returns
 returns c = sym (ap is_over c.enum_told.given.1)
 
@@ -16,4 +25,5 @@ returns-3 c = sym (ap is_over c.enum-told3.given.1)
 
 pub is-over-spec : {M : Type 1} → statement M
 is-over-spec =
-    tie.close (tie.spec (λ c. search rules) (λ c. search rules) (λ c. search rules) returns returns-2 returns-3)
+    tie.close
+    (tie.spec enum_told enum-told-2 enum-told-3 returns returns-2 returns-3)

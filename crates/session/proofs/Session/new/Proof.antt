@@ -2,13 +2,19 @@
 -- Assumes nothing.
 use borrow.Author.Rules.{rules}
 use mathlib.Core.Path.{refl}
-use Rattle.session.specs.Transcript.{transcript, transcriptSoFar}
+use Rattle.session.specs.Transcript.{transcript, transcript_so_far}
 use Rattle.session.proofs.Session.new.Statement.{statement}
 use Rattle.session.proofs.Session.new.Tie as tie
 
+slice-aggregate-start : tie.Need-slice-aggregate-start
+slice-aggregate-start c = search rules
+
+start-requires : tie.Need-start-requires
+start-requires c κs = search rules
+
 returns : tie.Need-returns
-unfolding transcript transcriptSoFar
+unfolding transcript transcript_so_far
 returns c = λ bs. (refl, refl)
 
 pub new_spec : {M : Type 1} → statement M
-new_spec = tie.close (tie.spec (λ c. search rules) (λ c κs. search rules) returns)
+new_spec = tie.close (tie.spec slice-aggregate-start start-requires returns)

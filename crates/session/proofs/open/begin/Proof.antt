@@ -20,18 +20,33 @@ entry-from-then1 c = c.before.before.before.before
 abbrev entry-from-write-refused : tie.After-write-refused → tie.Start
 entry-from-write-refused c = entry-from-then1 c.before.before
 
+start-requires : tie.Need-start-requires
+start-requires c κs = search rules
+
+write-refused-requires : tie.Need-write-refused-requires
+write-refused-requires c κs = search rules
+
 returns : tie.Need-returns
-returns c =
-    opened-refused (entry-from-write-refused c).args.table.now (entry-from-write-refused c).args.out.now _ _ _ c.before.before.if1.true
-    c.write-refused.ensures
+returns c = opened-refused (entry-from-write-refused c).args.table.now (entry-from-write-refused c).args.out.now _ _ _ c.before.before.if1.true c.write-refused.ensures
+
+slice-aggregate-write-answer : tie.Need-slice-aggregate-write-answer
+slice-aggregate-write-answer c = search rules
+
+write-answer-requires : tie.Need-write-answer-requires
+write-answer-requires c κs = search rules
 
 returns-2 : tie.Need-returns-2
 returns-2 c =
     let s = start c in
-    opened-run s.before.before.args.table.now s.before.before.args.out.now _ s.start.result _ (else1 c).if1.false s.start.ensures
-    c.write-answer.ensures
+    opened-run s.before.before.args.table.now s.before.before.args.out.now _ s.start.result _ (else1 c).if1.false s.start.ensures c.write-answer.ensures
 
 pub begin-spec : {M : Type 1} → statement M
 begin-spec =
-    tie.close (tie.spec (λ c κs. search rules) (λ c κs. search rules) returns (λ c. search rules) (λ c κs. search rules)
+    tie.close
+    (tie.spec
+    start-requires
+    write-refused-requires
+    returns
+    slice-aggregate-write-answer
+    write-answer-requires
     returns-2)

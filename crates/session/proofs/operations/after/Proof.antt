@@ -5,7 +5,7 @@ use mathlib.Core.Path.{◌∙◌, ap, ap₂}
 use Prim.Native.Nat.{◌≤◌}
 use native.Mathlib.Omega.{arith}
 use lib.ListN.{length}
-use Rattle.session.specs.Operation.{one_of, twoOf}
+use Rattle.session.specs.Operation.{one_of, two_of}
 use Rattle.session.proofs.Asking.{behind-none, word_end, behind-one, behind-two, behind-other}
 use Rattle.session.proofs.operations.after.Statement.{statement}
 use Rattle.session.proofs.operations.after.Tie as tie
@@ -46,8 +46,26 @@ within c = word_end (entry c).args.rest.now _ (else1 c).if1.false c.end-from.ens
 returns : tie.Need-returns
 returns c = behind-none c.before.before.args.rest.now c.if1.true
 
+shared-slice-read-if2 : tie.Need-shared-slice-read-if2
+shared-slice-read-if2 c = search rules
+
+end-from-requires : tie.Need-end-from-requires
+end-from-requires c κs = search rules
+
+sub_number : tie.Need-overflow-sub-number
+sub_number c = search rules
+
+part-number-start : tie.Need-slice-bounds-number-start
+part-number-start c = search rules
+
 part-number-end : tie.Need-slice-bounds-number-end
 part-number-end c = omega (arith, within c)
+
+number-requires : tie.Need-number-requires
+number-requires c κs = search rules
+
+one-requires : tie.Need-one-requires
+one-requires c κs = search rules
 
 returns-2 : tie.Need-returns-2
 returns-2 c =
@@ -64,10 +82,19 @@ sub-number-2 c = omega (arith, within (end-from-from-else3 c), c.if3.false)
 part-number-start-2 : tie.Need-slice-bounds-number-start-2
 part-number-start-2 c = omega (arith, within (end-from-from-else3 c), c.if3.false)
 
+part-number-end-2 : tie.Need-slice-bounds-number-end-2
+part-number-end-2 c = search rules
+
+number-requires-2 : tie.Need-number-requires-2
+number-requires-2 c κs = search rules
+
+two-requires : tie.Need-two-requires
+two-requires c κs = search rules
+
 returns-3 : tie.Need-returns-3
 returns-3 c =
     let e = end-from-from-two c in
-    c.two.ensures ∙ ap₂ twoOf (number-from-two c).number.ensures c.before.number2.ensures
+    c.two.ensures ∙ ap₂ two_of (number-from-two c).number.ensures c.before.number2.ensures
     ∙ behind-two (entry e).args.rest.now _ (else1 e).if1.left e.before.if2.taken e.end-from.ensures (else3-from-two c).if3.false
 
 returns-4 : tie.Need-returns-4
@@ -75,6 +102,22 @@ returns-4 c = behind-other (entry-from-else2 c).args.rest.now c.before.before.if
 
 pub after-spec : {M : Type 1} → statement M
 after-spec =
-    tie.close (tie.spec returns (λ c. search rules) (λ c κs. search rules) (λ c. search rules) (λ c. search rules)
-    part-number-end (λ c κs. search rules) (λ c κs. search rules) returns-2 add-number sub-number-2 part-number-start-2
-    (λ c. search rules) (λ c κs. search rules) (λ c κs. search rules) returns-3 returns-4)
+    tie.close
+    (tie.spec
+    returns
+    shared-slice-read-if2
+    end-from-requires
+    sub_number
+    part-number-start
+    part-number-end
+    number-requires
+    one-requires
+    returns-2
+    add-number
+    sub-number-2
+    part-number-start-2
+    part-number-end-2
+    number-requires-2
+    two-requires
+    returns-3
+    returns-4)

@@ -4,8 +4,17 @@ use borrow.Author.Rules.{rules}
 use Rattle.session.proofs.operations.one.Statement.{statement}
 use Rattle.session.proofs.operations.one.Tie as tie
 
+enum-known-found : tie.Need-enum-known-found
+enum-known-found c = search rules
+
+enum_told : tie.Need-enum-told
+enum_told c = search rules
+
 returns : tie.Need-returns
 returns c = simp c.before.found.given.1
 
+returns-2 : tie.Need-returns-2
+returns-2 c = search rules
+
 pub one_spec : {M : Type 1} → statement M
-one_spec = tie.close (tie.spec (λ c. search rules) (λ c. search rules) returns (λ c. search rules))
+one_spec = tie.close (tie.spec enum-known-found enum_told returns returns-2)

@@ -8,10 +8,28 @@ use Rattle.session.proofs.operations.two.Tie as tie
 abbrev first : tie.After-known-told2 → tie.After-first
 first c = c.before.before.before.before
 
+enum-known-first : tie.Need-enum-known-first
+enum-known-first c = search rules
+
+enum-known-second : tie.Need-enum-known-second
+enum-known-second c = search rules
+
+enum_told : tie.Need-enum-told
+enum_told c = search rules
+
+enum-told-2 : tie.Need-enum-told-2
+enum-told-2 c = search rules
+
 returns : tie.Need-returns
 returns c = simp ((first c).first.given.1, c.before.second.given.1)
 
+returns-2 : tie.Need-returns-2
+returns-2 c = search rules
+
+returns-3 : tie.Need-returns-3
+returns-3 c = search rules
+
 pub two-spec : {M : Type 1} → statement M
 two-spec =
-    tie.close (tie.spec (λ c. search rules) (λ c. search rules) (λ c. search rules) (λ c. search rules) returns
-    (λ c. search rules) (λ c. search rules))
+    tie.close
+    (tie.spec enum-known-first enum-known-second enum_told enum-told-2 returns returns-2 returns-3)

@@ -33,6 +33,12 @@ whole c =
     let a = (entry-from-slice-known2 c).args in
     put_then (put_one a.line.now a.at 32 (omega arith)) c.before.before.put.ensures (omega (arith, short c))
 
+slice-write-line : tie.Need-slice-write-line
+slice-write-line c = search rules
+
+add-put : tie.Need-overflow-add-put
+add-put c = search rules
+
 put-requires : tie.Need-put-requires
 put-requires c κs = let a = c.before.before.args in simp length-set (omega (arith, count_most 19 a.set (omega arith)))
 
@@ -43,4 +49,4 @@ returns : tie.Need-returns
 returns c = (whole c, short c)
 
 pub put-set-spec : {M : Type 1} → statement M
-put-set-spec = tie.close (tie.spec (λ c. search rules) (λ c. search rules) put-requires same_length returns)
+put-set-spec = tie.close (tie.spec slice-write-line add-put put-requires same_length returns)

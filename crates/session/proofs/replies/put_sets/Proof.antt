@@ -40,10 +40,22 @@ loop-holds : tie.Need-loop-init invariant-loop decreases-loop
 unfolding fields
 loop-holds c = (put-none _ _, omega arith, omega arith, refl, search rules)
 
+mul-put-set : tie.Need-overflow-mul-put-set invariant-loop decreases-loop
+mul-put-set c = search rules
+
+array-read-put-set : tie.Need-array-read-put-set invariant-loop decreases-loop
+array-read-put-set c = search rules
+
 put-set-requires : tie.Need-put-set-requires invariant-loop decreases-loop
 put-set-requires c κs =
     let l = c.before.before.loop in
     omega (arith, c.before.loop-test.true, (entry-from-put-set-arg c).requires, l.invariant.2, l.invariant.3)
+
+add-i : tie.Need-overflow-add-i invariant-loop decreases-loop
+add-i c = search rules
+
+loop-less : tie.Need-loop-smaller invariant-loop decreases-loop
+loop-less c = search rules
 
 loop-again : tie.Need-loop-preserved invariant-loop decreases-loop
 loop-again c =
@@ -58,6 +70,9 @@ loop-again c =
     subst (λ (x : List ℕ). Put a.line.now a.from x b.new.0 b.result) (fields-more a.t3 l.i (omega (arith, l.inv.4))) p in
     (q, omega arith, omega (arith, most, l.inv.2), put-length q room, l.inv.4)
 
+same_length : tie.Need-same-length invariant-loop decreases-loop
+same_length c = search rules
+
 returns : tie.Need-returns invariant-loop decreases-loop
 returns c =
     let a = (entry-from-past-loop c).args in
@@ -67,5 +82,16 @@ returns c =
 
 pub put-sets-spec : {M : Type 1} → statement M
 put-sets-spec =
-    tie.close (tie.spec invariant-loop decreases-loop loop-holds (λ c. search rules) (λ c. search rules) put-set-requires
-    (λ c. search rules) (λ c. search rules) loop-again (λ c. search rules) returns)
+    tie.close
+    (tie.spec
+    invariant-loop
+    decreases-loop
+    loop-holds
+    mul-put-set
+    array-read-put-set
+    put-set-requires
+    add-i
+    loop-less
+    loop-again
+    same_length
+    returns)

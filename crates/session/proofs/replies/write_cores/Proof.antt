@@ -14,12 +14,12 @@ use lib.Dec.{leb}
 use lib.Seq.{take_all}
 use borrow.Author.Tests.{leb-true, leb-false}
 use Rattle.text.specs.Format.{newline}
-use Rattle.text.specs.Output.{longestCells, letters, fields, line_of}
-use Rattle.session.specs.Operation.{longestReply}
+use Rattle.text.specs.Output.{longest_cells, letters, fields, line_of}
+use Rattle.session.specs.Operation.{longest_reply}
 use Rattle.text.proofs.Writing.{put_then, put_front}
 use Rattle.session.proofs.replies.write_cores.Statement.{statement}
 use Rattle.session.proofs.replies.write_cores.Tie as tie
-use Rattle.model.specs.Sizes.{mostCores}
+use Rattle.model.specs.Sizes.{most_cores}
 
 -- the state after `copy`
 abbrev copy : tie.After-copy2 → tie.After-copy
@@ -34,37 +34,65 @@ abbrev smaller : tie.After-copy2 → tie.After-smaller
 smaller c = (put-cells c).before.before
 
 -- a row has 64 bytes
-take-most : (cores count : ℕ) (bytes : List ℕ) → length bytes ≡ mostCores → count ≡ min cores mostCores → take count bytes ≡ take cores bytes
-take-most cores count bytes w e = go (leb cores mostCores) refl
+take-most : (cores count : ℕ) (bytes : List ℕ) → length bytes ≡ most_cores → count ≡ min cores most_cores → take count bytes ≡ take cores bytes
+take-most cores count bytes w e = go (leb cores most_cores) refl
   where
-    go : (t : Bool) → leb cores mostCores ≡ t → take count bytes ≡ take cores bytes
-    go true h = let k : count ≡ cores = omega (arith, e, leb-true cores mostCores h) in ap (λ (n : ℕ). take n bytes) k
+    go : (t : Bool) → leb cores most_cores ≡ t → take count bytes ≡ take cores bytes
+    go true h = let k : count ≡ cores = omega (arith, e, leb-true cores most_cores h) in ap (λ (n : ℕ). take n bytes) k
     go false h =
-        let l : mostCores < cores = leb-false cores mostCores h in
+        let l : most_cores < cores = leb-false cores most_cores h in
         take_all count bytes (omega (arith, e, l, w)) ∙ sym (take_all cores bytes (omega (arith, l, w)))
 
 cores-text :
-    (cores : ℕ) (bytes before blank text middle after : List ℕ) (count size start end : ℕ) → length before ≡ longestReply → length bytes ≡ mostCores
-    → count ≡ min cores mostCores
-    → Put blank 0 (fields (take count bytes) ++ (newline ∷ [])) text size → size ≤ longestCells → Put before 0 (letters "row") middle start
+    (cores : ℕ) (bytes before blank text middle after : List ℕ) (count size start end : ℕ) → length before ≡ longest_reply → length bytes ≡ most_cores → count ≡ min cores most_cores
+    → Put blank 0 (fields (take count bytes) ++ (newline ∷ [])) text size → size ≤ longest_cells → Put before 0 (letters "row") middle start
     → Put middle start (take size (drop 0 text)) after end → TextWritten (line_of (letters "row") (take cores bytes)) before after end
 unfolding line_of
 cores-text cores bytes before blank text middle after count size start end w v e p s q r =
     let k : take size text ≡ fields (take cores bytes) ++ (newline ∷ []) =
     put_front p ∙ ap (λ (l : List ℕ). fields l ++ (newline ∷ [])) (take-most cores count bytes v e) in
-    let n : length (take size text) ≤ longestCells = omega (arith, s, length-take size text) in
-    let m : end ≤ longestReply = omega (arith, q.ends, r.ends, n) in
+    let n : length (take size text) ≤ longest_cells = omega (arith, s, length-take size text) in
+    let m : end ≤ longest_reply = omega (arith, q.ends, r.ends, n) in
     subst (λ (l : List ℕ). TextWritten (letters "row" ++ l) before after end) k (text-put (put_then q r (omega (arith, m, w))) (omega (arith, m, w)))
+
+smaller-requires : tie.Need-smaller-requires
+smaller-requires c κs = search rules
+
+slice-aggregate-put-cells : tie.Need-slice-aggregate-put-cells
+slice-aggregate-put-cells c = search rules
+
+put-cells-requires : tie.Need-put-cells-requires
+put-cells-requires c κs = search rules
+
+slice-aggregate-copy : tie.Need-slice-aggregate-copy
+slice-aggregate-copy c = search rules
+
+copy-requires : tie.Need-copy-requires
+copy-requires c κs = search rules
+
+slice-aggregate-copy-2 : tie.Need-slice-aggregate-copy-2
+slice-aggregate-copy-2 c = search rules
+
+copy-requires-2 : tie.Need-copy-requires-2
+copy-requires-2 c κs = search rules
 
 returns : tie.Need-returns
 returns c =
     let a = (smaller c).before.args in
-    let w : length a.out.now ≡ longestReply = search rules in
-    let v : length a.bytes ≡ mostCores = search rules in
+    let w : length a.out.now ≡ longest_reply = search rules in
+    let v : length a.bytes ≡ most_cores = search rules in
     cores-text a.cores a.bytes a.out.now _ _ _ _ _ _ _ _ w v (smaller c).smaller.ensures
     (put-cells c).put-cells.ensures.0 (put-cells c).put-cells.ensures.1 (copy c).copy.ensures c.copy2.ensures
 
 pub write-cores-spec : {M : Type 1} → statement M
 write-cores-spec =
-    tie.close (tie.spec (λ c κs. search rules) (λ c. search rules) (λ c κs. search rules) (λ c. search rules)
-    (λ c κs. search rules) (λ c. search rules) (λ c κs. search rules) returns)
+    tie.close
+    (tie.spec
+    smaller-requires
+    slice-aggregate-put-cells
+    put-cells-requires
+    slice-aggregate-copy
+    copy-requires
+    slice-aggregate-copy-2
+    copy-requires-2
+    returns)

@@ -6,7 +6,7 @@ use mathlib.Core.Path.{◌≡◌}
 use lib.ListN.{length}
 use Rattle.text.specs.Output.{letters}
 use Rattle.text.proofs.Writing.{put-length}
-use Rattle.session.specs.Operation.{longestReply}
+use Rattle.session.specs.Operation.{longest_reply}
 use Rattle.session.proofs.TextWritten.{line-put}
 use Rattle.session.proofs.replies.write_each.Statement.{statement}
 use Rattle.session.proofs.replies.write_each.Tie as tie
@@ -19,8 +19,14 @@ entry c = c.before.before.before
 four : (c : tie.After-copy) → c.copy.result ≡ 4
 four c = c.copy.ensures.ends
 
-full : (c : tie.After-copy) → length (entry c).args.out.now ≡ longestReply
+full : (c : tie.After-copy) → length (entry c).args.out.now ≡ longest_reply
 full c = search rules
+
+slice-aggregate-copy : tie.Need-slice-aggregate-copy
+slice-aggregate-copy c = search rules
+
+copy-requires : tie.Need-copy-requires
+copy-requires c κs = search rules
 
 put-sets-requires : tie.Need-put-sets-requires
 put-sets-requires c κs =
@@ -40,5 +46,4 @@ returns c =
     line-put (letters "sets") (entry o).args.sets o.copy.ensures c.put-sets.ensures.0 (omega (arith, four o, full o, c.put-sets.ensures.1))
 
 pub write-each-spec : {M : Type 1} → statement M
-write-each-spec = tie.close (tie.spec (λ c. search rules) (λ c κs. search rules) put-sets-requires element-write-out
-    add-result returns)
+write-each-spec = tie.close (tie.spec slice-aggregate-copy copy-requires put-sets-requires element-write-out add-result returns)

@@ -4,7 +4,7 @@ use borrow.Author.Rules.{rules}
 use native.Mathlib.Omega.{arith}
 use mathlib.Core.Path.{◌≡◌}
 use lib.ListN.{length}
-use Rattle.session.specs.Operation.{longestReply}
+use Rattle.session.specs.Operation.{longest_reply}
 use Rattle.session.proofs.TextWritten.{text-put}
 use Rattle.session.proofs.replies.write_refused.Statement.{statement}
 use Rattle.session.proofs.replies.write_refused.Tie as tie
@@ -13,9 +13,14 @@ use Rattle.session.proofs.replies.write_refused.Tie as tie
 abbrev entry : tie.After-put-pair → tie.Start
 entry c = c.before.before.before
 
+slice-aggregate-put-pair : tie.Need-slice-aggregate-put-pair
+slice-aggregate-put-pair c = search rules
+
+put-pair-requires : tie.Need-put-pair-requires
+put-pair-requires c κs = search rules
+
 returns : tie.Need-returns
-returns c =
-    let w : length (entry c).args.out.now ≡ longestReply = search rules in text-put c.put-pair.ensures.0 (omega (arith, c.put-pair.ensures.1, w))
+returns c = let w : length (entry c).args.out.now ≡ longest_reply = search rules in text-put c.put-pair.ensures.0 (omega (arith, c.put-pair.ensures.1, w))
 
 pub write-refused-spec : {M : Type 1} → statement M
-write-refused-spec = tie.close (tie.spec (λ c. search rules) (λ c κs. search rules) returns)
+write-refused-spec = tie.close (tie.spec slice-aggregate-put-pair put-pair-requires returns)

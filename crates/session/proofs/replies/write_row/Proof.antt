@@ -20,17 +20,31 @@ entry-from-write-cores c = entry-from-write-cores-arg c.before
 abbrev entry-from-write-refused : tie.After-write-refused → tie.Start
 entry-from-write-refused c = (answer c).before.before.before
 
+enum_told : tie.Need-enum-told
+enum_told c = search rules
+
+write-cores-requires : tie.Need-write-cores-requires
+write-cores-requires c κs = search rules
+
+enum-known-answer : tie.Need-enum-known-answer
+enum-known-answer c = search rules
+
+write-refused-requires : tie.Need-write-refused-requires
+write-refused-requires c κs = search rules
+
 returns : tie.Need-returns
-returns c =
-    let r = (entry-from-write-cores c).args in text_of (shown-taken r.cores r.row.answer r.row.bytes c.before.before.enum_told.given.1)
-    c.write-cores.ensures
+returns c = let r = (entry-from-write-cores c).args in text_of (shown-taken r.cores r.row.answer r.row.bytes c.before.before.enum_told.given.1) c.write-cores.ensures
 
 returns-2 : tie.Need-returns-2
-returns-2 c =
-    let r = (entry-from-write-refused c).args in text_of (shown-refused r.cores r.row.answer r.row.bytes _ _ (answer c).answer.given.1)
-    c.write-refused.ensures
+returns-2 c = let r = (entry-from-write-refused c).args in text_of (shown-refused r.cores r.row.answer r.row.bytes _ _ (answer c).answer.given.1) c.write-refused.ensures
 
 pub write-row-spec : {M : Type 1} → statement M
 write-row-spec =
-    tie.close (tie.spec (λ c. search rules) (λ c κs. search rules) (λ c. search rules) (λ c κs. search rules) returns
+    tie.close
+    (tie.spec
+    enum_told
+    write-cores-requires
+    enum-known-answer
+    write-refused-requires
+    returns
     returns-2)

@@ -20,17 +20,31 @@ entry-from-write-each c = entry-from-write-each-arg c.before
 abbrev entry-from-write-refused : tie.After-write-refused → tie.Start
 entry-from-write-refused c = (answer c).before.before.before
 
+enum_told : tie.Need-enum-told
+enum_told c = search rules
+
+write-each-requires : tie.Need-write-each-requires
+write-each-requires c κs = search rules
+
+enum-known-answer : tie.Need-enum-known-answer
+enum-known-answer c = search rules
+
+write-refused-requires : tie.Need-write-refused-requires
+write-refused-requires c κs = search rules
+
 returns : tie.Need-returns
-returns c =
-    let r = (entry-from-write-each c).args in text_of (sets-taken r.shown.answer r.shown.sets c.before.before.enum_told.given.1)
-    c.write-each.ensures
+returns c = let r = (entry-from-write-each c).args in text_of (sets-taken r.shown.answer r.shown.sets c.before.before.enum_told.given.1) c.write-each.ensures
 
 returns-2 : tie.Need-returns-2
-returns-2 c =
-    let r = (entry-from-write-refused c).args in text_of (sets-refused r.shown.answer r.shown.sets _ _ (answer c).answer.given.1)
-    c.write-refused.ensures
+returns-2 c = let r = (entry-from-write-refused c).args in text_of (sets-refused r.shown.answer r.shown.sets _ _ (answer c).answer.given.1) c.write-refused.ensures
 
 pub write-sets-spec : {M : Type 1} → statement M
 write-sets-spec =
-    tie.close (tie.spec (λ c. search rules) (λ c κs. search rules) (λ c. search rules) (λ c κs. search rules) returns
+    tie.close
+    (tie.spec
+    enum_told
+    write-each-requires
+    enum-known-answer
+    write-refused-requires
+    returns
     returns-2)

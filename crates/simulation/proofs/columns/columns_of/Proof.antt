@@ -7,7 +7,7 @@ use mathlib.Core.List.{List, ◌++◌, map}
 use Prim.Native.Nat.{ℕ, ◌+◌, ◌-◌, ◌≤◌, ◌<◌}
 use lib.ListN as list
 use Rattle.table.specs.declared.Task.{Task}
-use Rattle.table.specs.Task.{noTask}
+use Rattle.table.specs.Task.{no_task}
 use Rattle.simulation.specs.Places.{segment}
 use Rattle.simulation.specs.Machine.{Machine}
 use Rattle.simulation.proofs.Fields.{Filled, filled_none, filled_more, filled-all}
@@ -53,14 +53,65 @@ loop-holds c =
       refl,
     )
 
+mul-task : tie.Need-overflow-mul-task invariant-loop decreases-loop
+mul-task c = omega arith
+
+array-copy-out-task : tie.Need-array-copy-out-task invariant-loop decreases-loop
+array-copy-out-task c = omega arith
+
+mul-widths : tie.Need-overflow-mul-widths invariant-loop decreases-loop
+mul-widths c = omega arith
+
+array-write-widths : tie.Need-array-write-widths invariant-loop decreases-loop
+array-write-widths c = omega arith
+
+add-widths : tie.Need-overflow-add-widths invariant-loop decreases-loop
+add-widths c = omega arith
+
+mul-widths-2 : tie.Need-overflow-mul-widths-2 invariant-loop decreases-loop
+mul-widths-2 c = omega arith
+
+array-write-widths-2 : tie.Need-array-write-widths-2 invariant-loop decreases-loop
+array-write-widths-2 c = omega arith
+
+mul-times : tie.Need-overflow-mul-times invariant-loop decreases-loop
+mul-times c = omega arith
+
+array-write-times : tie.Need-array-write-times invariant-loop decreases-loop
+array-write-times c = omega arith
+
+add_times : tie.Need-overflow-add-times invariant-loop decreases-loop
+add_times c = omega arith
+
+mul-times-2 : tie.Need-overflow-mul-times-2 invariant-loop decreases-loop
+mul-times-2 c = omega arith
+
+array-write-times-2 : tie.Need-array-write-times-2 invariant-loop decreases-loop
+array-write-times-2 c = omega arith
+
+add-times-2 : tie.Need-overflow-add-times-2 invariant-loop decreases-loop
+add-times-2 c = omega arith
+
+mul-times-3 : tie.Need-overflow-mul-times-3 invariant-loop decreases-loop
+mul-times-3 c = omega arith
+
+array-write-times-3 : tie.Need-array-write-times-3 invariant-loop decreases-loop
+array-write-times-3 c = omega arith
+
+add-i : tie.Need-overflow-add-i invariant-loop decreases-loop
+add-i c = omega arith
+
+loop-less : tie.Need-loop-smaller invariant-loop decreases-loop
+loop-less c = omega arith
+
 loop-again : tie.Need-loop-preserved invariant-loop decreases-loop
 loop-again c =
     let s = entry-from-task c in
     let l = c.before.before.loop in
     let ts = s.args.table.tasks in
     let inside : l.i < 32 = omega arith in
-    let v = (list.get_or ts l.i noTask).width in
-    let w = (list.get_or ts l.i noTask).second in
+    let v = (list.get_or ts l.i no_task).width in
+    let w = (list.get_or ts l.i no_task).second in
     let stored = stored-all l.times 0 l.i _ _ _ inside in (
       omega arith,
       subst (λ (xs : List ℕ). Filled (λ t. t.width) ts (l.i + 1) xs) (sym (pair-first l.widths l.i v w inside))
@@ -76,6 +127,9 @@ loop-again c =
       list.length-set (list.set l.widths l.i v) (32 + l.i) w ∙ (list.length-set l.widths l.i v ∙ l.invariant.6),
     )
 
+paired-in-requires : tie.Need-paired-in-requires invariant-loop decreases-loop
+paired-in-requires c κs = search rules
+
 returns : tie.Need-returns invariant-loop decreases-loop
 returns c =
     let past = c.before in
@@ -87,8 +141,7 @@ returns c =
     λ f xs p. filled-all f t.tasks (all s) xs (subst (λ (n : ℕ). Filled f t.tasks n xs) e p) in
     let both : l.widths ≡ map (λ x. x.width) t.tasks ++ map (λ x. x.second) t.tasks =
     sym (pair_parts l.widths l.invariant.6)
-    ∙ ap₂ (λ (a b : List ℕ). a ++ b) (whole (λ x. x.width) (segment 0 l.widths) l.invariant.1) (whole (λ x. x.second) (segment 32 l.widths) l.invariant.2)
-    in
+    ∙ ap₂ (λ (a b : List ℕ). a ++ b) (whole (λ x. x.width) (segment 0 l.widths) l.invariant.1) (whole (λ x. x.second) (segment 32 l.widths) l.invariant.2) in
     λ j. record {
       rule = t.rule;
       cores = t.cores;
@@ -103,7 +156,28 @@ returns c =
 
 pub columns-of-spec : {M : Type 1} → statement M
 columns-of-spec =
-    tie.close (tie.spec invariant-loop decreases-loop loop-holds (λ c. omega arith) (λ c. omega arith) (λ c. omega arith)
-    (λ c. omega arith) (λ c. omega arith) (λ c. omega arith) (λ c. omega arith) (λ c. omega arith) (λ c. omega arith)
-    (λ c. omega arith) (λ c. omega arith) (λ c. omega arith) (λ c. omega arith) (λ c. omega arith) (λ c. omega arith)
-    (λ c. omega arith) (λ c. omega arith) loop-again (λ c κs. search rules) returns)
+    tie.close
+    (tie.spec
+    invariant-loop
+    decreases-loop
+    loop-holds
+    mul-task
+    array-copy-out-task
+    mul-widths
+    array-write-widths
+    add-widths
+    mul-widths-2
+    array-write-widths-2
+    mul-times
+    array-write-times
+    add_times
+    mul-times-2
+    array-write-times-2
+    add-times-2
+    mul-times-3
+    array-write-times-3
+    add-i
+    loop-less
+    loop-again
+    paired-in-requires
+    returns)

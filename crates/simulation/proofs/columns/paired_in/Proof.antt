@@ -17,6 +17,24 @@ decreases-loop tasks paired₀ i₀ paired i = 32 - i
 loop-holds : tie.Need-loop-init invariant-loop decreases-loop
 loop-holds c = (omega arith, field-none _)
 
+mul-task : tie.Need-overflow-mul-task invariant-loop decreases-loop
+mul-task c = omega arith
+
+array-copy-out-task : tie.Need-array-copy-out-task invariant-loop decreases-loop
+array-copy-out-task c = omega arith
+
+cast-paired : tie.Need-overflow-cast-paired invariant-loop decreases-loop
+cast-paired c = omega arith
+
+shl-paired : tie.Need-overflow-shl-paired invariant-loop decreases-loop
+shl-paired c = omega arith
+
+add-i : tie.Need-overflow-add-i invariant-loop decreases-loop
+add-i c = omega arith
+
+loop-less : tie.Need-loop-smaller invariant-loop decreases-loop
+loop-less c = omega arith
+
 loop-again : tie.Need-loop-preserved invariant-loop decreases-loop
 loop-again c =
     let l = c.before.before.before.before.loop in
@@ -39,5 +57,16 @@ returns c =
 
 pub paired-in-spec : {M : Type 1} → statement M
 paired-in-spec =
-    tie.close (tie.spec invariant-loop decreases-loop loop-holds (λ c. omega arith) (λ c. omega arith) (λ c. omega arith)
-    (λ c. omega arith) (λ c. omega arith) (λ c. omega arith) loop-again returns)
+    tie.close
+    (tie.spec
+    invariant-loop
+    decreases-loop
+    loop-holds
+    mul-task
+    array-copy-out-task
+    cast-paired
+    shl-paired
+    add-i
+    loop-less
+    loop-again
+    returns)

@@ -8,8 +8,11 @@ use lib.Dec.{eqb}
 use Rattle.simulation.proofs.due.due_by.Statement.{statement}
 use Rattle.simulation.proofs.due.due_by.Tie as tie
 
-chosen : (b : Bool) (t nextEvent set : ℕ) → eqb t nextEvent ≡ b → cond b set 0 ≡ cond (eqb t nextEvent) set 0
-chosen b t nextEvent set e = ap (λ (x : Bool). cond x set 0) (sym e)
+chosen : (b : Bool) (t next_event set : ℕ) → eqb t next_event ≡ b → cond b set 0 ≡ cond (eqb t next_event) set 0
+chosen b t next_event set e = ap (λ (x : Bool). cond x set 0) (sym e)
+
+due-places-requires : tie.Need-due-places-requires
+due-places-requires c κs = search rules
 
 returns : tie.Need-returns
 returns c =
@@ -22,4 +25,4 @@ returns-2 c =
     chosen false a.tick a.event _ (ne_eqb a.tick a.event c.if1.false)
 
 pub due-by-spec : {M : Type 1} → statement M
-due-by-spec = tie.close (tie.spec (λ c κs. search rules) returns returns-2)
+due-by-spec = tie.close (tie.spec due-places-requires returns returns-2)

@@ -22,8 +22,26 @@ loop-holds c = (omega arith, due-none c.args.tick (segment 32 c.args.places.now)
 inside : (c : tie.In-loop invariant-loop decreases-loop) → c.before.loop.i < 32
 inside c = omega (arith, c.loop-test.true, c.before.before.requires)
 
+add-if1 : tie.Need-overflow-add-if1 invariant-loop decreases-loop
+add-if1 c = omega (arith, inside c)
+
+mul-if1 : tie.Need-overflow-mul-if1 invariant-loop decreases-loop
+mul-if1 c = omega (arith, inside c)
+
+element-copy-out-if1 : tie.Need-element-copy-out-if1 invariant-loop decreases-loop
+element-copy-out-if1 c = omega (arith, inside c)
+
+cast-set : tie.Need-overflow-cast-set invariant-loop decreases-loop
+cast-set c = omega (arith, inside c.before.before)
+
 shl-set : tie.Need-overflow-shl-set invariant-loop decreases-loop
 shl-set c = inside c.before.before
+
+add-i : tie.Need-overflow-add-i invariant-loop decreases-loop
+add-i c = omega (arith, inside c.before.before)
+
+loop-less : tie.Need-loop-smaller invariant-loop decreases-loop
+loop-less c = omega (arith, c.before.before.loop-test.true)
 
 loop-again : tie.Need-loop-preserved invariant-loop decreases-loop
 loop-again c =
@@ -51,7 +69,17 @@ returns c =
 
 pub due-places-spec : {M : Type 1} → statement M
 due-places-spec =
-    tie.close (tie.spec invariant-loop decreases-loop loop-holds (λ c. omega (arith, inside c)) (λ c. omega (arith, inside c))
-    (λ c. omega (arith, inside c)) (λ c. omega (arith, inside c.before.before)) shl-set
-    (λ c. omega (arith, inside c.before.before)) (λ c. omega (arith, c.before.before.loop-test.true))
-    loop-again returns)
+    tie.close
+    (tie.spec
+    invariant-loop
+    decreases-loop
+    loop-holds
+    add-if1
+    mul-if1
+    element-copy-out-if1
+    cast-set
+    shl-set
+    add-i
+    loop-less
+    loop-again
+    returns)

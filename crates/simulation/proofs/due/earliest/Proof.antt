@@ -5,16 +5,16 @@ use Prim.Native.Nat.{ℕ, ◌+◌, ◌-◌, ◌≤◌, ◌<◌, min}
 use native.Mathlib.Omega.{arith}
 use Rattle.simulation.specs.Places.{segment}
 use Rattle.simulation.proofs.Parts.{part_at}
-use Rattle.simulation.specs.EventState.{earliestOf}
+use Rattle.simulation.specs.EventState.{earliest_of}
 use Rattle.simulation.proofs.DuePlaces.{earliest-more}
 use Rattle.simulation.proofs.due.earliest.Statement.{statement}
 use Rattle.simulation.proofs.due.earliest.Tie as tie
 
 abbrev invariant-loop : tie.invariant-loop
-invariant-loop count places nextEvent₀ i₀ nextEvent i = (i ≤ count) × (nextEvent ≡ earliestOf i (segment 32 places))
+invariant-loop count places next_event₀ i₀ next_event i = (i ≤ count) × (next_event ≡ earliest_of i (segment 32 places))
 
 abbrev decreases-loop : tie.decreases-loop
-decreases-loop count places nextEvent₀ i₀ nextEvent i = count - i
+decreases-loop count places next_event₀ i₀ next_event i = count - i
 
 -- the state at the call
 abbrev entry-from-in-loop : tie.In-loop invariant-loop decreases-loop → tie.Start invariant-loop decreases-loop
@@ -23,12 +23,33 @@ entry-from-in-loop c = c.before.before.before
 abbrev entry-from-past-loop : tie.After-loop invariant-loop decreases-loop → tie.Start invariant-loop decreases-loop
 entry-from-past-loop c = c.before.before.before
 
+element-copy-out-event : tie.Need-element-copy-out-event invariant-loop decreases-loop
+element-copy-out-event c = search rules
+
 loop-holds : tie.Need-loop-init invariant-loop decreases-loop
-unfolding earliestOf
+unfolding earliest_of
 loop-holds c = (omega arith, sym (part_at 32 c.before.args.places.now 0 (omega arith)))
 
 inside : (c : tie.In-loop invariant-loop decreases-loop) → c.before.loop.i < 32
 inside c = omega (arith, c.loop-test.true, (entry-from-in-loop c).requires)
+
+add-earlier : tie.Need-overflow-add-earlier invariant-loop decreases-loop
+add-earlier c = omega (arith, inside c)
+
+mul-earlier : tie.Need-overflow-mul-earlier invariant-loop decreases-loop
+mul-earlier c = omega (arith, inside c)
+
+element-copy-out-earlier : tie.Need-element-copy-out-earlier invariant-loop decreases-loop
+element-copy-out-earlier c = omega (arith, inside c)
+
+earlier-requires : tie.Need-earlier-requires invariant-loop decreases-loop
+earlier-requires c κs = search rules
+
+add-i : tie.Need-overflow-add-i invariant-loop decreases-loop
+add-i c = omega arith
+
+loop-less : tie.Need-loop-smaller invariant-loop decreases-loop
+loop-less c = omega (arith, c.before.before.loop-test.true)
 
 loop-again : tie.Need-loop-preserved invariant-loop decreases-loop
 loop-again c =
@@ -36,8 +57,8 @@ loop-again c =
     let l = n.before.loop in
     let xs = (entry-from-in-loop n).args.places.now in (
       omega (arith, n.loop-test.true),
-      earliest-more l.i l.event c.smaller.result (segment 32 xs) l.invariant.1
-          (c.smaller.ensures ∙ ap (λ (x : ℕ). min l.event x) (sym (part_at 32 xs l.i (inside n)))),
+      earliest-more l.i l.event c.earlier.result (segment 32 xs) l.invariant.1
+          (c.earlier.ensures ∙ ap (λ (x : ℕ). min l.event x) (sym (part_at 32 xs l.i (inside n)))),
     )
 
 returns : tie.Need-returns invariant-loop decreases-loop
@@ -45,10 +66,21 @@ returns c =
     let a = (entry-from-past-loop c).args in
     let l = c.before.loop in
     let e : l.i ≡ a.count = omega (arith, l.invariant.0, c.loop-test.false) in
-    l.invariant.1 ∙ ap (λ (n : ℕ). earliestOf n (segment 32 a.places.now)) e
+    l.invariant.1 ∙ ap (λ (n : ℕ). earliest_of n (segment 32 a.places.now)) e
 
 pub earliest-spec : {M : Type 1} → statement M
 earliest-spec =
-    tie.close (tie.spec invariant-loop decreases-loop (λ c. search rules) loop-holds (λ c. omega (arith, inside c))
-    (λ c. omega (arith, inside c)) (λ c. omega (arith, inside c)) (λ c κs. search rules) (λ c. omega arith)
-    (λ c. omega (arith, c.before.before.loop-test.true)) loop-again returns)
+    tie.close
+    (tie.spec
+    invariant-loop
+    decreases-loop
+    element-copy-out-event
+    loop-holds
+    add-earlier
+    mul-earlier
+    element-copy-out-earlier
+    earlier-requires
+    add-i
+    loop-less
+    loop-again
+    returns)

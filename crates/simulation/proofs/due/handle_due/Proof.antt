@@ -7,8 +7,8 @@ use lib.ListN.{get_or}
 use Rattle.model.specs.Search.{bit}
 use Rattle.simulation.specs.Places.{segment}
 use Rattle.simulation.specs.Machine.{Machine, machine_of}
-use Rattle.simulation.specs.Jump.{handled, handledAll}
-use Rattle.model.proofs.SetWalk.{taken, lowest, others, Off, off-turn, none-taken, all-taken}
+use Rattle.simulation.specs.Jump.{handled, handled_all}
+use Rattle.simulation.proofs.SetWalk.{taken, lowest, others, Off, off-turn, none-taken, all-taken}
 use Rattle.simulation.proofs.Handled.{handled-none, handled-same, handled-more}
 use Rattle.simulation.proofs.due.handle_due.Statement.{statement}
 use Rattle.simulation.proofs.due.handle_due.Tie as tie
@@ -16,7 +16,7 @@ use Rattle.simulation.proofs.due.handle_due.Tie as tie
 abbrev invariant-loop : tie.invariant-loop
 invariant-loop tick due claiming times places₀ rest₀ set₀ places rest set =
     (rest < 2 ^ 32) × ((p : ℕ) → bit rest p ≡ true → bit due p ≡ true)
-    × (machine_of places set ≡ handledAll tick (taken due rest) (segment 0 times) (segment 32 times) (segment 64 times) (machine_of places₀ claiming))
+    × (machine_of places set ≡ handled_all tick (taken due rest) (segment 0 times) (segment 32 times) (segment 64 times) (machine_of places₀ claiming))
 
 abbrev decreases-loop : tie.decreases-loop
 decreases-loop tick due claiming times places₀ rest₀ set₀ places rest set = rest
@@ -31,6 +31,12 @@ loop-holds c =
 
 at_off : (c : tie.In-loop invariant-loop decreases-loop) → Off c.before.before.args.due c.before.loop.rest
 at_off c = off-turn c.before.before.args.due c.before.loop.rest c.loop-test.true c.before.loop.invariant.0 c.before.loop.invariant.1
+
+sub-rest : tie.Need-overflow-sub-rest invariant-loop decreases-loop
+sub-rest c = omega arith
+
+cast-handle-event : tie.Need-overflow-cast-handle-event invariant-loop decreases-loop
+cast-handle-event c = omega (arith, (at_off c).below)
 
 handle-event-requires : tie.Need-handle-event-requires invariant-loop decreases-loop
 handle-event-requires c κs =
@@ -56,8 +62,7 @@ loop-again c =
       o.subset,
       c.handle-event.ensures
           ∙ (ap (λ (m : Machine). handled p a.tick (get_or C p 0) (get_or D p 0) (get_or T p 0) m) l.invariant.2
-          ∙ handled-more a.tick (taken a.due l.rest) (taken a.due (others l.rest)) C D T (machine_of a.places.now a.claiming) p o.off
-          o.on
+          ∙ handled-more a.tick (taken a.due l.rest) (taken a.due (others l.rest)) C D T (machine_of a.places.now a.claiming) p o.off o.on
           o.same o.below),
     )
 
@@ -71,6 +76,4 @@ returns c =
     ∙ handled-same a.tick (taken a.due l.rest) (bit a.due) _ _ _ (machine_of a.places.now a.claiming) (all-taken a.due l.rest z)
 
 pub handle-due-spec : {M : Type 1} → statement M
-handle-due-spec =
-    tie.close (tie.spec invariant-loop decreases-loop loop-holds (λ c. omega arith) (λ c. omega (arith, (at_off c).below))
-    handle-event-requires loop-less loop-again returns)
+handle-due-spec = tie.close (tie.spec invariant-loop decreases-loop loop-holds sub-rest cast-handle-event handle-event-requires loop-less loop-again returns)

@@ -8,17 +8,28 @@ use native.Mathlib.Omega.{arith}
 use lib.Dec.{eqb}
 use lib.ListN.{get_or, set}
 use Rattle.simulation.specs.Places.{segment}
-use Rattle.simulation.specs.Machine.{Machine, machine, machine_of, withRelease}
+use Rattle.simulation.specs.Machine.{Machine, machine, machine_of, with_release}
 use Rattle.simulation.proofs.Parts.{part_at, store-event}
 use Rattle.simulation.specs.Jump.{handled}
 use Rattle.simulation.proofs.due.handle_event.Statement.{statement}
 use Rattle.simulation.proofs.due.handle_event.Tie as tie
 
 chosen : (b : Bool) (p t C D T : ℕ) (m : Machine) → eqb (get_or m.next p 0) t ≡ b
-    → cond b (withRelease p t C D T m) (machine m.left (set m.event p (get_or m.next p 0)) m.next m.claiming) ≡ handled p t C D T m
+    → cond b (with_release p t C D T m) (machine m.left (set m.event p (get_or m.next p 0)) m.next m.claiming) ≡ handled p t C D T m
 unfolding handled
-chosen b p t C D T m e =
-    ap (λ (x : Bool). cond x (withRelease p t C D T m) (machine m.left (set m.event p (get_or m.next p 0)) m.next m.claiming)) (sym e)
+chosen b p t C D T m e = ap (λ (x : Bool). cond x (with_release p t C D T m) (machine m.left (set m.event p (get_or m.next p 0)) m.next m.claiming)) (sym e)
+
+add-if1 : tie.Need-overflow-add-if1
+add-if1 c = search rules
+
+mul-if1 : tie.Need-overflow-mul-if1
+mul-if1 c = search rules
+
+element-copy-out-if1 : tie.Need-element-copy-out-if1
+element-copy-out-if1 c = search rules
+
+release-requires : tie.Need-release-requires
+release-requires c κs = search rules
 
 returns : tie.Need-returns
 returns c =
@@ -27,8 +38,25 @@ returns c =
     let a = s.args in
     let m = machine_of a.places.now a.claiming in
     c.release.ensures
-    ∙ chosen true a.place a.tick _ _ _ m (eq-eqb (get_or m.next a.place 0) a.tick
-    (part_at 64 a.places.now a.place s.requires.0 ∙ i.if1.true))
+    ∙ chosen true a.place a.tick _ _ _ m (eq-eqb (get_or m.next a.place 0) a.tick (part_at 64 a.places.now a.place s.requires.0 ∙ i.if1.true))
+
+add-places : tie.Need-overflow-add-places
+add-places c = search rules
+
+mul-places : tie.Need-overflow-mul-places
+mul-places c = search rules
+
+element-copy-out-places : tie.Need-element-copy-out-places
+element-copy-out-places c = search rules
+
+add-places-2 : tie.Need-overflow-add-places-2
+add-places-2 c = search rules
+
+mul-places-2 : tie.Need-overflow-mul-places-2
+mul-places-2 c = search rules
+
+element-write-places : tie.Need-element-write-places
+element-write-places c = search rules
 
 returns-2 : tie.Need-returns-2
 returns-2 c =
@@ -44,6 +72,17 @@ returns-2 c =
 
 pub handle-event-spec : {M : Type 1} → statement M
 handle-event-spec =
-    tie.close (tie.spec (λ c. search rules) (λ c. search rules) (λ c. search rules) (λ c κs. search rules) returns
-    (λ c. search rules) (λ c. search rules) (λ c. search rules) (λ c. search rules) (λ c. search rules)
-    (λ c. search rules) returns-2)
+    tie.close
+    (tie.spec
+    add-if1
+    mul-if1
+    element-copy-out-if1
+    release-requires
+    returns
+    add-places
+    mul-places
+    element-copy-out-places
+    add-places-2
+    mul-places-2
+    element-write-places
+    returns-2)

@@ -7,7 +7,7 @@ use native.Mathlib.Omega.{arith}
 use Rattle.model.specs.Search.{bit}
 use Rattle.simulation.specs.Machine.{machine_of}
 use Rattle.simulation.specs.Jump.{elapsed}
-use Rattle.model.proofs.SetWalk.{taken, Off, off-turn, none-taken, all-taken}
+use Rattle.simulation.proofs.SetWalk.{taken, Off, off-turn, none-taken, all-taken}
 use Rattle.simulation.proofs.Passing.{passed_none, passed-same}
 use Rattle.simulation.proofs.JumpStep.{GrantStep, turn, list-owed, list-member, list_on, list-out}
 use Rattle.simulation.proofs.events.elapse.Statement.{statement}
@@ -26,8 +26,7 @@ loop-holds c =
     let a = c.args in (
       c.ranges.granted.fits,
       λ p e. e,
-      sym (passed_none a.ticks (taken a.granted a.granted) (machine_of a.places.now a.claiming) c.ranges.claiming.fits
-          (none-taken a.granted)),
+      sym (passed_none a.ticks (taken a.granted a.granted) (machine_of a.places.now a.claiming) c.ranges.claiming.fits (none-taken a.granted)),
     )
 
 at_off : (c : tie.In-loop invariant-loop decreases-loop) → Off c.before.before.args.granted c.before.loop.rest
@@ -45,8 +44,26 @@ at-step c =
     subst (GrantStep a.ticks a.granted l.rest (machine_of a.places.now a.claiming)) (sym l.invariant.2)
     (turn a.granted l.rest c.loop-test.true l.invariant.0 l.invariant.1 a.ticks (machine_of a.places.now a.claiming) c.before.before.requires)
 
+sub-rest : tie.Need-overflow-sub-rest invariant-loop decreases-loop
+sub-rest c = omega arith
+
+cast-at : tie.Need-overflow-cast-at invariant-loop decreases-loop
+cast-at c = omega (arith, (at_off c).below)
+
+mul-more : tie.Need-overflow-mul-more invariant-loop decreases-loop
+mul-more c = omega (arith, (at_off c).below)
+
+element-copy-out-more : tie.Need-element-copy-out-more invariant-loop decreases-loop
+element-copy-out-more c = omega (arith, (at_off c).below)
+
 sub_more : tie.Need-overflow-sub-more invariant-loop decreases-loop
 sub_more c = list-owed _ _ _ _ _ _ (at_off c.before).below (at-step c.before)
+
+mul-places : tie.Need-overflow-mul-places invariant-loop decreases-loop
+mul-places c = omega (arith, (at_off c.before).below)
+
+element-write-places : tie.Need-element-write-places invariant-loop decreases-loop
+element-write-places c = omega (arith, (at_off c.before).below)
 
 shl-set : tie.Need-overflow-shl-set invariant-loop decreases-loop
 shl-set c = (at_off c.before.before).below
@@ -81,7 +98,22 @@ returns c =
 
 pub elapse-spec : {M : Type 1} → statement M
 elapse-spec =
-    tie.close (tie.spec invariant-loop decreases-loop loop-holds (λ c. omega arith) (λ c. omega (arith, (at_off c).below))
-    (λ c. omega (arith, (at_off c).below)) (λ c. omega (arith, (at_off c).below)) sub_more
-    (λ c. omega (arith, (at_off c.before).below)) (λ c. omega (arith, (at_off c.before).below)) shl-set sub-set
-    loop-less loop-again loop-less-2 loop-again-2 returns)
+    tie.close
+    (tie.spec
+    invariant-loop
+    decreases-loop
+    loop-holds
+    sub-rest
+    cast-at
+    mul-more
+    element-copy-out-more
+    sub_more
+    mul-places
+    element-write-places
+    shl-set
+    sub-set
+    loop-less
+    loop-again
+    loop-less-2
+    loop-again-2
+    returns)

@@ -8,14 +8,14 @@ use mathlib.Core.Bool.{true}
 use Prim.Native.Nat.{ℕ, ◌≤◌}
 use lib.ListN.{get_or}
 use Rattle.model.specs.Search.{bit}
-use Rattle.model.specs.Task.{ruleOf}
+use Rattle.model.specs.Task.{rule_of}
 use Rattle.model.specs.Grants.{claimants}
-use Rattle.rule.specs.Widths.{widthsIn}
+use Rattle.rule.specs.Widths.{widths_in}
 use Rattle.rule.proofs.Sets.{granted-unfenced}
 use Rattle.simulation.specs.Machine.{Machine, machine_of}
-use Rattle.simulation.specs.TickState.{Numbers, numbersBy}
-use Rattle.simulation.specs.EventState.{EventState, eventStateOf}
-use Rattle.simulation.specs.Jump.{GrantedOwe, afterHandling, nextEventAhead, grantedInJump, ticksInJump, jumped, JumpLands}
+use Rattle.simulation.specs.TickState.{Numbers, numbers_by}
+use Rattle.simulation.specs.EventState.{EventState, event_state_of}
+use Rattle.simulation.specs.Jump.{GrantedOwe, after_handling, next_event_ahead, granted_in_jump, ticks_in_jump, jumped, JumpLands}
 use Rattle.simulation.proofs.JumpLands.{Goes, goes, jump-lands}
 use Rattle.simulation.proofs.Taken.{Seen, due-handled, due-skipped, chosen-kept, kept_for, chosen-anew, ticks-are, jump-taken}
 use Rattle.simulation.proofs.events.jump.Statement.{statement}
@@ -45,10 +45,10 @@ shortest c = c.before.before.before.before
 
 -- the table's numbers, and the run where the function begins
 abbrev nums : tie.Start → Numbers
-nums s = numbersBy s.args.setting s.args.widths.now s.args.times.now
+nums s = numbers_by s.args.setting s.args.widths.now s.args.times.now
 
 abbrev state : tie.Start → EventState
-state s = eventStateOf s.args.registers s.args.places.now
+state s = event_state_of s.args.registers s.args.places.now
 
 going : (s : tie.Start) → Goes (nums s) (state s)
 going s = goes s.requires.0 (nums s) (state s) s.requires.1
@@ -69,11 +69,11 @@ after-of c =
     c.if1.branch
 
 -- the claimants
-claims-of : (c : tie.Joined1) → c.if1.claiming ≡ (afterHandling (nums c.before.before) (state c.before.before)).claiming
+claims-of : (c : tie.Joined1) → c.if1.claiming ≡ (after_handling (nums c.before.before) (state c.before.before)).claiming
 claims-of c = ap (λ (m : Machine). m.claiming) (after-of c).machines
 
 -- the places that are granted cores: kept, or chosen anew
-granted-of : (c : tie.Joined2) → c.if2.granted ≡ grantedInJump (nums (entry-from-joined2 c)) (state (entry-from-joined2 c))
+granted-of : (c : tie.Joined2) → c.if2.granted ≡ granted_in_jump (nums (entry-from-joined2 c)) (state (entry-from-joined2 c))
 granted-of c =
     let s = entry-from-joined2 c in
     let n = nums s in
@@ -83,12 +83,12 @@ granted-of c =
     ⊎_elim
     (λ w. w.4 ∙ chosen-anew n (state s) claiming even _ (claims-of j) (after-of j).even w.0.taken w.2.ok
     (λ q. w.2.ensures q
-    ∙ granted-unfenced (ruleOf n.rule) (claimants (widthsIn even n.widths) (bit claiming)) _ n.fence n.cores (going s).narrow w.1.ensures q))
+    ∙ granted-unfenced (rule_of n.rule) (claimants (widths_in even n.widths) (bit claiming)) _ n.fence n.cores (going s).narrow w.1.ensures q))
     (λ w. w.2 ∙ chosen-kept n (state s) claiming even (claims-of j) (after-of j).even w.0.left)
     c.if2.branch
 
 -- and the claimants that they were chosen from
-chosen_of : (c : tie.Joined2) → c.if2.chosen ≡ (afterHandling (nums (entry-from-joined2 c)) (state (entry-from-joined2 c))).claiming
+chosen_of : (c : tie.Joined2) → c.if2.chosen ≡ (after_handling (nums (entry-from-joined2 c)) (state (entry-from-joined2 c))).claiming
 chosen_of c =
     let s = entry-from-joined2 c in
     let j = joined1 c in
@@ -100,7 +100,7 @@ chosen_of c =
 -- how many ticks it takes
 ticks-of :
     (c : tie.After-shortest)
-    → c.shortest.result ≡ ticksInJump (nums (entry-from-joined2 (joined2 c))) (state (entry-from-joined2 (joined2 c)))
+    → c.shortest.result ≡ ticks_in_jump (nums (entry-from-joined2 (joined2 c))) (state (entry-from-joined2 (joined2 c)))
 ticks-of c =
     let k = joined2 c in
     let j = joined1 k in
@@ -114,10 +114,19 @@ handle-due-requires c κs = (going (entry-from-handle-due-arg c)).fits
 earliest-requires : tie.Need-earliest-requires
 earliest-requires c κs = (going (entry-from-handle-due-arg c.before.before)).few
 
+unfenced-cores-requires : tie.Need-unfenced-cores-requires
+unfenced-cores-requires c κs = search rules
+
+choose-requires : tie.Need-choose-requires
+choose-requires c κs = search rules
+
 sub-shortest : tie.Need-overflow-sub-shortest
 sub-shortest c =
     let j = joined1 c.before in
     omega (arith, (after-of j).event, (going j.before.before).before)
+
+shortest-requires : tie.Need-shortest-requires
+shortest-requires c κs = search rules
 
 elapse-requires : tie.Need-elapse-requires
 elapse-requires c κs =
@@ -127,7 +136,7 @@ elapse-requires c κs =
     let s = j.before.before in
     let g = going s in
     subst₂ (λ (x : ℕ) (m : Machine). GrantedOwe h.shortest.result (bit x) m) (sym (granted-of k)) (sym (after-of j).machines)
-    (λ p e. ((g.owing p e).0, subst (λ (x : ℕ). x ≤ get_or (afterHandling (nums s) (state s)).left p 0) (sym (ticks-of h)) (g.short.below p e)))
+    (λ p e. ((g.owing p e).0, subst (λ (x : ℕ). x ≤ get_or (after_handling (nums s) (state s)).left p 0) (sym (ticks-of h)) (g.short.below p e)))
 
 add-landed : tie.Need-overflow-add-landed
 add-landed c =
@@ -147,11 +156,20 @@ returns c =
     let s = j.before.before in
     let value =
     jump-taken (nums s) (state s) (machine_of j.if1.places j.if1.claiming) _ j.if1.event k.if2.chosen k.if2.granted j.if1.even
-    h.shortest.result c.due-by.result (after-of j) (chosen_of k) (granted-of k) (ticks-of h) c.before.before.elapse.ensures c.due-by.ensures
-    in
+    h.shortest.result c.due-by.result (after-of j) (chosen_of k) (granted-of k) (ticks-of h) c.before.before.elapse.ensures c.due-by.ensures in
     record { value = value; lands = λ t b. subst (JumpLands t (state s)) (sym value) (jump-lands t (nums s) (state s) b) }
 
 pub jump-spec : {M : Type 1} → statement M
 jump-spec =
-    tie.close (tie.spec handle-due-requires earliest-requires (λ c κs. search rules) (λ c κs. search rules) sub-shortest
-    (λ c κs. search rules) elapse-requires add-landed due-by-requires returns)
+    tie.close
+    (tie.spec
+    handle-due-requires
+    earliest-requires
+    unfenced-cores-requires
+    choose-requires
+    sub-shortest
+    shortest-requires
+    elapse-requires
+    add-landed
+    due-by-requires
+    returns)

@@ -11,8 +11,8 @@ use Rattle.model.specs.Search.{bit}
 use Rattle.model.proofs.Digits.{bit_past}
 use Rattle.simulation.specs.Places.{segment}
 use Rattle.simulation.proofs.Parts.{front_at}
-use Rattle.simulation.specs.Jump.{leastLeft}
-use Rattle.model.proofs.SetWalk.{taken, lowest, others, Off, off-turn, none-taken, all-taken}
+use Rattle.simulation.specs.Jump.{least_left}
+use Rattle.simulation.proofs.SetWalk.{taken, lowest, others, Off, off-turn, none-taken, all-taken}
 use Rattle.simulation.proofs.Shortest.{Shortest, shortest-none, shortest-same, shortest-more, shortest-one, least-left-is}
 use Rattle.simulation.proofs.events.shortest.Statement.{statement}
 use Rattle.simulation.proofs.events.shortest.Tie as tie
@@ -42,6 +42,21 @@ loop-holds c = (
 at_off : (c : tie.In-loop invariant-loop decreases-loop) → Off c.before.before.args.granted c.before.loop.rest
 at_off c = off-turn c.before.before.args.granted c.before.loop.rest c.loop-test.true c.before.loop.invariant.0 c.before.loop.invariant.1
 
+sub-rest : tie.Need-overflow-sub-rest invariant-loop decreases-loop
+sub-rest c = omega arith
+
+cast-earlier : tie.Need-overflow-cast-earlier invariant-loop decreases-loop
+cast-earlier c = omega (arith, (at_off c).below)
+
+mul-earlier : tie.Need-overflow-mul-earlier invariant-loop decreases-loop
+mul-earlier c = omega (arith, (at_off c).below)
+
+element-copy-out-earlier : tie.Need-element-copy-out-earlier invariant-loop decreases-loop
+element-copy-out-earlier c = omega (arith, (at_off c).below)
+
+earlier-requires : tie.Need-earlier-requires invariant-loop decreases-loop
+earlier-requires c κs = search rules
+
 loop-less : tie.Need-loop-smaller invariant-loop decreases-loop
 loop-less c = (at_off c.before.before).falls
 
@@ -53,10 +68,8 @@ loop-again c =
     let o = at_off t in (
       omega (arith, o.falls, l.invariant.0),
       o.subset,
-      shortest-more (taken a.granted l.rest) (taken a.granted (others l.rest)) a.most (segment 0 a.places.now) (lowest l.rest) l.ticks
-          c.smaller.result
-          o.on o.same (c.smaller.ensures ∙ ap (λ (x : ℕ). min l.ticks x) (sym (front_at a.places.now (lowest l.rest) o.below)))
-          l.invariant.2,
+      shortest-more (taken a.granted l.rest) (taken a.granted (others l.rest)) a.most (segment 0 a.places.now) (lowest l.rest) l.ticks c.earlier.result
+          o.on o.same (c.earlier.ensures ∙ ap (λ (x : ℕ). min l.ticks x) (sym (front_at a.places.now (lowest l.rest) o.below))) l.invariant.2,
     )
 
 returns : tie.Need-returns invariant-loop decreases-loop
@@ -66,12 +79,22 @@ returns c =
     let l = c.before.loop in
     let left = segment 0 a.places.now in
     let z : l.rest ≡ 0 = omega (arith, c.loop-test.false) in
-    shortest-one (bit a.granted) a.most left l.ticks (leastLeft 32 (bit a.granted) a.most left)
+    shortest-one (bit a.granted) a.most left l.ticks (least_left 32 (bit a.granted) a.most left)
     (shortest-same (taken a.granted l.rest) (bit a.granted) a.most left l.ticks (all-taken a.granted l.rest z) l.invariant.2)
     (least-left-is 32 (bit a.granted) a.most left (within a.granted s.ranges.granted.fits))
 
 pub shortest-spec : {M : Type 1} → statement M
 shortest-spec =
-    tie.close (tie.spec invariant-loop decreases-loop loop-holds (λ c. omega arith) (λ c. omega (arith, (at_off c).below))
-    (λ c. omega (arith, (at_off c).below)) (λ c. omega (arith, (at_off c).below)) (λ c κs. search rules) loop-less
-    loop-again returns)
+    tie.close
+    (tie.spec
+    invariant-loop
+    decreases-loop
+    loop-holds
+    sub-rest
+    cast-earlier
+    mul-earlier
+    element-copy-out-earlier
+    earlier-requires
+    loop-less
+    loop-again
+    returns)

@@ -6,7 +6,7 @@ use Prim.Native.Nat.{ℕ}
 use Rattle.simulation.specs.Places.{segment}
 use Rattle.simulation.specs.TickState.{TickState}
 use Rattle.simulation.proofs.Moves.{same-machine}
-use Rattle.simulation.specs.EventState.{due_at, earliestOf}
+use Rattle.simulation.specs.EventState.{due_at, earliest_of}
 use Rattle.simulation.proofs.events.start.Statement.{statement}
 use Rattle.simulation.proofs.events.start.Tie as tie
 
@@ -17,6 +17,15 @@ start-from-places3 c = c.before.before.before.before
 abbrev start-from-due-places : tie.After-due-places → tie.After-start
 start-from-due-places c = start-from-places3 c.before
 
+start-requires : tie.Need-start-requires
+start-requires c κs = search rules
+
+earliest-requires : tie.Need-earliest-requires
+earliest-requires c κs = search rules
+
+due-places-requires : tie.Need-due-places-requires
+due-places-requires c κs = search rules
+
 returns : tie.Need-returns
 returns c =
     let t = (start-from-due-places c).before.args.table in
@@ -26,14 +35,13 @@ returns c =
     λ i. record {
       tick = 0;
       machine =
-          same-machine {c = 0} {c' = 0} (ap (λ (x : TickState). x.machine.left) made.ensures.0) event
-          (ap (λ (x : TickState). x.machine.next) made.ensures.0) refl i;
+          same-machine {c = 0} {c' = 0} (ap (λ (x : TickState). x.machine.left) made.ensures.0) event (ap (λ (x : TickState). x.machine.next) made.ensures.0) refl i;
       due = (c.due-places.ensures ∙ ap (due_at 0 t.count) event) i;
-      event = (c.before.before.earliest.ensures ∙ ap (earliestOf t.count) event) i;
+      event = (c.before.before.earliest.ensures ∙ ap (earliest_of t.count) event) i;
       chosen = 0;
       granted = 0;
       even = (made.ensures.0 i).even;
     }
 
 pub start_spec : {M : Type 1} → statement M
-start_spec = tie.close (tie.spec (λ c κs. search rules) (λ c κs. search rules) (λ c κs. search rules) returns)
+start_spec = tie.close (tie.spec start-requires earliest-requires due-places-requires returns)

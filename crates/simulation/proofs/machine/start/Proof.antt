@@ -7,7 +7,7 @@ use mathlib.Core.List.{List, map}
 use Prim.Native.Nat.{ℕ, ◌+◌, ◌-◌, ◌≤◌, ◌<◌}
 use lib.ListN as list
 use Rattle.table.specs.declared.Task.{Task}
-use Rattle.table.specs.Task.{noTask}
+use Rattle.table.specs.Task.{no_task}
 use Rattle.simulation.specs.Places.{segment}
 use Rattle.simulation.specs.Machine.{Machine}
 use Rattle.simulation.proofs.Moves.{same-machine}
@@ -45,13 +45,43 @@ loop-holds c =
     let none = filled_none (λ t. t.offset) ts (all c.before) in
     (omega arith, refl, none, none, refl)
 
+mul-task : tie.Need-overflow-mul-task invariant-loop decreases-loop
+mul-task c = omega arith
+
+array-copy-out-task : tie.Need-array-copy-out-task invariant-loop decreases-loop
+array-copy-out-task c = omega arith
+
+add-places : tie.Need-overflow-add-places invariant-loop decreases-loop
+add-places c = omega arith
+
+mul-places : tie.Need-overflow-mul-places invariant-loop decreases-loop
+mul-places c = omega arith
+
+array-write-places : tie.Need-array-write-places invariant-loop decreases-loop
+array-write-places c = omega arith
+
+add-places-2 : tie.Need-overflow-add-places-2 invariant-loop decreases-loop
+add-places-2 c = omega arith
+
+mul-places-2 : tie.Need-overflow-mul-places-2 invariant-loop decreases-loop
+mul-places-2 c = omega arith
+
+array-write-places-2 : tie.Need-array-write-places-2 invariant-loop decreases-loop
+array-write-places-2 c = omega arith
+
+add-i : tie.Need-overflow-add-i invariant-loop decreases-loop
+add-i c = omega arith
+
+loop-less : tie.Need-loop-smaller invariant-loop decreases-loop
+loop-less c = omega arith
+
 loop-again : tie.Need-loop-preserved invariant-loop decreases-loop
 loop-again c =
     let s = entry-from-task c in
     let l = c.before.before.loop in
     let ts = s.args.table.tasks in
     let inside : l.i < 32 = omega arith in
-    let offset = (list.get_or ts l.i noTask).offset in
+    let offset = (list.get_or ts l.i no_task).offset in
     let stored = stored-later l.places 0 l.i offset offset inside in
     let field : Task → ℕ = λ t. t.offset in (
       omega arith,
@@ -62,6 +92,9 @@ loop-again c =
           (filled_more field ts (all s) l.i (segment 64 l.places) inside l.invariant.3),
       list.length-set (list.set l.places (32 + l.i) offset) (64 + l.i) offset ∙ (list.length-set l.places (32 + l.i) offset ∙ l.invariant.4),
     )
+
+paired-in-requires : tie.Need-paired-in-requires invariant-loop decreases-loop
+paired-in-requires c κs = search rules
 
 returns : tie.Need-returns invariant-loop decreases-loop
 returns c =
@@ -84,6 +117,21 @@ returns c =
 
 pub start_spec : {M : Type 1} → statement M
 start_spec =
-    tie.close (tie.spec invariant-loop decreases-loop loop-holds (λ c. omega arith) (λ c. omega arith) (λ c. omega arith)
-    (λ c. omega arith) (λ c. omega arith) (λ c. omega arith) (λ c. omega arith) (λ c. omega arith) (λ c. omega arith)
-    (λ c. omega arith) loop-again (λ c κs. search rules) returns)
+    tie.close
+    (tie.spec
+    invariant-loop
+    decreases-loop
+    loop-holds
+    mul-task
+    array-copy-out-task
+    add-places
+    mul-places
+    array-write-places
+    add-places-2
+    mul-places-2
+    array-write-places-2
+    add-i
+    loop-less
+    loop-again
+    paired-in-requires
+    returns)

@@ -1,5 +1,4 @@
--- `simulation::ticks::release_due` meets its contract: after each iteration the machine is the one in which the places so far have been handled, and the next
--- event
+-- `simulation::ticks::release_due` meets its contract: after each iteration the machine is the one in which the places so far have been handled, and the next event
 -- is the earliest of their events. Assumes nothing.
 use borrow.Author.Rules.{rules}
 use mathlib.Core.Path.{◌≡◌, refl, sym, ap, ap₂, ◌∙◌}
@@ -9,19 +8,19 @@ use Prim.Native.Nat.{ℕ, ◌-◌, ◌≤◌, ◌<◌, min}
 use native.Mathlib.Numerals.{add-one}
 use native.Mathlib.Omega.{arith}
 use Rattle.simulation.specs.Places.{segment}
-use Rattle.simulation.specs.Machine.{Machine, machine_of, releasedDue, earliest}
+use Rattle.simulation.specs.Machine.{Machine, machine_of, released_due, earliest}
 use Rattle.simulation.proofs.Parts.{part_at}
 use Rattle.simulation.proofs.Walk.{EventsHandled, due-release, due-pass, earliest-more}
 use Rattle.simulation.proofs.ticks.release_due.Statement.{statement}
 use Rattle.simulation.proofs.ticks.release_due.Tie as tie
 
 abbrev invariant-loop : tie.invariant-loop
-invariant-loop tick count claiming times places₀ set₀ nextEvent₀ i₀ places set nextEvent i =
-    (i ≤ count) × (machine_of places set ≡ releasedDue tick (segment 0 times) (segment 32 times) (segment 64 times) i (machine_of places₀ claiming))
-    × (nextEvent ≡ earliest i (segment 32 places))
+invariant-loop tick count claiming times places₀ set₀ next_event₀ i₀ places set next_event i =
+    (i ≤ count) × (machine_of places set ≡ released_due tick (segment 0 times) (segment 32 times) (segment 64 times) i (machine_of places₀ claiming))
+    × (next_event ≡ earliest i (segment 32 places))
 
 abbrev decreases-loop : tie.decreases-loop
-decreases-loop tick count claiming times places₀ set₀ nextEvent₀ i₀ places set nextEvent i = count - i
+decreases-loop tick count claiming times places₀ set₀ next_event₀ i₀ places set next_event i = count - i
 
 -- the state at the head of the loop
 abbrev loop-from-joined1 : tie.Joined1 invariant-loop decreases-loop → tie.At-loop invariant-loop decreases-loop
@@ -31,16 +30,25 @@ loop-from-joined1 c = c.before.before.before
 abbrev in-loop-from-release-arg : tie.After-release-arg invariant-loop decreases-loop → tie.In-loop invariant-loop decreases-loop
 in-loop-from-release-arg c = c.before.before.before
 
-abbrev in-loop-from-smaller : tie.After-smaller invariant-loop decreases-loop → tie.In-loop invariant-loop decreases-loop
-in-loop-from-smaller c = c.before.before.before.before
+abbrev in-loop-from-earlier : tie.After-earlier invariant-loop decreases-loop → tie.In-loop invariant-loop decreases-loop
+in-loop-from-earlier c = c.before.before.before.before
 
 loop-holds : tie.Need-loop-init invariant-loop decreases-loop
-unfolding releasedDue earliest
+unfolding released_due earliest
 loop-holds c = (omega arith, refl, refl)
 
 -- in the loop the place is one of 32
 inside : (c : tie.In-loop invariant-loop decreases-loop) → c.before.loop.i < 32
 inside c = omega (arith, c.loop-test.true, c.before.before.requires.0)
+
+add-if1 : tie.Need-overflow-add-if1 invariant-loop decreases-loop
+add-if1 c = omega (arith, inside c)
+
+mul-if1 : tie.Need-overflow-mul-if1 invariant-loop decreases-loop
+mul-if1 c = omega (arith, inside c)
+
+element-copy-out-if1 : tie.Need-element-copy-out-if1 invariant-loop decreases-loop
+element-copy-out-if1 c = omega (arith, inside c)
 
 release-requires : tie.Need-release-requires invariant-loop decreases-loop
 release-requires c κs =
@@ -49,12 +57,29 @@ release-requires c κs =
     let fits = l.before.pre.1 l.loop.i il.loop-test.taken in
     (inside il, fits.0, fits.1)
 
+add-earlier : tie.Need-overflow-add-earlier invariant-loop decreases-loop
+add-earlier c = omega (arith, inside c.before.before)
+
+mul-earlier : tie.Need-overflow-mul-earlier invariant-loop decreases-loop
+mul-earlier c = omega (arith, inside c.before.before)
+
+element-copy-out-earlier : tie.Need-element-copy-out-earlier invariant-loop decreases-loop
+element-copy-out-earlier c = omega (arith, inside c.before.before)
+
+earlier-requires : tie.Need-earlier-requires invariant-loop decreases-loop
+earlier-requires c κs = search rules
+
+add-i : tie.Need-overflow-add-i invariant-loop decreases-loop
+add-i c = omega arith
+
+loop-less : tie.Need-loop-smaller invariant-loop decreases-loop
+loop-less c = omega arith
+
 -- the machine after a place is handled
 at_join :
     (c : tie.Joined1 invariant-loop decreases-loop)
     → EventsHandled (loop-from-joined1 c).before.args.tick
-    (segment 0 (loop-from-joined1 c).before.args.times.now) (segment 32 (loop-from-joined1 c).before.args.times.now)
-    (segment 64 (loop-from-joined1 c).before.args.times.now)
+    (segment 0 (loop-from-joined1 c).before.args.times.now) (segment 32 (loop-from-joined1 c).before.args.times.now) (segment 64 (loop-from-joined1 c).before.args.times.now)
     (loop-from-joined1 c).loop.i
     (machine_of (loop-from-joined1 c).before.args.places.now (loop-from-joined1 c).before.args.claiming)
     (machine_of (loop-from-joined1 c).loop.places (loop-from-joined1 c).loop.set)
@@ -78,14 +103,14 @@ at_join c =
 loop-again : tie.Need-loop-preserved invariant-loop decreases-loop
 loop-again c =
     let j = at_join c.before.before in
-    let l = (in-loop-from-smaller c).before.loop in
+    let l = (in-loop-from-earlier c).before.loop in
     let events = segment 32 c.before.before.if1.places in
-    let event = part_at 32 c.before.before.if1.places l.i (inside (in-loop-from-smaller c)) in (
+    let event = part_at 32 c.before.before.if1.places l.i (inside (in-loop-from-earlier c)) in (
       omega arith,
       rw add-one j.machines,
       rw add-one
-          (earliest-more l.i events l.event c.smaller.result (l.inv.2 ∙ sym j.same)
-          (c.smaller.ensures ∙ ap (min l.event) (sym event))),
+          (earliest-more l.i events l.event c.earlier.result (l.inv.2 ∙ sym j.same)
+          (c.earlier.ensures ∙ ap (min l.event) (sym event))),
     )
 
 returns : tie.Need-returns invariant-loop decreases-loop
@@ -97,14 +122,26 @@ returns c =
       machines =
           l.invariant.1
           ∙ ap
-          (λ (n : ℕ). releasedDue a.tick (segment 0 a.times.now) (segment 32 a.times.now) (segment 64 a.times.now) n
-          (machine_of a.places.now a.claiming)) e;
+          (λ (n : ℕ). released_due a.tick (segment 0 a.times.now) (segment 32 a.times.now) (segment 64 a.times.now) n (machine_of a.places.now a.claiming)) e;
       event = l.invariant.2 ∙ ap (λ (n : ℕ). earliest n (segment 32 l.places)) e;
     }
 
 pub release-due-spec : {M : Type 1} → statement M
 release-due-spec =
-    tie.close (tie.spec invariant-loop decreases-loop loop-holds (λ c. omega (arith, inside c)) (λ c. omega (arith, inside c))
-    (λ c. omega (arith, inside c)) release-requires (λ c. omega (arith, inside c.before.before))
-    (λ c. omega (arith, inside c.before.before)) (λ c. omega (arith, inside c.before.before))
-    (λ c κs. search rules) (λ c. omega arith) (λ c. omega arith) loop-again returns)
+    tie.close
+    (tie.spec
+    invariant-loop
+    decreases-loop
+    loop-holds
+    add-if1
+    mul-if1
+    element-copy-out-if1
+    release-requires
+    add-earlier
+    mul-earlier
+    element-copy-out-earlier
+    earlier-requires
+    add-i
+    loop-less
+    loop-again
+    returns)

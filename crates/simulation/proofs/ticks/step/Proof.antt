@@ -6,30 +6,29 @@ use mathlib.Core.Bool.{true, false}
 use mathlib.Core.Path.{◌≡◌, sym, ap, ap₂, ◌∙◌, subst₂}
 use Prim.Native.Nat.{ℕ}
 use Rattle.model.specs.Search.{bit}
-use Rattle.model.specs.Task.{ruleOf}
+use Rattle.model.specs.Task.{rule_of}
 use Rattle.model.specs.Grants.{claimants}
-use Rattle.rule.specs.Widths.{widthsIn}
+use Rattle.rule.specs.Widths.{widths_in}
 use Rattle.rule.proofs.Sets.{granted-unfenced}
 use Rattle.simulation.specs.Machine.{Machine, machine_of, GrantedOwed}
-use Rattle.simulation.specs.TickState.{Numbers, numbersBy, TickState, tickStateOf, afterEvents, nextEventAfter, evenAtTick, grantedAt}
-use Rattle.simulation.proofs.Steps.{due-handled, due-skipped, even-handled, even-skipped, unchanged-by, unchanged-claims, chosen-kept, chosen-anew}
-use Rattle.simulation.proofs.Steps.{step-taken}
+use Rattle.simulation.specs.TickState.{Numbers, numbers_by, TickState, tick_state_of, after_events, next_event_after, even_at_tick, granted_at}
+use Rattle.simulation.proofs.Steps.{due-handled, due-skipped, even-handled, even-skipped, unchanged-by, unchanged-claims, chosen-kept, chosen-anew, step-taken}
 use Rattle.simulation.proofs.ticks.step.Statement.{statement}
 use Rattle.simulation.proofs.ticks.step.Tie as tie
 
 -- the table's numbers, and the run where the function begins
 abbrev nums : tie.Start → Numbers
-nums s = numbersBy s.args.setting s.args.widths.now s.args.times.now
+nums s = numbers_by s.args.setting s.args.widths.now s.args.times.now
 
 abbrev state : tie.Start → TickState
-state s = tickStateOf s.args.registers s.args.places.now
+state s = tick_state_of s.args.registers s.args.places.now
 
 -- after the due events
 after-of :
     (c : tie.Joined1)
-    → (machine_of c.if1.places c.if1.claiming ≡ afterEvents (nums c.before) (state c.before))
-    × (c.if1.event ≡ nextEventAfter (nums c.before) (state c.before))
-    × (c.if1.even ≡ evenAtTick (nums c.before) (state c.before))
+    → (machine_of c.if1.places c.if1.claiming ≡ after_events (nums c.before) (state c.before))
+    × (c.if1.event ≡ next_event_after (nums c.before) (state c.before))
+    × (c.if1.even ≡ even_at_tick (nums c.before) (state c.before))
 after-of c =
     let n = nums c.before in
     let s = state c.before in
@@ -43,14 +42,14 @@ after-of c =
     c.if1.branch
 
 -- the claimants, and the places at their second width
-claims-of : (c : tie.Joined1) → c.if1.claiming ≡ (afterEvents (nums c.before) (state c.before)).claiming
+claims-of : (c : tie.Joined1) → c.if1.claiming ≡ (after_events (nums c.before) (state c.before)).claiming
 claims-of c = ap (λ (m : Machine). m.claiming) (after-of c).0
 
-even-of : (c : tie.Joined1) → c.if1.even ≡ evenAtTick (nums c.before) (state c.before)
+even-of : (c : tie.Joined1) → c.if1.even ≡ even_at_tick (nums c.before) (state c.before)
 even-of c = (after-of c).2
 
 -- the places that are granted cores: kept, or chosen anew
-granted-of : (c : tie.Joined2) → c.if2.granted ≡ grantedAt (nums c.before.before.before) (state c.before.before.before)
+granted-of : (c : tie.Joined2) → c.if2.granted ≡ granted_at (nums c.before.before.before) (state c.before.before.before)
 granted-of c =
     let j = c.before.before in
     let n = nums j.before in
@@ -58,14 +57,13 @@ granted-of c =
     ⊎_elim
     (λ w. w.4 ∙ chosen-anew n s j.if1.claiming j.if1.even _ (claims-of j) (even-of j)
     (unchanged-by n s j.if1.claiming j.if1.even true (claims-of j) (even-of j) w.0.taken) w.2.ok
-    (λ q. w.2.ensures q ∙ granted-unfenced (ruleOf n.rule) (claimants (widthsIn j.if1.even n.widths) (bit j.if1.claiming)) _ n.fence
-    n.cores
+    (λ q. w.2.ensures q ∙ granted-unfenced (rule_of n.rule) (claimants (widths_in j.if1.even n.widths) (bit j.if1.claiming)) _ n.fence n.cores
     j.before.requires.narrow w.1.ensures q))
     (λ w. w.2 ∙ chosen-kept n s (unchanged-by n s j.if1.claiming j.if1.even false (claims-of j) (even-of j) w.0.left))
     c.if2.branch
 
 -- and the claimants that they were chosen from
-chosen_of : (c : tie.Joined2) → c.if2.chosen ≡ (afterEvents (nums c.before.before.before) (state c.before.before.before)).claiming
+chosen_of : (c : tie.Joined2) → c.if2.chosen ≡ (after_events (nums c.before.before.before) (state c.before.before.before)).claiming
 chosen_of c =
     let j = c.before.before in
     ⊎_elim
@@ -74,12 +72,24 @@ chosen_of c =
     (unchanged-by (nums j.before) (state j.before) j.if1.claiming j.if1.even false (claims-of j) (even-of j) w.0.left)))
     c.if2.branch
 
+release-due-requires : tie.Need-release-due-requires
+release-due-requires c κs = search rules
+
+unfenced-cores-requires : tie.Need-unfenced-cores-requires
+unfenced-cores-requires c κs = search rules
+
+choose-requires : tie.Need-choose-requires
+choose-requires c κs = search rules
+
 work-requires : tie.Need-work-requires
 work-requires c κs =
     let k = c.before in
     let j = k.before.before in
     let s = j.before in
     subst₂ (λ (g : ℕ) (m : Machine). GrantedOwed (bit g) m) (sym (granted-of k)) (sym (after-of j).0) s.requires.owed
+
+add-t22 : tie.Need-overflow-add-t22
+add-t22 c = search rules
 
 returns : tie.Need-returns
 returns c =
@@ -90,5 +100,4 @@ returns c =
     (after-of j).0 (after-of j).1 (chosen_of k) (granted-of k) (even-of j) c.work.ensures
 
 pub step_spec : {M : Type 1} → statement M
-step_spec = tie.close (tie.spec (λ c κs. search rules) (λ c κs. search rules) (λ c κs. search rules) work-requires
-    (λ c. search rules) returns)
+step_spec = tie.close (tie.spec release-due-requires unfenced-cores-requires choose-requires work-requires add-t22 returns)

@@ -1,21 +1,21 @@
 -- `simulation::ticks::work` meets its contract: after each iteration the machine is the one in which the places taken off the granted set have been served.
 -- Assumes nothing.
-use mathlib.Core.Path.{◌≡◌, sym, ◌∙◌, subst}
-use mathlib.Core.Bool.{true}
+use mathlib.Core.Path.{◌≡◌, refl, sym, ap, ◌∙◌, subst}
+use mathlib.Core.Bool.{Bool, true, false, not, ◌&&◌, and-true}
 use Prim.Native.Nat.{ℕ, ◌≤◌}
 use native.Mathlib.Omega.{arith}
 use Rattle.model.specs.Search.{bit}
-use Rattle.simulation.specs.Machine.{machine_of, workedTick}
+use Rattle.model.proofs.Digits.{bit-none}
+use Rattle.simulation.specs.Machine.{machine_of, worked_tick}
 use Rattle.simulation.proofs.Served.{served-none, served-same}
-use Rattle.model.proofs.SetWalk.{taken, Off, off-turn, none-taken, all-taken}
-use Rattle.simulation.proofs.GrantStep.{GrantStep, turn, list-owed, list-member, list_on, list-out}
+use Rattle.simulation.proofs.GrantStep.{taken, GrantStep, turn, list-owed, list-member, list_on, list-out}
 use Rattle.simulation.proofs.ticks.work.Statement.{statement}
 use Rattle.simulation.proofs.ticks.work.Tie as tie
 
 abbrev invariant-loop : tie.invariant-loop
 invariant-loop granted claiming places₀ rest₀ set₀ places rest set =
     (rest ≤ granted) × ((p : ℕ) → bit rest p ≡ true → bit granted p ≡ true)
-    × (machine_of places set ≡ workedTick (taken granted rest) (machine_of places₀ claiming))
+    × (machine_of places set ≡ worked_tick (taken granted rest) (machine_of places₀ claiming))
 
 abbrev decreases-loop : tie.decreases-loop
 decreases-loop granted claiming places₀ rest₀ set₀ places rest set = rest
@@ -35,13 +35,12 @@ loop-holds c =
       λ p e. e,
       sym
           (served-none (taken a.granted a.granted) (machine_of a.places.now a.claiming) c.ranges.claiming.fits
-          (none-taken a.granted)),
+          (λ p. none-taken (bit a.granted p))),
     )
-
-at_off : (c : tie.In-loop invariant-loop decreases-loop) → Off c.before.before.args.granted c.before.loop.rest
-at_off c =
-    let l = c.before.loop in
-    off-turn c.before.before.args.granted l.rest c.loop-test.true (omega (arith, l.invariant.0, c.before.before.ranges.granted)) l.invariant.1
+  where
+    none-taken : (b : Bool) → b && not b ≡ false
+    none-taken true = refl
+    none-taken false = refl
 
 -- an iteration takes the lowest place that is left and serves it
 at-step :
@@ -56,31 +55,66 @@ at-step c =
     (turn a.granted l.rest (machine_of a.places.now a.claiming)
     c.loop-test.true (omega (arith, l.invariant.0, c.before.before.ranges.granted)) l.invariant.1 c.before.before.requires)
 
-sub-ticks : tie.Need-overflow-sub-ticks invariant-loop decreases-loop
-sub-ticks c = list-owed _ _ _ _ _ (at_off c.before).below (at-step c.before)
+shl-member : tie.Need-overflow-shl-member invariant-loop decreases-loop
+shl-member c = (at-step c).below
 
-shl-set : tie.Need-overflow-shl-set invariant-loop decreases-loop
-shl-set c = (at_off c.before.before).below
+sub-rest : tie.Need-overflow-sub-rest invariant-loop decreases-loop
+sub-rest c = (at-step c).within
+
+cast-at : tie.Need-overflow-cast-at invariant-loop decreases-loop
+cast-at c = omega (arith, (at-step c).below)
+
+mul-ticks : tie.Need-overflow-mul-ticks invariant-loop decreases-loop
+mul-ticks c = omega (arith, (at-step c).below)
+
+element-copy-out-ticks : tie.Need-element-copy-out-ticks invariant-loop decreases-loop
+element-copy-out-ticks c = omega (arith, (at-step c).below)
+
+sub-ticks : tie.Need-overflow-sub-ticks invariant-loop decreases-loop
+sub-ticks c = list-owed _ _ _ _ _ (at-step c.before)
+
+mul-places : tie.Need-overflow-mul-places invariant-loop decreases-loop
+mul-places c = omega (arith, (at-step c.before).below)
+
+element-write-places : tie.Need-element-write-places invariant-loop decreases-loop
+element-write-places c = omega (arith, (at-step c.before).below)
 
 sub-set : tie.Need-overflow-sub-set invariant-loop decreases-loop
-sub-set c = list-member _ _ _ _ _ (at_off c.before.before).below (at-step c.before.before) c.if1.true
+sub-set c = list-member _ _ _ _ _ (at-step c.before.before) c.if1.true
+
+add-places : tie.Need-overflow-add-places invariant-loop decreases-loop
+add-places c = omega (arith, (at-step c.before.before).below)
+
+mul-places-2 : tie.Need-overflow-mul-places-2 invariant-loop decreases-loop
+mul-places-2 c = omega (arith, (at-step c.before.before).below)
+
+element-copy-out-places : tie.Need-element-copy-out-places invariant-loop decreases-loop
+element-copy-out-places c = omega (arith, (at-step c.before.before).below)
+
+add-places-2 : tie.Need-overflow-add-places-2 invariant-loop decreases-loop
+add-places-2 c = omega (arith, (at-step (in-loop c)).below)
+
+mul-places-3 : tie.Need-overflow-mul-places-3 invariant-loop decreases-loop
+mul-places-3 c = omega (arith, (at-step (in-loop c)).below)
+
+element-write-places-2 : tie.Need-element-write-places-2 invariant-loop decreases-loop
+element-write-places-2 c = omega (arith, (at-step (in-loop c)).below)
 
 loop-less : tie.Need-loop-smaller invariant-loop decreases-loop
-loop-less c = (at_off (in-loop c)).falls
+loop-less c = omega (arith, (at-step (in-loop c)).some, (at-step (in-loop c)).within)
 
 loop-again : tie.Need-loop-preserved invariant-loop decreases-loop
 loop-again c =
-    let t = in-loop c in
-    let o = at_off t in
-    (omega (arith, o.falls, t.before.loop.inv.0), o.subset, list-out _ _ _ _ _ o.below (at-step t) c.before.if1.true)
+    let w = at-step (in-loop c) in
+    (omega (arith, (in-loop c).before.loop.invariant.0), w.subset, list-out _ _ _ _ _ w c.before.if1.true)
 
 loop-less-2 : tie.Need-loop-smaller-2 invariant-loop decreases-loop
-loop-less-2 c = (at_off c.before.before).falls
+loop-less-2 c = omega (arith, (at-step c.before.before).some, (at-step c.before.before).within)
 
 loop-again-2 : tie.Need-loop-preserved-2 invariant-loop decreases-loop
 loop-again-2 c =
-    let o = at_off c.before.before in
-    (omega (arith, o.falls, (loop c).loop.invariant.0), o.subset, list_on _ _ _ _ _ o.below (at-step c.before.before) c.if1.false)
+    let w = at-step c.before.before in
+    (omega (arith, (loop c).loop.invariant.0), w.subset, list_on _ _ _ _ _ w c.if1.false)
 
 -- nothing is left of the set, so all of it is taken
 returns : tie.Need-returns invariant-loop decreases-loop
@@ -89,15 +123,33 @@ returns c =
     let l = c.before.loop in
     let z : l.rest ≡ 0 = omega (arith, c.loop-test.false) in
     l.invariant.2
-    ∙ served-same (taken a.granted l.rest) (bit a.granted) (machine_of a.places.now a.claiming) (all-taken a.granted l.rest z)
+    ∙ served-same (taken a.granted l.rest) (bit a.granted) (machine_of a.places.now a.claiming)
+    (λ p. ap (λ (b : Bool). bit a.granted p && not b) (ap (λ (x : ℕ). bit x p) z ∙ bit-none p) ∙ and-true (bit a.granted p))
 
 pub work-spec : {M : Type 1} → statement M
 work-spec =
-    tie.close (tie.spec invariant-loop decreases-loop loop-holds (λ c. omega (arith, (at_off c).below)) (λ c. omega arith)
-    (λ c. omega (arith, (at_off c).below)) (λ c. omega (arith, (at_off c).below)) sub-ticks
-    (λ c. omega (arith, (at_off c.before).below)) (λ c. omega (arith, (at_off c.before).below))
-    (λ c. omega (arith, (at_off c.before.before).below)) shl-set sub-set
-    (λ c. omega (arith, (at_off c.before.before).below)) (λ c. omega (arith, (at_off c.before.before).below))
-    (λ c. omega (arith, (at_off c.before.before).below)) (λ c. omega (arith, (at_off (in-loop c)).below))
-    (λ c. omega (arith, (at_off (in-loop c)).below)) (λ c. omega (arith, (at_off (in-loop c)).below)) loop-less
-    loop-again loop-less-2 loop-again-2 returns)
+    tie.close
+    (tie.spec
+    invariant-loop
+    decreases-loop
+    loop-holds
+    shl-member
+    sub-rest
+    cast-at
+    mul-ticks
+    element-copy-out-ticks
+    sub-ticks
+    mul-places
+    element-write-places
+    sub-set
+    add-places
+    mul-places-2
+    element-copy-out-places
+    add-places-2
+    mul-places-3
+    element-write-places-2
+    loop-less
+    loop-again
+    loop-less-2
+    loop-again-2
+    returns)

@@ -2,42 +2,37 @@
 use mathlib.Core.Path.{◌≡◌, subst, sym}
 use Prim.Native.Nat.{ℕ, ◌+◌, ◌-◌, ◌<◌, ◌≤◌}
 use native.Mathlib.Omega.{arith}
-use borrow.Author.Rules.{rules}
 use lib.ListN.{length, set}
 use Rattle.table.proofs.Places.{tasks-length}
 use Rattle.table.specs.declared.Loaded.{Loaded}
-use Rattle.table.specs.Fit.{Fit, loadedTable}
+use Rattle.table.specs.Fit.{Fit, loaded_table}
 use Rattle.slack.proofs.Listed.{Filled, filled-end, filled_more, filled-start}
 use Rattle.slack.proofs.growth.figures.Statement.{statement}
 use Rattle.slack.proofs.growth.figures.Tie as tie
 
 abbrev invariant-loop : tie.invariant-loop
-invariant-loop table tested figures₀ place₀ figures place = (place ≤ table.count) × Filled (loadedTable table) figures place
+invariant-loop table figures₀ place₀ figures place = (place ≤ table.count) × Filled (loaded_table table) figures place
 
 abbrev decreases-loop : tie.decreases-loop
-decreases-loop table tested figures₀ place₀ figures place = table.count - place
+decreases-loop table figures₀ place₀ figures place = table.count - place
 
 -- the iteration in which a slack is computed
 abbrev turn : tie.After-slack-at invariant-loop decreases-loop → tie.Then1 invariant-loop decreases-loop
 turn c = c.before
 
--- the call
-abbrev call : tie.At-loop invariant-loop decreases-loop → tie.Start invariant-loop decreases-loop
-call k = k.before.before
-
 -- its place is one of the 32
 few : (c : tie.Then1 invariant-loop decreases-loop) → c.before.before.loop.place < 32
-few c = omega (arith, c.if1.true, (call c.before.before).pre.0.few)
+few c = omega (arith, c.if1.true, c.before.before.before.requires.0.few)
 
 -- as many tasks as the table counts
-tasks : (t : Loaded) → Fit t → length (loadedTable t).tasks ≡ t.count
+tasks : (t : Loaded) → Fit t → length (loaded_table t).tasks ≡ t.count
 tasks t fit = tasks-length t.tasks t.count (omega (arith, fit.few, fit.places))
 
 loop-holds : tie.Need-loop-init invariant-loop decreases-loop
-loop-holds c = (omega arith, filled-start (loadedTable c.before.args.table))
+loop-holds c = (omega arith, filled-start (loaded_table c.args.table))
 
 slack-at-requires : tie.Need-slack-at-requires invariant-loop decreases-loop
-slack-at-requires c κs = let s = call c.before.before in (s.pre.0, c.if1.true, s.pre.1)
+slack-at-requires c κs = let s = c.before.before.before in (s.requires.0, c.if1.true, s.requires.1)
 
 mul-figures : tie.Need-overflow-mul-figures invariant-loop decreases-loop
 mul-figures c = omega (arith, few (turn c))
@@ -54,7 +49,7 @@ loop-less c = omega (arith, (turn c).if1.true)
 loop-again : tie.Need-loop-preserved invariant-loop decreases-loop
 loop-again c =
     let l = (turn c).before.before.loop in
-    let s = loadedTable (call (turn c).before.before).args.table in (
+    let s = loaded_table (turn c).before.before.before.args.table in (
       omega (arith, (turn c).if1.true),
       subst (λ (g : ℕ). Filled s (set l.figures l.place g) (l.place + 1)) (sym c.slack-at.ensures)
           (filled_more s l.figures l.place (few (turn c)) l.inv.1),
@@ -63,12 +58,22 @@ loop-again c =
 returns : tie.Need-returns invariant-loop decreases-loop
 returns c =
     let l = c.before.before.loop in
-    let a = call c.before.before in
+    let a = c.before.before.before in
     let t = a.args.table in
-    let n = tasks t a.pre.0 in
-    filled-end (loadedTable t) l.figures l.place (omega (arith, a.pre.0.few)) (omega (arith, l.invariant.0, c.if1.false)) l.invariant.1
+    let n = tasks t a.requires.0 in
+    filled-end (loaded_table t) l.figures l.place (omega (arith, a.requires.0.few)) (omega (arith, l.invariant.0, c.if1.false)) l.invariant.1
 
 pub figures-spec : {M : Type 1} → statement M
 figures-spec =
-    tie.close (tie.spec invariant-loop decreases-loop (λ c κs. search rules) loop-holds slack-at-requires mul-figures array-write-figures add-place loop-less
-    loop-again returns)
+    tie.close
+    (tie.spec
+    invariant-loop
+    decreases-loop
+    loop-holds
+    slack-at-requires
+    mul-figures
+    array-write-figures
+    add-place
+    loop-less
+    loop-again
+    returns)

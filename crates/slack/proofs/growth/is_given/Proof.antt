@@ -2,19 +2,25 @@
 use mathlib.Core.Bool.{not}
 use mathlib.Core.Path.{ap, sym, ◌∙◌}
 use borrow.Author.Rules.{rules}
-use Rattle.table.specs.Fit.{loadedTable}
+use Rattle.table.specs.Fit.{loaded_table}
 use Rattle.slack.proofs.Ordered.{gives-accepted, gives-never}
 use Rattle.slack.proofs.growth.is_given.Statement.{statement}
 use Rattle.slack.proofs.growth.is_given.Tie as tie
+
+is-ordered-requires : tie.Need-is-ordered-requires
+is-ordered-requires c κs = search rules
+
+misses-requires : tie.Need-misses-requires
+misses-requires c κs = search rules
 
 returns : tie.Need-returns
 returns c =
     let t = c.before in
     ap not c.misses.ensures
-    ∙ gives-accepted (loadedTable t.before.before.before.args.table) (sym t.before.is-ordered.ensures ∙ t.if1.true)
+    ∙ gives-accepted (loaded_table t.before.before.before.args.table) (sym t.before.is-ordered.ensures ∙ t.if1.true)
 
 returns-2 : tie.Need-returns-2
-returns-2 c = gives-never (loadedTable c.before.before.before.args.table) (sym c.before.is-ordered.ensures ∙ c.if1.false)
+returns-2 c = gives-never (loaded_table c.before.before.before.args.table) (sym c.before.is-ordered.ensures ∙ c.if1.false)
 
 pub is-given-spec : {M : Type 1} → statement M
-is-given-spec = tie.close (tie.spec (λ c κs. search rules) (λ c κs. search rules) returns returns-2)
+is-given-spec = tie.close (tie.spec is-ordered-requires misses-requires returns returns-2)

@@ -6,12 +6,12 @@ use native.Mathlib.Omega.{arith}
 use native.Mathlib.Nat.{add-zero}
 use native.Mathlib.Numerals.{add-one}
 use lib.ListN.{length}
-use Rattle.table.specs.Words.{headerWords, recordWords, records}
+use Rattle.table.specs.Words.{header_words, record_words, records}
 use Rattle.table.proofs.HeaderPasses.{header-passes, words_long, words-few}
 use Rattle.table.proofs.Walking.{Walking, walking-none, walking-again, walking-room, walking-more, walked-past, walked-again, walked_whole}
 use Rattle.table.proofs.chain.walk.Statement.{statement}
 use Rattle.table.proofs.chain.walk.Tie as tie
-use Rattle.model.specs.Sizes.{mostTasks}
+use Rattle.model.specs.Sizes.{most_tasks}
 
 abbrev invariant-loop : tie.invariant-loop
 invariant-loop words records tasks₀ seen₀ count₀ at₀ tasks seen count at = Walking words tasks seen count at
@@ -28,10 +28,10 @@ abbrev entry : tie.After-shared-slice-known2 invariant-loop decreases-loop → t
 entry c = c.before.before.before
 
 -- the header passes
-long : (c : tie.After-shared-slice-known invariant-loop decreases-loop) → headerWords ≤ length c.before.args.words.now
+long : (c : tie.After-shared-slice-known invariant-loop decreases-loop) → header_words ≤ length c.before.args.words.now
 long c = let ws = c.before.args.words.now in words_long ws (header-passes ws c.before.requires).words-in
 
-few : (c : tie.At-loop invariant-loop decreases-loop) → records (entry c.before).args.words.now ≤ mostTasks
+few : (c : tie.At-loop invariant-loop decreases-loop) → records (entry c.before).args.words.now ≤ most_tasks
 few c =
     let s = entry c.before in
     let ws = s.args.words.now in
@@ -48,6 +48,9 @@ room c =
 sub-records : tie.Need-overflow-sub-records invariant-loop decreases-loop
 sub-records c = omega (arith, long c)
 
+no-task-requires : tie.Need-no-task-requires invariant-loop decreases-loop
+no-task-requires c κs = search rules
+
 shared-slice-read-at : tie.Need-shared-slice-read-at invariant-loop decreases-loop
 shared-slice-read-at c = omega (arith, long c.before.before)
 
@@ -62,6 +65,9 @@ returns c = walked_whole _ _ _ _ _ c.before.loop.invariant c.if1.true
 
 returns-2 : tie.Need-returns-2 invariant-loop decreases-loop
 returns-2 c = walked-past _ _ _ _ _ c.before.before.loop.invariant c.if2.true
+
+sub-index : tie.Need-overflow-sub-index invariant-loop decreases-loop
+sub-index c = omega arith
 
 array-read-if3 : tie.Need-array-read-if3 invariant-loop decreases-loop
 array-read-if3 c = omega (arith, few c.before.before)
@@ -98,7 +104,7 @@ shared-slice-read-at-2 : tie.Need-shared-slice-read-at-2 invariant-loop decrease
 shared-slice-read-at-2 c = omega (arith, few (loop c.before.before))
 
 cast-at-2 : tie.Need-overflow-cast-at-2 invariant-loop decreases-loop
-cast-at-2 c = omega (arith, c.shared-slice-known3.given (headerWords + ((loop c.before.before).loop.at - 1) * recordWords))
+cast-at-2 c = omega (arith, c.shared-slice-known3.given (header_words + ((loop c.before.before).loop.at - 1) * record_words))
 
 add-count : tie.Need-overflow-add-count invariant-loop decreases-loop
 add-count c = omega (arith, room c.before.before, few (loop c.before.before))
@@ -112,12 +118,34 @@ loop-again c =
     let s = loop e in
     let ws = (entry s.before).args.words.now in
     let more =
-    walking-more ws s.loop.tasks s.loop.seen s.loop.count s.loop.at s.loop.inv e.before.before.if1.false e.before.if2.false (few s)
-    e.if3.false in
-    rw (add-one s.loop.count, c.before.task-of.ensures) (rw (add-zero (headerWords + (s.loop.at - 1) * recordWords)) at more)
+    walking-more ws s.loop.tasks s.loop.seen s.loop.count s.loop.at s.loop.inv e.before.before.if1.false e.before.if2.false (few s) e.if3.false in
+    rw (add-one s.loop.count, c.before.task-of.ensures) (rw (add-zero (header_words + (s.loop.at - 1) * record_words)) at more)
 
 pub walk-spec : {M : Type 1} → statement M
 walk-spec =
-    tie.close (tie.spec invariant-loop decreases-loop sub-records (λ c κs. search rules) shared-slice-read-at cast-at loop-holds
-    returns returns-2 (λ c. omega arith) array-read-if3 returns-3 array-write-seen task-of-requires mul-tasks
-    array-set-from-tasks mul_at add_at mul-at-2 shared-slice-read-at-2 cast-at-2 add-count loop-less loop-again)
+    tie.close
+    (tie.spec
+    invariant-loop
+    decreases-loop
+    sub-records
+    no-task-requires
+    shared-slice-read-at
+    cast-at
+    loop-holds
+    returns
+    returns-2
+    sub-index
+    array-read-if3
+    returns-3
+    array-write-seen
+    task-of-requires
+    mul-tasks
+    array-set-from-tasks
+    mul_at
+    add_at
+    mul-at-2
+    shared-slice-read-at-2
+    cast-at-2
+    add-count
+    loop-less
+    loop-again)

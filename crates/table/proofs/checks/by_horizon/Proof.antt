@@ -7,10 +7,10 @@ use borrow.Author.Tests.{ltb-false}
 use native.Mathlib.Omega.{arith}
 use lib.ListN.{length}
 use Rattle.model.specs.Horizon.{horizon}
-use Rattle.model.specs.Sizes.{mostTasks}
-use Rattle.table.specs.Task.{tasksOf}
-use Rattle.table.specs.Limits.{horizonOut, mostHorizon}
-use Rattle.table.specs.Load.{tableWith, passing}
+use Rattle.model.specs.Sizes.{most_tasks}
+use Rattle.table.specs.Task.{tasks_of}
+use Rattle.table.specs.Limits.{horizon_out, most_horizon}
+use Rattle.table.specs.Load.{table_with, passing}
 use Rattle.table.proofs.Loads.{horizon-test, by-far, by_near, made}
 use Rattle.table.proofs.checks.by_horizon.Statement.{statement}
 use Rattle.table.proofs.checks.by_horizon.Tie as tie
@@ -25,41 +25,52 @@ last-start c = c.before.before.before
 
 -- the test of the horizon
 test : (c : tie.After-horizon-out)
-    → horizonOut (c.before.before.last-start.result + c.before.hyperperiod.result)
-    ≡ horizonOut (horizon (tableWith (entry c).args.cores (entry c).args.fence (entry c).args.rule
-    (tasksOf (entry c).args.tasks (entry c).args.count)))
+    → horizon_out (c.before.before.last-start.result + c.before.hyperperiod.result)
+    ≡ horizon_out (horizon (table_with (entry c).args.cores (entry c).args.fence (entry c).args.rule (tasks_of (entry c).args.tasks (entry c).args.count)))
 test c =
     let a = (entry c).args in
-    horizon-test (tableWith a.cores a.fence a.rule (tasksOf a.tasks a.count)) _ _ c.before.before.last-start.ensures
-    c.before.hyperperiod.ensures
+    horizon-test (table_with a.cores a.fence a.rule (tasks_of a.tasks a.count)) _ _ c.before.before.last-start.ensures c.before.hyperperiod.ensures
+
+last-start-requires : tie.Need-last-start-requires
+last-start-requires c κs = search rules
+
+hyperperiod-requires : tie.Need-hyperperiod-requires
+hyperperiod-requires c κs = search rules
+
+horizon-out-requires : tie.Need-horizon-out-requires
+horizon-out-requires c κs = search rules
+
+refused-requires : tie.Need-refused-requires
+refused-requires c κs = search rules
 
 returns : tie.Need-returns
 returns c =
     let t = c.before.before in
     let a = (entry t).args in
-    let s = tableWith a.cores a.fence a.rule (tasksOf a.tasks a.count) in
+    let s = table_with a.cores a.fence a.rule (tasks_of a.tasks a.count) in
     c.refused.ensures ∙ sym (by-far s (passing a.rule s) (sym (test t) ∙ sym t.horizon-out.ensures ∙ c.before.if1.true))
 
 add-t10 : tie.Need-overflow-add-t10
-add-t10 c =
-    omega (
-      arith,
-      ltb-false mostHorizon ((last-start c).last-start.result + c.before.before.hyperperiod.result)
-          (sym c.before.horizon-out.ensures ∙ c.if1.false),
-    )
+add-t10 c = omega (arith, ltb-false most_horizon ((last-start c).last-start.result + c.before.before.hyperperiod.result) (sym c.before.horizon-out.ensures ∙ c.if1.false))
 
 returns-2 : tie.Need-returns-2
 returns-2 c =
     let t = c.before in
     let a = (entry t).args in
-    let s = tableWith a.cores a.fence a.rule (tasksOf a.tasks a.count) in
+    let s = table_with a.cores a.fence a.rule (tasks_of a.tasks a.count) in
     let near = sym t.horizon-out.ensures ∙ c.if1.false in
-    let there : length a.tasks ≡ mostTasks = search rules in
-    made a.cores a.fence a.rule a.tasks a.count _ _ (omega arith) (entry t).requires.1.1.1 t.before.before.last-start.ensures
-    t.before.hyperperiod.ensures near
+    let there : length a.tasks ≡ most_tasks = search rules in
+    made a.cores a.fence a.rule a.tasks a.count _ _ (omega arith) (entry t).requires.1.1.1 t.before.before.last-start.ensures t.before.hyperperiod.ensures near
     ∙ sym (by_near s (passing a.rule s) (sym (test t) ∙ near))
 
 pub by-horizon-spec : {M : Type 1} → statement M
 by-horizon-spec =
-    tie.close (tie.spec (λ c κs. search rules) (λ c κs. search rules) (λ c κs. search rules) (λ c κs. search rules)
-    returns add-t10 returns-2)
+    tie.close
+    (tie.spec
+    last-start-requires
+    hyperperiod-requires
+    horizon-out-requires
+    refused-requires
+    returns
+    add-t10
+    returns-2)

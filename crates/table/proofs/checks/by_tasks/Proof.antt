@@ -6,13 +6,13 @@ use native.Mathlib.Omega.{arith}
 use native.Mathlib.Numerals.{add-one}
 use Prim.Native.Nat.{ℕ, min}
 use lib.ListN.{get_or, length}
-use Rattle.model.specs.Fence.{unfencedCount}
+use Rattle.model.specs.Fence.{unfenced_count}
 use Rattle.model.specs.Task as model
-use Rattle.model.specs.Sizes.{mostTasks}
-use Rattle.table.specs.Task.{noTask, task_of, tasksOf}
-use Rattle.table.specs.Answer.{firstOut, widthLimit}
-use Rattle.table.specs.Limits.{taskNumber}
-use Rattle.table.specs.Load.{tableWith, passing}
+use Rattle.model.specs.Sizes.{most_tasks}
+use Rattle.table.specs.Task.{no_task, task_of, tasks_of}
+use Rattle.table.specs.Answer.{first_out, width_limit}
+use Rattle.table.specs.Limits.{task_number}
+use Rattle.table.specs.Load.{table_with, passing}
 use Rattle.table.proofs.Places.{tasks-length, task-at}
 use Rattle.table.proofs.Loads.{by_number, by-none, in-limits}
 use Rattle.table.proofs.checks.by_tasks.Statement.{statement}
@@ -24,22 +24,46 @@ first_out c = c.before.before.before
 
 -- the table that is tested, and its tasks counted
 abbrev given : tie.After-unfenced-count → model.Table
-given c = tableWith c.before.args.cores c.before.args.fence c.before.args.rule (tasksOf c.before.args.t4 c.before.args.count)
+given c = table_with c.before.args.cores c.before.args.fence c.before.args.rule (tasks_of c.before.args.t4 c.before.args.count)
 
 counted : (c : tie.After-unfenced-count) → length (given c).tasks ≡ c.before.args.count
 counted c =
-    let there : length c.before.args.t4 ≡ mostTasks = search rules in
+    let there : length c.before.args.t4 ≡ most_tasks = search rules in
     tasks-length c.before.args.t4 c.before.args.count (omega arith)
 
 -- a width is measured against the unfenced cores
-measured : (c : tie.After-unfenced-count) → c.unfenced-count.result ≡ widthLimit (given c)
+measured : (c : tie.After-unfenced-count) → c.unfenced-count.result ≡ width_limit (given c)
 measured c =
     let all : min c.before.args.cores 64 ≡ c.before.args.cores = omega (arith, c.before.requires.0) in
-    c.unfenced-count.ensures ∙ ap (unfencedCount c.before.args.fence) all
+    c.unfenced-count.ensures ∙ ap (unfenced_count c.before.args.fence) all
 
 -- the first place with a task that is turned down
-out : (c : tie.After-first-out) → firstOut (widthLimit (given c.before)) (given c.before).tasks ≡ c.first_out.result
-out c = ap (λ (m : ℕ). firstOut m (given c.before).tasks) (sym (measured c.before)) ∙ sym c.first_out.ensures
+out : (c : tie.After-first-out) → first_out (width_limit (given c.before)) (given c.before).tasks ≡ c.first_out.result
+out c = ap (λ (m : ℕ). first_out m (given c.before).tasks) (sym (measured c.before)) ∙ sym c.first_out.ensures
+
+unfenced-count-requires : tie.Need-unfenced-count-requires
+unfenced-count-requires c κs = search rules
+
+first-out-requires : tie.Need-first-out-requires
+first-out-requires c κs = search rules
+
+mul-task : tie.Need-overflow-mul-task
+mul-task c = search rules
+
+array-copy-out-task : tie.Need-array-copy-out-task
+array-copy-out-task c = search rules
+
+task-number-requires : tie.Need-task-number-requires
+task-number-requires c κs = search rules
+
+cast-refused : tie.Need-overflow-cast-refused
+cast-refused c = search rules
+
+add-refused : tie.Need-overflow-add-refused
+add-refused c = search rules
+
+refused-requires : tie.Need-refused-requires
+refused-requires c κs = search rules
 
 returns : tie.Need-returns
 returns c =
@@ -48,10 +72,9 @@ returns c =
     let o = f.before in
     let a = o.before.args in
     let place = f.first_out.result in
-    let number : n.task-number.result ≡ taskNumber (widthLimit (given o)) (model.task (given o) place) =
+    let number : n.task-number.result ≡ task_number (width_limit (given o)) (model.task (given o) place) =
     n.task-number.ensures
-    ∙ (ap (λ (m : ℕ). taskNumber m (task_of (get_or a.t4 place noTask))) (measured o)
-    ∙ sym (ap (taskNumber (widthLimit (given o))) (task-at a.t4 a.count place (omega arith)))) in
+    ∙ (ap (λ (m : ℕ). task_number m (task_of (get_or a.t4 place no_task))) (measured o) ∙ sym (ap (task_number (width_limit (given o))) (task-at a.t4 a.count place (omega arith)))) in
     c.refused.ensures
     ∙ rw (number, add-one place)
     (sym (by_number (given o) (passing a.rule (given o)) place (out f) (omega (arith, counted o))))
@@ -74,6 +97,16 @@ returns-2 c =
 
 pub by-tasks-spec : {M : Type 1} → statement M
 by-tasks-spec =
-    tie.close (tie.spec (λ c κs. search rules) (λ c κs. search rules) (λ c. search rules) (λ c. search rules)
-    (λ c κs. search rules) (λ c. search rules) (λ c. search rules) (λ c κs. search rules) returns by-horizon-requires
+    tie.close
+    (tie.spec
+    unfenced-count-requires
+    first-out-requires
+    mul-task
+    array-copy-out-task
+    task-number-requires
+    cast-refused
+    add-refused
+    refused-requires
+    returns
+    by-horizon-requires
     returns-2)

@@ -6,7 +6,10 @@ use Rattle.table.specs.declared.Task.{Task}
 use Rattle.table.specs.declared.Answer.TheVariants.{Refused}
 use Rattle.table.proofs.checks.refused.Statement.{statement}
 use Rattle.table.proofs.checks.refused.Tie as tie
-use Rattle.model.specs.Sizes.{mostTasks}
+use Rattle.model.specs.Sizes.{most_tasks}
+
+no-task-requires : tie.Need-no-task-requires
+no-task-requires c κs = search rules
 
 returns : tie.Need-returns
 returns c =
@@ -17,11 +20,11 @@ returns c =
       cores = 0;
       fence = 0;
       rule = 0;
-      tasks = replicate mostTasks t;
+      tasks = replicate most_tasks t;
       start = 0;
       period = 0;
       horizon = 0;
     }) c.no-task.ensures
 
 pub refused-spec : {M : Type 1} → statement M
-refused-spec = tie.close (tie.spec (λ c κs. search rules) returns)
+refused-spec = tie.close (tie.spec no-task-requires returns)

@@ -15,6 +15,9 @@ decreases-loop a b x₀ y₀ x y = y
 loop-holds : tie.Need-loop-init invariant-loop decreases-loop
 loop-holds c = same_start c.args.a c.args.b
 
+rem-rest : tie.Need-nonzero-rem-rest invariant-loop decreases-loop
+rem-rest c = omega arith
+
 loop-less : tie.Need-loop-smaller invariant-loop decreases-loop
 loop-less c = mod-lt c.before.loop.x c.loop-test.true
 
@@ -25,4 +28,4 @@ returns : tie.Need-returns invariant-loop decreases-loop
 returns c = same_end c.before.before.args.a c.before.before.args.b c.before.loop.x c.before.loop.y c.before.loop.invariant (omega arith)
 
 pub gcd-spec : {M : Type 1} → statement M
-gcd-spec = tie.close (tie.spec invariant-loop decreases-loop loop-holds (λ c. omega arith) loop-less loop-again returns)
+gcd-spec = tie.close (tie.spec invariant-loop decreases-loop loop-holds rem-rest loop-less loop-again returns)

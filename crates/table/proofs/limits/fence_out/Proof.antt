@@ -11,22 +11,24 @@ use lib.Pow.{pow_mono, pow_pos}
 use Rattle.model.specs.Search.{up_from}
 use Rattle.cores.specs.Cores.{cores}
 use Rattle.cores.proofs.Runs.{first-set}
-use Rattle.table.specs.Limits.{fenceOut}
+use Rattle.table.specs.Limits.{fence_out}
 use Rattle.table.proofs.limits.fence_out.Statement.{statement}
 use Rattle.table.proofs.limits.fence_out.Tie as tie
 
-exact : (m f all : ℕ) → f < 2 ^ 64 → all < 2 ^ 64 → cores all ≡ up_from 0 (min m 64) → leb m 64 && leb all f ≡ fenceOut m f
+exact : (m f all : ℕ) → f < 2 ^ 64 → all < 2 ^ 64 → cores all ≡ up_from 0 (min m 64) → leb m 64 && leb all f ≡ fence_out m f
 exact m f all h k e = go (leb m 64) refl
   where
-    go : (t : Bool) → leb m 64 ≡ t → t && leb all f ≡ fenceOut m f
+    go : (t : Bool) → leb m 64 ≡ t → t && leb all f ≡ fence_out m f
     go true l = ap (λ (x : ℕ). leb x f) (first-set all m k (leb-true m 64 l) e)
     go false l =
         let far : 2 ^ 65 ≤ 2 ^ m = pow_mono (leb-false m 64 l) in
         sym (lt-leb (2 ^ m - 1) f (omega (arith, far)))
 
+first-cores-requires : tie.Need-first-cores-requires
+first-cores-requires c κs = search rules
+
 returns : tie.Need-returns
-returns c =
-    exact c.before.args.cores c.before.args.fence c.first-cores.result (omega arith) (omega (arith, c.first-cores.type-inv)) c.first-cores.ensures
+returns c = exact c.before.args.cores c.before.args.fence c.first-cores.result (omega arith) (omega (arith, c.first-cores.type-inv)) c.first-cores.ensures
 
 pub fence-out-spec : {M : Type 1} → statement M
-fence-out-spec = tie.close (tie.spec (λ c κs. search rules) returns)
+fence-out-spec = tie.close (tie.spec first-cores-requires returns)

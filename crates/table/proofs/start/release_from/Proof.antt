@@ -9,14 +9,26 @@ use Rattle.table.proofs.Starts.{since, since-difference}
 use Rattle.table.proofs.start.release_from.Statement.{statement}
 use Rattle.table.proofs.start.release_from.Tie as tie
 
+add-ahead : tie.Need-overflow-add-ahead
+add-ahead c = search rules
+
+sub-ahead : tie.Need-overflow-sub-ahead
+sub-ahead c = search rules
+
 since-elapsed : (c : tie.Start) → since c.args.t c.args.task.offset ≡ c.args.t - c.args.task.offset
 since-elapsed c = since-difference c.args.t c.args.task.offset (omega arith) (omega arith)
 
 mul-since : tie.Need-overflow-mul-since
 mul-since c = omega (arith, since-elapsed c)
 
+sub-result : tie.Need-overflow-sub-result
+sub-result c = search rules
+
 add-result : tie.Need-overflow-add-result
 add-result c = omega (arith, since-elapsed c)
+
+div-result : tie.Need-nonzero-div-result
+div-result c = search rules
 
 mul-result : tie.Need-overflow-mul-result
 mul-result c = record { fits = lt_of_le_of_lt (div-mul-le_self _ _) (omega (arith, since-elapsed c)) }
@@ -30,5 +42,4 @@ returns c =
     ap (λ (ticks : ℕ). τ.offset + (ticks + (τ.period - 1)) / τ.period * τ.period) (since-elapsed c)
 
 pub release-from-spec : {M : Type 1} → statement M
-release-from-spec = tie.close (tie.spec (λ c. search rules) (λ c. search rules) mul-since (λ c. search rules) add-result
-    (λ c. search rules) mul-result add-result-2 returns)
+release-from-spec = tie.close (tie.spec add-ahead sub-ahead mul-since sub-result add-result div-result mul-result add-result-2 returns)

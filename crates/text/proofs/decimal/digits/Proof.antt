@@ -3,19 +3,25 @@
 use mathlib.Core.Path.{◌≡◌}
 use Prim.Native.Nat.{◌+◌, ◌≤◌}
 use native.Mathlib.Omega.{arith}
-use Rattle.text.specs.Decimal.{digitCount}
+use Rattle.text.specs.Decimal.{digit_count}
 use Rattle.text.proofs.Decimals.{count-one, count-more, count_most}
 use Rattle.text.proofs.decimal.digits.Statement.{statement}
 use Rattle.text.proofs.decimal.digits.Tie as tie
 
 abbrev invariant-loop : tie.invariant-loop
-invariant-loop number left₀ count₀ left count = (digitCount number + 1 ≡ count + digitCount left) × (left ≤ number)
+invariant-loop number left₀ count₀ left count = (digit_count number + 1 ≡ count + digit_count left) × (left ≤ number)
 
 abbrev decreases-loop : tie.decreases-loop
 decreases-loop number left₀ count₀ left count = left
 
+loop-holds : tie.Need-loop-init invariant-loop decreases-loop
+loop-holds c = omega arith
+
 add-count : tie.Need-overflow-add-count invariant-loop decreases-loop
 add-count c = let n = c.before.before.args.number in omega (arith, count_most 19 n (omega arith))
+
+loop-less : tie.Need-loop-smaller invariant-loop decreases-loop
+loop-less c = omega arith
 
 loop-again : tie.Need-loop-preserved invariant-loop decreases-loop
 loop-again c = omega (arith, count-more c.before.loop.left (omega arith))
@@ -24,4 +30,4 @@ returns : tie.Need-returns invariant-loop decreases-loop
 returns c = omega (arith, count-one c.before.loop.left (omega arith))
 
 pub digits-spec : {M : Type 1} → statement M
-digits-spec = tie.close (tie.spec invariant-loop decreases-loop (λ c. omega arith) add-count (λ c. omega arith) loop-again returns)
+digits-spec = tie.close (tie.spec invariant-loop decreases-loop loop-holds add-count loop-less loop-again returns)

@@ -7,7 +7,7 @@ use native.Mathlib.Nat.{add-zero}
 use native.Mathlib.Omega.{arith}
 use borrow.Author.Rules.{rules}
 use lib.ListN.{length, set, length-set}
-use Rattle.text.specs.Decimal.{lastDigits, digitCount, decimal}
+use Rattle.text.specs.Decimal.{last_digits, digit_count, decimal}
 use Rattle.text.specs.Written.{written}
 use Rattle.text.proofs.Decimals.{decimal-length}
 use Rattle.text.proofs.Writing.{written_none, written-before, last-before}
@@ -16,8 +16,7 @@ use Rattle.text.proofs.decimal.put.Tie as tie
 
 abbrev invariant-loop : tie.invariant-loop
 invariant-loop line₀ at number count left₀ k₀ line left k =
-    (s : List ℕ) × (line ≡ written line₀ (at + k) s) × (lastDigits k left ++ s ≡ decimal number) × (k ≤ count) × (count ≡ digitCount number)
-    × (length line ≡ length line₀)
+    (s : List ℕ) × (line ≡ written line₀ (at + k) s) × (last_digits k left ++ s ≡ decimal number) × (k ≤ count) × (count ≡ digit_count number) × (length line ≡ length line₀)
 
 abbrev decreases-loop : tie.decreases-loop
 decreases-loop line₀ at number count left₀ k₀ line left k = k
@@ -26,18 +25,32 @@ decreases-loop line₀ at number count left₀ k₀ line left k = k
 abbrev entry : tie.At-loop invariant-loop decreases-loop → tie.Start invariant-loop decreases-loop
 entry c = c.before.before.before
 
+digits-requires : tie.Need-digits-requires invariant-loop decreases-loop
+digits-requires c κs = search rules
+
 loop-holds : tie.Need-loop-init invariant-loop decreases-loop
 unfolding decimal
 loop-holds c =
-    let a = c.before.before.args in (
-      [],
-      sym (written_none a.line.now (a.at + c.digits.result)),
-      append-nil _
-          ∙ ap (λ (k : ℕ). lastDigits k a.number) c.digits.ensures,
-      omega arith,
-      c.digits.ensures,
-      refl,
-    )
+    let a = c.before.before.args in
+    ([], sym (written_none a.line.now (a.at + c.digits.result)), append-nil _ ∙ ap (λ (k : ℕ). last_digits k a.number) c.digits.ensures, omega arith, c.digits.ensures, refl)
+
+sub-k : tie.Need-overflow-sub-k invariant-loop decreases-loop
+sub-k c = search rules
+
+cast-line : tie.Need-overflow-cast-line invariant-loop decreases-loop
+cast-line c = search rules
+
+add-line : tie.Need-overflow-add-line invariant-loop decreases-loop
+add-line c = search rules
+
+add-line-2 : tie.Need-overflow-add-line-2 invariant-loop decreases-loop
+add-line-2 c = search rules
+
+slice-write-line : tie.Need-slice-write-line invariant-loop decreases-loop
+slice-write-line c = search rules
+
+loop-less : tie.Need-loop-smaller invariant-loop decreases-loop
+loop-less c = search rules
 
 loop-again : tie.Need-loop-preserved invariant-loop decreases-loop
 loop-again c =
@@ -55,13 +68,19 @@ loop-again c =
       length-set l.line i d ∙ l.invariant.5,
     )
 
+add-result : tie.Need-overflow-add-result invariant-loop decreases-loop
+add-result c = search rules
+
+same_length : tie.Need-same-length invariant-loop decreases-loop
+same_length c = search rules
+
 returns : tie.Need-returns invariant-loop decreases-loop
-unfolding lastDigits
+unfolding last_digits
 returns c =
     let a = (entry c.before).args in
     let l = c.before.loop in
     let over : l.k ≡ 0 = omega arith in
-    let whole : l.invariant.0 ≡ decimal a.number = ap (λ (k : ℕ). lastDigits k l.left ++ l.invariant.0) (sym over) ∙ l.invariant.2 in
+    let whole : l.invariant.0 ≡ decimal a.number = ap (λ (k : ℕ). last_digits k l.left ++ l.invariant.0) (sym over) ∙ l.invariant.2 in
     record {
       bytes = l.invariant.1 ∙ ap₂ (λ (k : ℕ) (s : List ℕ). written a.line.now k s) (ap (λ (k : ℕ). a.at + k) over ∙ add-zero a.at) whole;
       ends = omega (arith, decimal-length a.number);
@@ -69,6 +88,19 @@ returns c =
 
 pub put_spec : {M : Type 1} → statement M
 put_spec =
-    tie.close (tie.spec invariant-loop decreases-loop (λ c κs. search rules) loop-holds (λ c. search rules) (λ c. search rules)
-    (λ c. search rules) (λ c. search rules) (λ c. search rules) (λ c. search rules) loop-again (λ c. search rules)
-    (λ c. search rules) returns)
+    tie.close
+    (tie.spec
+    invariant-loop
+    decreases-loop
+    digits-requires
+    loop-holds
+    sub-k
+    cast-line
+    add-line
+    add-line-2
+    slice-write-line
+    loop-less
+    loop-again
+    add-result
+    same_length
+    returns)

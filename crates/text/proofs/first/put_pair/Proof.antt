@@ -54,18 +54,18 @@ field_put line m n s at end number most k f p q =
 parts :
     (c : tie.After-slice-known4)
     → (Put (entry-from-slice-known4 c).args.line.now 0
-    (((entry-from-slice-known4 c).args.word.now ++ (space ∷ decimal (entry-from-slice-known4 c).args.first))
-    ++ (space ∷ decimal (entry-from-slice-known4 c).args.second))
+    (((entry-from-slice-known4 c).args.word.now ++ (space ∷ decimal (entry-from-slice-known4 c).args.first)) ++ (space ∷ decimal (entry-from-slice-known4 c).args.second))
     c.before.before.put-field2.new.0 c.before.before.put-field2.result)
-    × (c.before.before.put-field2.result ≤ 7 + 11 + 11)
-    × (length c.before.before.put-field2.new.0 ≡ length (entry-from-slice-known4 c).args.line.now)
+    × (c.before.before.put-field2.result ≤ 7 + 11 + 11) × (length c.before.before.put-field2.new.0 ≡ length (entry-from-slice-known4 c).args.line.now)
 parts c =
     let a = (entry-from-slice-known4 c).args in
     let p = (entry-from-slice-known4 c).requires in
     let w = word-put a.line.now a.word.now _ _ p.0 p.1 (copy (put-field-from-line3 c.before).before).copy.ensures in
     let f = field_put a.line.now _ _ a.word.now _ _ a.first 7 p.1 (omega arith) w (put-field-from-line3 c.before).put-field.ensures in
-    field_put a.line.now _ _ (a.word.now ++ (space ∷ decimal a.first)) _ _ a.second (7 + 11) p.1 (omega arith) f
-    c.before.before.put-field2.ensures
+    field_put a.line.now _ _ (a.word.now ++ (space ∷ decimal a.first)) _ _ a.second (7 + 11) p.1 (omega arith) f c.before.before.put-field2.ensures
+
+copy-requires : tie.Need-copy-requires
+copy-requires c κs = search rules
 
 put-field-requires : tie.Need-put-field-requires
 put-field-requires c κs =
@@ -103,5 +103,12 @@ returns c =
 
 pub put-pair-spec : {M : Type 1} → statement M
 put-pair-spec =
-    tie.close (tie.spec (λ c κs. search rules) put-field-requires put-field-requires-2 slice-write-line add-result
-    same_length returns)
+    tie.close
+    (tie.spec
+    copy-requires
+    put-field-requires
+    put-field-requires-2
+    slice-write-line
+    add-result
+    same_length
+    returns)

@@ -4,13 +4,13 @@ use mathlib.Core.Path.{◌≡◌}
 use Prim.Native.Nat.{◌+◌, ◌-◌}
 use native.Mathlib.Omega.{arith}
 use lib.ListN.{length, drop}
-use Rattle.text.specs.Input.{lengthTo}
+use Rattle.text.specs.Input.{length_to}
 use Rattle.text.proofs.Lines.{mark-here, mark_on, mark-none}
 use Rattle.text.proofs.line.end_from.Statement.{statement}
 use Rattle.text.proofs.line.end_from.Tie as tie
 
 abbrev invariant-loop : tie.invariant-loop
-invariant-loop bytes from mark end₀ end = from + lengthTo mark (drop from bytes) ≡ end + lengthTo mark (drop end bytes)
+invariant-loop bytes from mark end₀ end = from + length_to mark (drop from bytes) ≡ end + length_to mark (drop end bytes)
 
 abbrev decreases-loop : tie.decreases-loop
 decreases-loop bytes from mark end₀ end = length bytes - end
@@ -22,9 +22,20 @@ loop-from-then1 c = c.before.before.before
 abbrev loop-from-else1 : tie.Else1 invariant-loop decreases-loop → tie.At-loop invariant-loop decreases-loop
 loop-from-else1 c = c.before.before.before
 
+loop-holds : tie.Need-loop-init invariant-loop decreases-loop
+loop-holds c = omega arith
+
+shared-slice-read-if1 : tie.Need-shared-slice-read-if1 invariant-loop decreases-loop
+shared-slice-read-if1 c = omega arith
+
 returns : tie.Need-returns invariant-loop decreases-loop
-returns c =
-    let a = (loop-from-then1 c).before.args in omega (arith, mark-here a.mark a.bytes.now (loop-from-then1 c).loop.end (omega arith) c.if1.true)
+returns c = let a = (loop-from-then1 c).before.args in omega (arith, mark-here a.mark a.bytes.now (loop-from-then1 c).loop.end (omega arith) c.if1.true)
+
+add-end : tie.Need-overflow-add-end invariant-loop decreases-loop
+add-end c = omega arith
+
+loop-less : tie.Need-loop-smaller invariant-loop decreases-loop
+loop-less c = omega arith
 
 loop-again : tie.Need-loop-preserved invariant-loop decreases-loop
 loop-again c =
@@ -37,5 +48,14 @@ returns-2 c = let a = c.before.before.args in omega (arith, mark-none a.mark a.b
 
 pub end-from-spec : {M : Type 1} → statement M
 end-from-spec =
-    tie.close (tie.spec invariant-loop decreases-loop (λ c. omega arith) (λ c. omega arith) returns (λ c. omega arith)
-    (λ c. omega arith) loop-again returns-2)
+    tie.close
+    (tie.spec
+    invariant-loop
+    decreases-loop
+    loop-holds
+    shared-slice-read-if1
+    returns
+    add-end
+    loop-less
+    loop-again
+    returns-2)

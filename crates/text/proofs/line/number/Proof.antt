@@ -6,7 +6,7 @@ use Prim.Native.Nat.{ℕ, ◌+◌, ◌*◌, ◌-◌, ◌≤◌, ◌<◌}
 use native.Mathlib.Omega.{arith}
 use lib.ListN.{length, take, get_or}
 use lib.Seq.{take_all}
-use Rattle.text.specs.Decimal.{all, isDigit, value}
+use Rattle.text.specs.Decimal.{all, is_digit, value}
 use Rattle.text.specs.declared.line.ParsedNumber.TheVariants.{Value}
 use Rattle.text.proofs.Values.{digits-exact}
 use Rattle.text.proofs.Numbers.{found-value, found_nothing, digits_more, value_on, value-nine}
@@ -14,7 +14,7 @@ use Rattle.text.proofs.line.number.Statement.{statement}
 use Rattle.text.proofs.line.number.Tie as tie
 
 abbrev invariant-loop : tie.invariant-loop
-invariant-loop line v₀ i₀ v i = (i ≤ length line) × (v ≡ value (take i line)) × (all isDigit (take i line) ≡ true)
+invariant-loop line v₀ i₀ v i = (i ≤ length line) × (v ≡ value (take i line)) × (all is_digit (take i line) ≡ true)
 
 abbrev decreases-loop : tie.decreases-loop
 decreases-loop line v₀ i₀ v i = length line - i
@@ -53,6 +53,9 @@ loop-holds : tie.Need-loop-init invariant-loop decreases-loop
 unfolding value all
 loop-holds c = (omega arith, refl, refl)
 
+shared-slice-read-byte : tie.Need-shared-slice-read-byte invariant-loop decreases-loop
+shared-slice-read-byte c = omega arith
+
 returns-3 : tie.Need-returns-3 invariant-loop decreases-loop
 returns-3 c = found_nothing _ (λ n. omega (arith, n.digits (loop-from-then3 c).loop.i (omega arith)))
 
@@ -68,6 +71,12 @@ cast-value c = omega (arith, c.before.before.shared-slice-known.given (loop-from
 add-value : tie.Need-overflow-add-value invariant-loop decreases-loop
 add-value c = omega (arith, so_far c)
 
+add-i : tie.Need-overflow-add-i invariant-loop decreases-loop
+add-i c = omega arith
+
+loop-less : tie.Need-loop-smaller invariant-loop decreases-loop
+loop-less c = omega arith
+
 loop-again : tie.Need-loop-preserved invariant-loop decreases-loop
 loop-again c =
     let a = (entry-from-else4 c).args in
@@ -78,7 +87,7 @@ loop-again c =
     )
 
 whole : (c : tie.After-loop invariant-loop decreases-loop) →
-    (c.before.loop.value ≡ value (entry-from-past-loop c).args.line.now) × (all isDigit (entry-from-past-loop c).args.line.now ≡ true)
+    (c.before.loop.value ≡ value (entry-from-past-loop c).args.line.now) × (all is_digit (entry-from-past-loop c).args.line.now ≡ true)
 whole c =
     let a = (entry-from-past-loop c).args in
     let l = c.before.loop in
@@ -87,6 +96,9 @@ whole c =
 
 returns-5 : tie.Need-returns-5 invariant-loop decreases-loop
 returns-5 c = found_nothing _ (λ n. omega (arith, (whole c.before).0))
+
+cast-t13 : tie.Need-overflow-cast-t13 invariant-loop decreases-loop
+cast-t13 c = omega arith
 
 returns-6 : tie.Need-returns-6 invariant-loop decreases-loop
 returns-6 c =
@@ -98,5 +110,22 @@ returns-6 c =
 
 pub number-spec : {M : Type 1} → statement M
 number-spec =
-    tie.close (tie.spec invariant-loop decreases-loop returns returns-2 loop-holds (λ c. omega arith) returns-3 returns-4 mul-value
-    cast-value add-value (λ c. omega arith) (λ c. omega arith) loop-again returns-5 (λ c. omega arith) returns-6)
+    tie.close
+    (tie.spec
+    invariant-loop
+    decreases-loop
+    returns
+    returns-2
+    loop-holds
+    shared-slice-read-byte
+    returns-3
+    returns-4
+    mul-value
+    cast-value
+    add-value
+    add-i
+    loop-less
+    loop-again
+    returns-5
+    cast-t13
+    returns-6)

@@ -25,6 +25,24 @@ entry c = c.before.before.before
 loop-holds : tie.Need-loop-init invariant-loop decreases-loop
 loop-holds c = (rw add-zero (put-none _ _), omega arith, refl)
 
+add-to : tie.Need-overflow-add-to invariant-loop decreases-loop
+add-to c = search rules
+
+shared-slice-read-to : tie.Need-shared-slice-read-to invariant-loop decreases-loop
+shared-slice-read-to c = search rules
+
+add-to-2 : tie.Need-overflow-add-to-2 invariant-loop decreases-loop
+add-to-2 c = search rules
+
+slice-write-to : tie.Need-slice-write-to invariant-loop decreases-loop
+slice-write-to c = search rules
+
+add-k : tie.Need-overflow-add-k invariant-loop decreases-loop
+add-k c = search rules
+
+loop-less : tie.Need-loop-smaller invariant-loop decreases-loop
+loop-less c = search rules
+
 loop-again : tie.Need-loop-preserved invariant-loop decreases-loop
 loop-again c =
     let l = c.before.before.loop in
@@ -33,11 +51,16 @@ loop-again c =
     let inside : l.k < length s = omega (arith, length-drop a.start a.from.now, c.before.loop-test.true) in
     let p : Put a.to.now a.at (take (l.k + 1) s) (set l.to (a.at + l.k) (get_or s l.k 0)) (a.at + (l.k + 1)) =
     put_next a.to.now l.to a.at l.k s l.invariant.0 inside (omega (arith, c.before.loop-test.true)) l.invariant.2 in (
-      subst (λ (x : ℕ). Put a.to.now a.at (take (l.k + 1) s) (set l.to (a.at + l.k) x) (a.at + (l.k + 1)))
-          (get_or-drop a.start a.from.now l.k 0) p,
+      subst (λ (x : ℕ). Put a.to.now a.at (take (l.k + 1) s) (set l.to (a.at + l.k) x) (a.at + (l.k + 1))) (get_or-drop a.start a.from.now l.k 0) p,
       omega (arith, c.before.loop-test.true),
       length-set l.to _ _ ∙ l.invariant.2,
     )
+
+add-result : tie.Need-overflow-add-result invariant-loop decreases-loop
+add-result c = search rules
+
+same_length : tie.Need-same-length invariant-loop decreases-loop
+same_length c = search rules
 
 returns : tie.Need-returns invariant-loop decreases-loop
 returns c =
@@ -48,6 +71,18 @@ returns c =
 
 pub copy_spec : {M : Type 1} → statement M
 copy_spec =
-    tie.close (tie.spec invariant-loop decreases-loop loop-holds (λ c. search rules) (λ c. search rules) (λ c. search rules)
-    (λ c. search rules) (λ c. search rules) (λ c. search rules) loop-again (λ c. search rules) (λ c. search rules)
+    tie.close
+    (tie.spec
+    invariant-loop
+    decreases-loop
+    loop-holds
+    add-to
+    shared-slice-read-to
+    add-to-2
+    slice-write-to
+    add-k
+    loop-less
+    loop-again
+    add-result
+    same_length
     returns)

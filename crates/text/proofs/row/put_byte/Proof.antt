@@ -38,13 +38,43 @@ two l i n h g f =
     subst (λ (j : ℕ). Put l i (decimal n) (set m (i + 1) (48 + n % 10)) j) k
     (subst (λ (s : List ℕ). Put l i s (set m (i + 1) (48 + n % 10)) (i + 1 + 1)) (sym (decimal-two n h g)) p)
 
+add-text : tie.Need-overflow-add-text
+add-text c = search rules
+
+slice-write-text : tie.Need-slice-write-text
+slice-write-text c = search rules
+
+add-result : tie.Need-overflow-add-result
+add-result c = search rules
+
+same_length : tie.Need-same-length
+same_length c = search rules
+
 returns : tie.Need-returns
 returns c =
     let a = c.before.before.args in
     (one a.text.now a.at a.number c.if1.true (omega arith), omega arith)
 
+add-text-2 : tie.Need-overflow-add-text-2
+add-text-2 c = search rules
+
+slice-write-text-2 : tie.Need-slice-write-text-2
+slice-write-text-2 c = search rules
+
+add-text-3 : tie.Need-overflow-add-text-3
+add-text-3 c = search rules
+
+add-text-4 : tie.Need-overflow-add-text-4
+add-text-4 c = search rules
+
 slice-write-text-3 : tie.Need-slice-write-text-3
 slice-write-text-3 c = simp length-set (omega arith)
+
+add-result-2 : tie.Need-overflow-add-result-2
+add-result-2 c = search rules
+
+same-length-2 : tie.Need-same-length-2
+same-length-2 c = search rules
 
 returns-2 : tie.Need-returns-2
 returns-2 c =
@@ -54,6 +84,9 @@ returns-2 c =
 put-requires : tie.Need-put-requires
 put-requires c κs = let a = (entry-from-else2 c.before).args in omega (arith, count_most 2 a.number (omega arith))
 
+same-length-3 : tie.Need-same-length-3
+same-length-3 c = search rules
+
 returns-3 : tie.Need-returns-3
 returns-3 c =
     let a = (entry-from-text c.before).args in
@@ -61,6 +94,21 @@ returns-3 c =
 
 pub put-byte-spec : {M : Type 1} → statement M
 put-byte-spec =
-    tie.close (tie.spec (λ c. search rules) (λ c. search rules) (λ c. search rules) (λ c. search rules) returns
-    (λ c. search rules) (λ c. search rules) (λ c. search rules) (λ c. search rules) slice-write-text-3
-    (λ c. search rules) (λ c. search rules) returns-2 put-requires (λ c. search rules) returns-3)
+    tie.close
+    (tie.spec
+    add-text
+    slice-write-text
+    add-result
+    same_length
+    returns
+    add-text-2
+    slice-write-text-2
+    add-text-3
+    add-text-4
+    slice-write-text-3
+    add-result-2
+    same-length-2
+    returns-2
+    put-requires
+    same-length-3
+    returns-3)

@@ -1,6 +1,6 @@
 -- `text::row::put_cells` meets its contract: after c iterations the positions of the first c cores are written, four bytes for each at most.
 -- Assumes nothing.
-use mathlib.Core.List.{List, [], ◌∷◌, ◌++◌}
+use mathlib.Core.List.{[], ◌∷◌, ◌++◌}
 use mathlib.Core.Path.{◌≡◌, refl, subst}
 use Prim.Native.Nat.{ℕ, ◌+◌, ◌-◌, ◌*◌, ◌≤◌, ◌<◌}
 use native.Mathlib.Omega.{arith}
@@ -9,13 +9,12 @@ use lib.ListN.{length, set, take, length-set}
 use Rattle.text.specs.Output.{fields}
 use Rattle.text.specs.Written.{Put}
 use Rattle.text.proofs.Writing.{put-none, put_one, put_then, put-length}
-use Rattle.text.proofs.RowText.{fields-cell}
+use Rattle.text.proofs.RowText.{put-core}
 use Rattle.text.proofs.row.put_cells.Statement.{statement}
 use Rattle.text.proofs.row.put_cells.Tie as tie
 
 abbrev invariant-loop : tie.invariant-loop
-invariant-loop cores text₀ row at₀ core₀ text at core =
-    Put text₀ 0 (fields (take core row)) text at × (core ≤ cores) × (at ≤ 4 * core) × (length text ≡ length text₀) × (length row ≡ 64)
+invariant-loop cores text₀ row at₀ core₀ text at core = Put text₀ 0 (fields (take core row)) text at × (core ≤ cores) × (at ≤ 4 * core) × (length text ≡ length text₀) × (length row ≡ 64)
 
 abbrev decreases-loop : tie.decreases-loop
 decreases-loop cores text₀ row at₀ core₀ text at core = cores - core
@@ -38,20 +37,45 @@ loop-holds : tie.Need-loop-init invariant-loop decreases-loop
 unfolding fields
 loop-holds c = (put-none _ 0, omega arith, omega arith, refl, search rules)
 
-put-cell-requires : tie.Need-put-cell-requires invariant-loop decreases-loop
-put-cell-requires c κs = omega arith
+slice-write-text : tie.Need-slice-write-text invariant-loop decreases-loop
+slice-write-text c = search rules
+
+add-put-byte : tie.Need-overflow-add-put-byte invariant-loop decreases-loop
+add-put-byte c = search rules
+
+array-read-put-byte : tie.Need-array-read-put-byte invariant-loop decreases-loop
+array-read-put-byte c = search rules
+
+put-byte-requires : tie.Need-put-byte-requires invariant-loop decreases-loop
+put-byte-requires c κs = simp length-set (omega arith)
+
+add-core : tie.Need-overflow-add-core invariant-loop decreases-loop
+add-core c = search rules
+
+loop-less : tie.Need-loop-smaller invariant-loop decreases-loop
+loop-less c = search rules
 
 loop-again : tie.Need-loop-preserved invariant-loop decreases-loop
 loop-again c =
     let a = (entry-from-text c.before).args in
     let l = (in-loop c).before.loop in
-    let b = c.before.before.put-cell in
+    let b = c.before.before.put_byte in
     let short : l.core < a.cores = omega (arith, (in-loop c).loop-test.true) in
-    let most : b.result ≤ l.at + 4 = b.ensures.1 in
+    let e : length (set l.text l.at 32) ≡ length l.text = length-set l.text l.at 32 in
+    let most : b.result ≤ l.at + 1 + 3 = b.ensures.1 in
+    let after : l.at < b.result = omega (arith, b.ensures.0.ends) in
     let p : Put a.text.now 0 (fields (take (l.core + 1) a.t1)) b.new.0 b.result =
-    subst (λ (s : List ℕ). Put a.text.now 0 s b.new.0 b.result) (fields-cell a.t1 l.core (omega arith))
-    (put_then l.inv.0 b.ensures.0 (omega arith)) in
+    put-core a.text.now l.text b.new.0 l.at b.result l.core a.t1 l.inv.0 (omega arith) (omega arith) l.inv.3 b.ensures.0 after (omega arith) in
     (p, omega arith, omega arith, put-length p (omega arith), l.inv.4)
+
+slice-write-text-2 : tie.Need-slice-write-text-2 invariant-loop decreases-loop
+slice-write-text-2 c = search rules
+
+add-result : tie.Need-overflow-add-result invariant-loop decreases-loop
+add-result c = search rules
+
+same_length : tie.Need-same-length invariant-loop decreases-loop
+same_length c = search rules
 
 returns : tie.Need-returns invariant-loop decreases-loop
 returns c =
@@ -64,5 +88,19 @@ returns c =
 
 pub put-cells-spec : {M : Type 1} → statement M
 put-cells-spec =
-    tie.close (tie.spec invariant-loop decreases-loop loop-holds (λ c. search rules) put-cell-requires (λ c. search rules) (λ c. search rules) loop-again (λ c. search rules)
-    (λ c. search rules) (λ c. search rules) returns)
+    tie.close
+    (tie.spec
+    invariant-loop
+    decreases-loop
+    loop-holds
+    slice-write-text
+    add-put-byte
+    array-read-put-byte
+    put-byte-requires
+    add-core
+    loop-less
+    loop-again
+    slice-write-text-2
+    add-result
+    same_length
+    returns)

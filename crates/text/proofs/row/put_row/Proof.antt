@@ -33,6 +33,9 @@ copy-requires c κs =
     let n = put-length p (omega arith) in
     (omega arith, omega (arith, n))
 
+same_length : tie.Need-same-length
+same_length c = search rules
+
 returns : tie.Need-returns
 returns c =
     let put = put-from-slice-known3 c in
@@ -45,4 +48,4 @@ returns c =
     (put_then p q (omega arith), most)
 
 pub put-row-spec : {M : Type 1} → statement M
-put-row-spec = tie.close (tie.spec put-requires copy-requires (λ c. search rules) returns)
+put-row-spec = tie.close (tie.spec put-requires copy-requires same_length returns)
