@@ -1,7 +1,6 @@
 -- The definitions, computed on small sets and at the edges of large ones.
 use mathlib.Core.Path.{◌≡◌, refl}
 use mathlib.Core.List.{[], ◌∷◌}
-use lib.ListN.{length}
 use Rattle.model.specs.Fence.{outside, unfenced}
 use Rattle.model.specs.Search.{filtered, up_from}
 use Rattle.cores.specs.Cores.{cores}

@@ -2,7 +2,7 @@
 -- a piece of it taken off the set leaves the cores after the piece.
 use mathlib.Core.Path.{◌≡◌, sym, ap, ap₂, subst, ◌∙◌}
 use mathlib.Core.Logic.{⊎_elim}
-use mathlib.Core.List.{List, [], ◌∷◌, ◌++◌}
+use mathlib.Core.List.{List, ◌∷◌, ◌++◌}
 use Prim.Native.Nat.{ℕ, zero, suc, ◌+◌, ◌-◌, ◌*◌, ◌/◌, ◌%◌, ◌^◌, ◌≤◌, ◌<◌, min}
 use native.Mathlib.Nat.{pow-suc, pow-succ', add-zero, zero-add, sub-zero, eq-zero-or-pos, div-div-eq-div-mul, div-one, mul_comm, mul-sub, le_trans, lt_of_le_of_lt, mod-eq_of_lt, mul-le-mul_right}
 use native.Mathlib.Omega.{arith}

@@ -1,4 +1,6 @@
 // Sets of cores: one 64-bit number, core 0 its lowest digit.
+#![tactic(auto)]
+
 ghost use Rattle.std.specs.Prelude.{◌≡◌, min, take};
 ghost use Rattle.model.specs.Search.{up_from};
 ghost use Rattle.model.specs.Fence.{unfenced_count, outside, unfenced};

@@ -1,5 +1,5 @@
 -- THE INTERFERENCE TEST IS ENOUGH: whoever waits is kept waiting by places above, and in a window these are given cores in few ticks.
-use mathlib.Core.Bool.{Bool, ◌&&◌, cond, false, not, true, true≢false}
+use mathlib.Core.Bool.{Bool, ◌&&◌, cond, false, true, true≢false}
 use mathlib.Core.Logic.{⊎_elim}
 use mathlib.Core.Path.{ap, refl, subst, sym, ◌∙◌, ◌≡◌}
 use Prim.Native.Nat.{◌*◌, ◌+◌, ◌-◌, ◌<◌, min, suc, zero, ℕ, ◌≤◌}
@@ -15,10 +15,9 @@ use Rattle.model.proofs.Runs.{full-next, full-stays, full-tick, bounds-full}
 use Rattle.model.proofs.Waiting.{is_wider, kept-waiting, once, sum-add, sum-le, wider_parity}
 use Rattle.model.proofs.Shares.{ServedWithin, every, every_second, got, got-most, served-claims, served-open}
 use Rattle.model.specs.Jobs.{Job}
-use Rattle.model.specs.Claims.{claims, in_row, job_claims, served}
+use Rattle.model.specs.Claims.{in_row, job_claims, served}
 use Rattle.model.specs.Advance.{work}
 use Rattle.model.specs.Lists.{NeverMissed, full}
-use Rattle.model.specs.Grants.{given}
 use Rattle.model.specs.Interference.{EndsWithin, cores_in, interference_in, need, suffices, sum_below, waits_in}
 use Rattle.model.specs.Task.{AllValid, Table, Task, due, narrowest, newest, release, task, widest}
 

@@ -8,7 +8,6 @@ use native.Mathlib.Nat.{le_refl}
 use native.Mathlib.Omega.{arith}
 use lib.Dec.{leb, ltb}
 use lib.ListN.{get_or, replicate, take}
-use lib.Pow.{high}
 use lib.Seq.{get_or-take}
 use borrow.Author.Tests.{le-ltb, leb-false, leb-true, lt-ltb, ne_eqb}
 use Rattle.model.proofs.Digits.{bit-power, or-bit}

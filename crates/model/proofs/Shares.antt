@@ -1,9 +1,9 @@
 -- How often a place is given cores in a window: the densest is where the window begins with the end of a job, and each later one is given its first ticks.
-use mathlib.Core.Bool.{Bool, ◌&&◌, cond, false, not, true, true≢false}
+use mathlib.Core.Bool.{Bool, ◌&&◌, cond, false, true, true≢false}
 use mathlib.Core.Logic.{⊎_elim}
 use mathlib.Core.Path.{ap, refl, subst, sym, ◌∙◌, ◌≡◌}
 use Prim.Native.Nat.{◌%◌, ◌*◌, ◌+◌, ◌-◌, ◌/◌, ◌<◌, min, suc, zero, ℕ, ◌≤◌}
-use native.Mathlib.Nat.{add-suc, add-zero, div-add-mod', div-mul-le_self, div-lt_iff_lt-mul, eq-or-lt_of_le, le_dest, le-div_iff_mul-le, le_of_suc-le-suc, le_trans}
+use native.Mathlib.Nat.{add-suc, add-zero, div-add-mod', div-mul-le_self, div-lt_iff_lt-mul, eq-or-lt_of_le, le_dest, le-div_iff_mul-le, le_of_suc-le-suc}
 use native.Mathlib.Nat.{lt_of_mul-lt-mul_right, mul-le-mul_right, not-suc-le-zero}
 use native.Mathlib.Omega.{arith}
 use lib.Dec.{eqb, leb}
@@ -15,10 +15,10 @@ use Rattle.model.proofs.Jobs.{after-release, before-due, done-off, next-claimed}
 use Rattle.model.proofs.Runs.{full-claimed, full-next, full-tick, bounds-full}
 use Rattle.model.proofs.Waiting.{once}
 use Rattle.model.specs.Jobs.{Job}
-use Rattle.model.specs.Claims.{claims, in_row, job_claims, served, task_claims, widths}
+use Rattle.model.specs.Claims.{in_row, job_claims, served, task_claims, widths}
 use Rattle.model.specs.Lists.{full}
 use Rattle.model.specs.Fence.{unfenced_cores}
-use Rattle.model.specs.Grants.{given, left, some}
+use Rattle.model.specs.Grants.{some}
 use Rattle.model.specs.Interference.{workload_in}
 use Rattle.model.specs.Task.{AllValid, Table, Task, due, newest, release, task}
 

@@ -13,7 +13,7 @@ use borrow.Author.Tests.{eqb-false, leb-false, leb-true}
 use Rattle.model.proofs.Grants.{claimant, runs-if}
 use Rattle.model.proofs.Lists.{map_at}
 use Rattle.model.specs.Jobs.{Book}
-use Rattle.model.specs.Claims.{claims, in_row, task_claims, widths}
+use Rattle.model.specs.Claims.{in_row, task_claims, widths}
 use Rattle.model.specs.Fence.{unfenced_cores}
 use Rattle.model.specs.Grants.{claimants, ends_choosing, given, grants, left, some}
 use Rattle.model.specs.Interference.{largest_below, need, refused_width, sum_below}

@@ -3,7 +3,7 @@ use mathlib.Core.Bool.{◌&&◌, Bool, cond, false, true, true≢false}
 use mathlib.Core.List.{[], ◌∷◌}
 use mathlib.Core.Logic.{⊎_elim}
 use mathlib.Core.Path.{ap, ap₂, refl, sym, ◌∙◌, ◌≡◌}
-use Prim.Native.Nat.{◌*◌, ◌+◌, ◌/◌, ◌<◌, max, min, suc, zero, ℕ, ◌≤◌}
+use Prim.Native.Nat.{◌*◌, ◌+◌, ◌/◌, ◌<◌, suc, zero, ℕ, ◌≤◌}
 use native.Mathlib.Nat.{eq-or-lt_of_le, le_of_suc-le-suc, not-suc-le-zero}
 use native.Mathlib.Omega.{arith}
 use lib.Dec.{leb, ltb}
@@ -16,7 +16,7 @@ use Rattle.model.proofs.Search.{any_of}
 use Rattle.model.specs.Lists.{NeverMissed}
 use Rattle.model.specs.Interference.{EndsWithin, bound_from, bounds_to, cores_in, first_window, interference_in, interference_test_passes, most_halvings, most_tries, need, next_window, response_bound, shortened_window, suffices, sum_below, waits_in}
 use Rattle.model.specs.Search.{any}
-use Rattle.model.specs.Task.{AllValid, Table, task, widest}
+use Rattle.model.specs.Task.{AllValid, Table, task}
 
 -- THE TEST READS THE WINDOWS ABOVE ALONE
 pub sum_same : (n : ℕ) (f g : ℕ → ℕ) → ((i : ℕ) → i < n → f i ≡ g i) → sum_below n f ≡ sum_below n g

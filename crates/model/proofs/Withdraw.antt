@@ -1,6 +1,6 @@
 -- Withdrawals (requests 106 and 113): when one is taken, that only the set changes, that withdrawing again changes nothing, and which jobs are empty from then
 -- on.
-use mathlib.Core.Bool.{Bool, cond, false, not, true, true≢false, ◌||◌}
+use mathlib.Core.Bool.{Bool, cond, false, true, true≢false, ◌||◌}
 use mathlib.Core.List.{List, [], ◌∷◌}
 use mathlib.Core.Logic.{◌↔◌, inl, inr, ◌⊎◌}
 use mathlib.Core.Path.{ap, refl, sym, ◌∙◌, ◌≡◌}
@@ -19,7 +19,7 @@ use Rattle.model.specs.Advance.{step, Entry, advance, after_taken, singleton}
 use Rattle.model.specs.Refusals.{Answer, answer, refused}
 use Rattle.model.specs.Lists.{book_from, enter, entered}
 use Rattle.model.specs.Advance.{withdraw, withdraw_all, with_withdrawn}
-use Rattle.model.specs.Refusals.{taken, unknown_position, unknown_positions, withdrawing}
+use Rattle.model.specs.Refusals.{taken, unknown_position, unknown_positions}
 use Rattle.model.specs.Firm.{FirmRule, firm}
 use Rattle.model.specs.Search.{bit}
 use Rattle.model.specs.Task.{Table}

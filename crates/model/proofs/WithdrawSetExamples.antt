@@ -3,7 +3,7 @@
 -- only.
 use mathlib.Core.List.{List, [], map, ◌∷◌}
 use mathlib.Core.Path.{refl, sym, ◌≡◌}
-use Prim.Native.Nat.{suc, zero, ℕ}
+use Prim.Native.Nat.{suc, zero}
 use native.Mathlib.Omega.{arith}
 use Rattle.model.proofs.Computing.{computing}
 use Rattle.model.proofs.EmptyExamples.{line, no_places, one, pair}

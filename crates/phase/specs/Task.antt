@@ -2,7 +2,6 @@
 use Rattle.std.specs.Prelude.{Bool, false, ◌||◌, not, cond, ℕ}
 use Rattle.model.specs.Task as model
 use Rattle.table.specs.Limits.{task_out}
-use Rattle.phase.specs.declared.Phase.{Phase}
 use Rattle.phase.specs.declared.Phase.TheVariants.{Coming, Resting}
 use Rattle.phase.specs.declared.TaskState.{TaskState}
 use Rattle.phase.specs.declared.Task.{Task}

@@ -1,4 +1,6 @@
 // A task with its phase: its state in the run, and what that claims.
+#![tactic(auto)]
+
 ghost use Rattle.std.specs.Prelude.{◌≡◌};
 ghost use Rattle.model.specs.Task.{rule_of};
 ghost use Rattle.phase.specs.Phase.{claiming, idles, working};
@@ -11,7 +13,7 @@ pub mod starts; // starts.rt: a task as it starts, and a place past the count
 // The phase of a task in the run, with its counts: Coming(ticks left to the first release; the field: not yet released), Working(ticks since release, ticks
 // had, ticks reserved; the field: pending), Holding(ticks since release, ticks reserved; the field: completed early, processors reserved),
 // Resting(ticks since release; the field: completed).
-#[derive(Drop)]
+#[derive(Clone, Copy)]
 pub enum Phase {
     Coming(u32),
     Working(u32, u32, u32),
@@ -20,7 +22,7 @@ pub enum Phase {
 }
 
 // The state of a task: whether its job is an even one, and its phase.
-#[derive(Drop)]
+#[derive(Clone, Copy)]
 pub struct TaskState {
     pub even: bool,
     pub phase: Phase,
@@ -28,7 +30,7 @@ pub struct TaskState {
 
 // A task of the run: offset O, width v of its odd jobs, length C, deadline D, period T, width w of its even jobs; whether its job is an
 // even one (odd until the second release, then changing at each), and its phase.
-#[derive(Drop)]
+#[derive(Clone, Copy)]
 pub struct Task {
     pub offset: u32,
     pub width: u32,

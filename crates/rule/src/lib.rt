@@ -1,4 +1,6 @@
 // The tick rule: the claimants that are given cores in a tick, their cores, what is lent of them, and the row that shows it.
+#![tactic(auto)]
+
 ghost use Rattle.std.specs.Prelude.{◌≡◌, ◌&&◌, map, ◌++◌, ℕ, ◌+◌, ◌-◌, ◌≤◌, ◌<◌, ltb, get_or, take, replicate};
 ghost use Rattle.std.specs.Int.Bits.{bit_or};
 ghost use Rattle.model.specs.Search.{bit};
@@ -24,7 +26,7 @@ pub const PAIR: usize = 2 * MOST_TASKS;
 const GREEDY: u32 = 1;
 
 // The tick rule's answer to a claimant: it takes its cores, it is skipped, or it ends the tick's choosing.
-#[derive(Drop)]
+#[derive(Clone, Copy)]
 pub enum Selection {
     Takes,
     Passed,

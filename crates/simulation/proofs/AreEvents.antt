@@ -1,14 +1,14 @@
 -- THEOREM (jumps-over-events): for the words of every table that no number refuses, the ticks reached by repeating the jump from tick 0 are 0 and all events,
 -- in order, none left out, up to the first miss; and between two of them the cores and the row stay the same.
-use mathlib.Core.Path.{◌≡◌, refl, sym, ap, ◌∙◌, subst}
+use mathlib.Core.Path.{◌≡◌, refl, sym, ◌∙◌, subst}
 use mathlib.Core.Bool.{Bool, true, false}
 use mathlib.Core.List.{List, map}
-use mathlib.Core.Logic.{◌⊎◌, inl, inr, ⊎_elim}
+use mathlib.Core.Logic.{⊎_elim}
 use Prim.Native.Nat.{ℕ, zero, suc, ◌+◌, ◌≤◌, ◌<◌}
 use native.Mathlib.Nat.{eq-or-lt_of_le, not-suc-le-zero, le_of_suc-le-suc, le_trans}
 use native.Mathlib.Omega.{arith}
 use lib.Dec.{leb}
-use lib.ListN.{length, get_or, replicate, get_or-replicate, length-map}
+use lib.ListN.{get_or, replicate, get_or-replicate, length-map}
 use borrow.Author.Tests.{leb-true, leb-false}
 use Rattle.model.specs.Search.{bit}
 use Rattle.model.specs.Task.{Table, task}
@@ -17,7 +17,7 @@ use Rattle.model.specs.Lists.{full, Missed}
 use Rattle.model.proofs.Digits.{bit-none}
 use Rattle.table.specs.declared.Loaded.{Loaded}
 use Rattle.simulation.specs.Machine.{started}
-use Rattle.simulation.specs.TickState.{Numbers, loaded_numbers, choice}
+use Rattle.simulation.specs.TickState.{Numbers, loaded_numbers}
 use Rattle.simulation.proofs.Sets.{set_is}
 use Rattle.simulation.proofs.WidthParity.{toggled-start}
 use Rattle.table.specs.declared.Answer.TheVariants.{Passed}
@@ -31,8 +31,8 @@ use Rattle.table.proofs.Fit.{same-table}
 use Rattle.table.proofs.Fit as table
 use Rattle.simulation.proofs.AtTick.{few, column, columns, paired, chosen_none}
 use Rattle.simulation.specs.Event.{Event, NextEvent}
-use Rattle.simulation.specs.EventState.{EventState, MachineRepresents, StateRepresents, initial_event_state, MetBefore}
-use Rattle.simulation.specs.Jump.{jumped, JumpLands, jumps, Unmissed, AreEvents}
+use Rattle.simulation.specs.EventState.{MachineRepresents, StateRepresents, initial_event_state, MetBefore}
+use Rattle.simulation.specs.Jump.{JumpLands, jumps, Unmissed, AreEvents}
 use Rattle.simulation.proofs.JumpLands.{lands}
 use Rattle.simulation.proofs.Represents.{same-represents, represents-start}
 

@@ -14,7 +14,6 @@ use Rattle.model.specs.Fence.{unfenced_cores}
 use Rattle.model.specs.Task.{Task, Table, absent_task, task, ValidTask, AllValid, release, due, newest, width_of}
 use Rattle.model.specs.Grants.{Claimant, claimants, grants}
 use Rattle.model.specs.Row.{row}
-use Rattle.model.specs.Jobs.{Book}
 use Rattle.model.specs.Claims.{job_claims, task_claims, widths, grants_of}
 use Rattle.model.specs.Lists.{full}
 use Rattle.model.proofs.Bools.{same_test, not-true-false}

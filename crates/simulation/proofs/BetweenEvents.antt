@@ -2,7 +2,7 @@
 use mathlib.Core.Path.{◌≡◌, refl, sym, ap, ◌∙◌, fun_ext, subst, subst₂}
 use mathlib.Core.Bool.{Bool, true, false, not, ◌&&◌, cond, and-true, true≢false, false≢true}
 use mathlib.Core.List.{List, []}
-use mathlib.Core.Logic.{◌⊎◌, inl, inr, ⊎_elim}
+use mathlib.Core.Logic.{inl, inr}
 use Prim.Native.Nat.{ℕ, zero, suc, ◌+◌, ◌-◌, ◌≤◌, ◌<◌}
 use native.Mathlib.Nat.{add-zero, add-suc}
 use native.Mathlib.Omega.{arith}
@@ -11,7 +11,7 @@ use lib.ListN.{length, get_or, length-map, get_or-eq_default}
 use borrow.Author.Tests.{eqb-true, eqb-false, eq-eqb, ne_eqb, leb-true, leb-false}
 use Rattle.model.specs.Fence.{unfenced_cores}
 use Rattle.model.specs.Search.{bit}
-use Rattle.model.specs.Task.{Table, task, AllValid, release, due, newest, width_of}
+use Rattle.model.specs.Task.{Table, task, AllValid, release, newest, width_of}
 use Rattle.model.specs.Grants.{some}
 use Rattle.model.specs.Jobs.{Job, Book}
 use Rattle.model.specs.Claims.{claims, served, task_claims, widths, grants_of, in_row}
@@ -22,7 +22,7 @@ use Rattle.simulation.specs.PlaceRelation.{PlaceRelatedAt}
 use Rattle.simulation.specs.Machine.{Machine}
 use Rattle.simulation.proofs.Lines.{line_on}
 use Rattle.simulation.proofs.Place.{related-claims, pass-related}
-use Rattle.simulation.specs.Event.{Event, NoEventBetween, Ends, SameAllocation}
+use Rattle.simulation.specs.Event.{Event, NoEventBetween, Ends}
 use Rattle.simulation.specs.EventState.{PlaceRepresents, MachineRepresents}
 use Rattle.simulation.proofs.Between.{SameNewest, ends_at, ends_by, newest-stays, same-claims}
 use Rattle.simulation.proofs.Upcoming.{upcoming-later}

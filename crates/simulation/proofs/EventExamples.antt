@@ -3,7 +3,7 @@ use mathlib.Core.Bool.{true, false, true≢false, false≢true}
 use mathlib.Core.List.{List, [], ◌∷◌, ◌++◌, map}
 use mathlib.Core.Logic.{inl, inr}
 use mathlib.Core.Path.{◌≡◌, refl, sym, ap, ◌∙◌}
-use Prim.Native.Nat.{ℕ, zero, suc, ◌+◌, ◌-◌, ◌*◌, ◌≤◌, ◌<◌, min}
+use Prim.Native.Nat.{ℕ, zero, suc, ◌-◌}
 use native.Mathlib.Omega.{arith}
 use lib.ListN.{length, get_or, replicate}
 use Rattle.model.specs.Task.{Table, release, due, task, greedy}
@@ -22,7 +22,7 @@ use Rattle.rule.specs.Widths.{widths_in}
 use Rattle.simulation.specs.Machine.{with_release}
 use Rattle.simulation.specs.Places.{map_places, set_where}
 use Rattle.simulation.specs.TickState.{paired_in}
-use Rattle.simulation.specs.Event.{Ends, EventOf, Event}
+use Rattle.simulation.specs.Event.{Ends, Event}
 use Rattle.simulation.specs.EventState.{due_at, earliest_of}
 use Rattle.simulation.specs.Jump.{handled_all, least_left, elapsed, after_handling, next_event_ahead, even_in_jump, granted_in_jump, ticks_in_jump, jumped, jumps}
 

@@ -2,12 +2,12 @@
 -- after it, and at every tick up to it the cores stay with the same tasks.
 use mathlib.Core.Path.{◌≡◌, refl, sym, ap, ap₂, ◌∙◌, subst, subst₂}
 use mathlib.Core.Bool.{Bool, true, false, not, ◌&&◌, cond, true≢false}
-use mathlib.Core.List.{List, map}
-use mathlib.Core.Logic.{◌⊎◌, inl, inr, ⊎_elim}
+use mathlib.Core.List.{map}
+use mathlib.Core.Logic.{inl, inr, ⊎_elim}
 use Prim.Native.Nat.{ℕ, suc, ◌+◌, ◌-◌, ◌^◌, ◌≤◌, ◌<◌}
 use native.Mathlib.Nat.{le_trans, eq-or-lt_of_le}
 use native.Mathlib.Omega.{arith}
-use lib.Dec.{eqb, ltb, leb}
+use lib.Dec.{eqb, leb}
 use lib.ListN.{length, get_or}
 use borrow.Author.Tests.{eqb-true, eqb-false, eq-eqb, le-ltb, lt-ltb, leb-true, leb-false}
 use Rattle.model.specs.Search.{bit}
@@ -18,7 +18,6 @@ use Rattle.model.specs.Lists.{full, Missed}
 use Rattle.model.proofs.Bools.{and_left, and_right}
 use Rattle.model.proofs.Digits.{bit-none}
 use Rattle.model.proofs.Runs.{full-tick}
-use Rattle.table.specs.declared.Task.{Task}
 use Rattle.table.specs.declared.Loaded.{Loaded}
 use Rattle.rule.specs.Widths.{widths_in}
 use Rattle.simulation.specs.Machine.{Machine}

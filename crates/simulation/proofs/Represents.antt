@@ -1,15 +1,14 @@
 -- One place of the state and its line of jobs: the start, its due events, and a tick.
 use mathlib.Core.Path.{◌≡◌, refl, sym, ap, ◌∙◌, subst}
-use mathlib.Core.Bool.{Bool, true, false, not, ◌&&◌, cond, true≢false, false≢true}
-use mathlib.Core.Logic.{◌⊎◌, inl, inr, ⊎_elim}
-use Prim.Native.Nat.{ℕ, suc, ◌+◌, ◌-◌, ◌≤◌, ◌<◌}
+use mathlib.Core.Bool.{Bool, true, false, not, ◌&&◌, cond, true≢false}
+use mathlib.Core.Logic.{inl}
+use Prim.Native.Nat.{ℕ, suc, ◌+◌, ◌-◌, ◌≤◌}
 use native.Mathlib.Omega.{arith}
-use lib.Dec.{eqb, leb}
-use borrow.Author.Tests.{eqb-true, eqb-false, eq-eqb, ne_eqb, lt-leb, le-leb}
-use Rattle.model.specs.Task.{Task, ValidTask, Rule, release, due, newest}
+use lib.Dec.{eqb}
+use borrow.Author.Tests.{eqb-true, eqb-false, lt-leb, le-leb}
+use Rattle.model.specs.Task.{Task, ValidTask, Rule, release}
 use Rattle.model.specs.Jobs.{Job, fresh}
-use Rattle.model.specs.Claims.{claims}
-use Rattle.simulation.specs.PlaceRelation.{PlaceWorks, PlaceRests, PlaceRelatedAt}
+use Rattle.simulation.specs.PlaceRelation.{PlaceRests, PlaceRelatedAt}
 use Rattle.simulation.proofs.Lines.{line_on, line-off, line-own}
 use Rattle.simulation.proofs.Place.{Claimed, start-related, pass-related, release-related, tick-related, rests-off, works-claims, other-line, served-line, claims-owed}
 use Rattle.simulation.specs.EventState.{UpcomingEvent, PlaceRepresents}

@@ -12,7 +12,7 @@ use Rattle.model.specs.Fence.{unfenced_cores}
 use Rattle.model.specs.Search.{bit, up_from}
 use Rattle.model.specs.Task.{Table, task, absent_task, AllValid, newest, width_of}
 use Rattle.model.specs.Grants.{Claimant, claimants, grants, some}
-use Rattle.model.specs.Row.{byte_of, owner, row}
+use Rattle.model.specs.Row.{byte_of, row}
 use Rattle.model.specs.Claims.{claims, task_claims, widths, grants_of, book_row, in_row}
 use Rattle.model.specs.Lists.{full}
 use Rattle.model.proofs.Bools.{not-false-true}

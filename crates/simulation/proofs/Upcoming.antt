@@ -1,14 +1,14 @@
 -- The next release or deadline of a task: over ticks that are neither, at a release, and at the deadline of a job that has ended.
-use mathlib.Core.Path.{◌≡◌, refl, sym, ap, ◌∙◌, subst}
+use mathlib.Core.Path.{◌≡◌, refl, sym}
 use mathlib.Core.Bool.{Bool, true, false}
 use mathlib.Core.Logic.{◌⊎◌, inl, inr, ⊎_elim}
-use Prim.Native.Nat.{ℕ, suc, ◌+◌, ◌*◌, ◌≤◌, ◌<◌}
+use Prim.Native.Nat.{ℕ, suc, ◌+◌, ◌≤◌}
 use native.Mathlib.Omega.{arith}
 use lib.Dec.{leb}
 use borrow.Author.Tests.{leb-true, leb-false}
 use Rattle.model.specs.Task.{Task, ValidTask, release, due}
 use Rattle.simulation.proofs.Place.{release-order}
-use Rattle.simulation.specs.EventState.{ReleaseOrDeadline, UpcomingEvent}
+use Rattle.simulation.specs.EventState.{UpcomingEvent}
 
 -- of two jobs, one is not after the other
 either : (i k : ℕ) → (i ≤ k) ⊎ (suc k ≤ i)

@@ -1,6 +1,6 @@
 -- One tick of any run: the machine, with the choice that is kept while the claimants and their widths are unchanged.
 -- A tick preserves the relation to the table's full-length run: `refines_on` in proofs/RefinesTick.antt.
-use Rattle.std.specs.Prelude.{◌≡◌, Bool, not, ◌&&◌, cond, List, ◌++◌, map, ℕ, ◌+◌, ◌^◌, ◌≤◌, ◌<◌, eqb, leb, get_or}
+use Rattle.std.specs.Prelude.{Bool, not, ◌&&◌, cond, List, ◌++◌, map, ℕ, ◌+◌, ◌^◌, ◌≤◌, ◌<◌, eqb, leb, get_or}
 use Rattle.std.specs.Int.Bits.{bit_and, bit_xor}
 use Rattle.model.specs.Search.{bit}
 use Rattle.model.specs.Fence.{unfenced}

@@ -8,7 +8,7 @@ use rule::PAIR;
 use table::{Loaded, Task};
 
 // The constants of a run, beside the tasks: the rule, the number of cores, the fence, the number of tasks, and the set of the places with two widths.
-#[derive(Drop)]
+#[derive(Clone, Copy)]
 pub struct Setting {
     pub rule: u32,
     pub cores: u32,
@@ -19,7 +19,7 @@ pub struct Setting {
 
 // The numbers of a table that its run is stepped with; `widths` has the first of each place before the second, `times` has the lengths first,
 // then the deadlines, then the periods.
-#[derive(Drop)]
+#[derive(Clone, Copy)]
 pub struct Columns {
     pub setting: Setting,
     pub widths: [u32; PAIR],

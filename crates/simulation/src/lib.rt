@@ -1,5 +1,7 @@
 // The full-length run as a fast machine: one array with three numbers for each of 32 places, lent, and registers by value.
 // It is stepped tick by tick (`ticks`) or from event to event (`events`).
+#![tactic(auto)]
+
 ghost use Rattle.std.specs.Prelude.{◌≡◌, ◌+◌, ◌<◌, ◌^◌, min, get_or};
 ghost use Rattle.model.specs.Sizes.{most_tasks};
 ghost use Rattle.simulation.specs.Places.{segment, second, third};

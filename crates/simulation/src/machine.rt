@@ -9,7 +9,7 @@ use table::Loaded;
 
 // The state of a run before a tick: the next event, before which nothing is due; the set of claimants; the claimants for which the kept choice was made,
 // and those that are granted cores by it; of the places with two widths, those that are at their second.
-#[derive(Drop)]
+#[derive(Clone, Copy)]
 pub struct Registers {
     pub tick: u32,
     pub event: u32,
@@ -20,7 +20,7 @@ pub struct Registers {
 }
 
 // The machine: its registers, and the three numbers of each place.
-#[derive(Drop)]
+#[derive(Clone, Copy)]
 pub struct Machine {
     pub registers: Registers,
     pub places: [u32; TRIPLE],

@@ -12,7 +12,7 @@ use crate::{EVENT, NEXT, TRIPLE};
 use rule::PAIR;
 
 // The set of claimants after the due events of a tick, and the earliest event to come.
-#[derive(Drop)]
+#[derive(Clone, Copy)]
 pub struct Due {
     pub claiming: u32,
     pub event: u32,

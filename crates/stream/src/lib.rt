@@ -1,12 +1,14 @@
 // Reading standard input and writing standard output, with the numbers of bytes read and written.
+#![tactic(auto)]
+
 ghost use Rattle.std.specs.Prelude.{◌≡◌, ◌+◌, ◌≤◌, length};
 ghost use Rattle.stream.specs.Reading.{ReadOnceOf, FilledOf, MovedToFront};
 ghost use Rattle.stream.specs.Sent.{saturated, unread_by, SentOf};
 
-use libc::{STDERR_FILENO, STDIN_FILENO, STDOUT_FILENO};
+use std::io::{Read, Write};
 
 // The number of bytes that a buffer holds, whether a read returned that the input has ended, and whether one failed.
-#[derive(Drop)]
+#[derive(Clone, Copy)]
 pub struct Reading {
     pub held: usize,
     pub ended: bool,
@@ -14,35 +16,33 @@ pub struct Reading {
 }
 
 // The number of bytes that writes have taken, and whether they took all that they were last passed.
-#[derive(Drop)]
+#[derive(Clone, Copy)]
 pub struct Sent {
     pub count: usize,
     pub whole: bool,
 }
 
 // Reads once, after the bytes that the buffer holds.
-pub fn read(buffer: &mut [u8], held: usize) -> Reading
+pub fn read<R: Read>(input: &mut R, buffer: &mut [u8], held: usize) -> Reading
     requires { held ≤ length buffer.old }
     ensures { ReadOnceOf held buffer.old buffer.new result }
 {
-    let got = libc::read(STDIN_FILENO, &mut buffer[held..]);
-    if got < 0 {
-        return Reading {
+    match input.read(&mut buffer[held..]) {
+        Ok(count) => Reading {
+            held: held + count,
+            ended: count == 0,
+            failed: false,
+        },
+        Err(_) => Reading {
             held: held,
             ended: false,
             failed: true,
-        };
-    }
-    let count = io::count(got, &buffer[held..]);
-    Reading {
-        held: held + count,
-        ended: count == 0,
-        failed: false,
+        },
     }
 }
 
 // Reads after the bytes that the buffer holds, until it is full, the input ends or a read fails.
-pub fn fill(buffer: &mut [u8], held: usize) -> Reading
+pub fn fill<R: Read>(input: &mut R, buffer: &mut [u8], held: usize) -> Reading
     requires { held ≤ length buffer.old }
     ensures { FilledOf held buffer.old buffer.new result }
 {
@@ -52,7 +52,7 @@ pub fn fill(buffer: &mut [u8], held: usize) -> Reading
         failed: false,
     };
     while reading.held < buffer.len() {
-        reading = read(buffer, reading.held);
+        reading = read(input, buffer, reading.held);
         if reading.ended {
             return reading;
         }
@@ -87,14 +87,23 @@ fn add(count: usize, more: usize) -> usize
     count + more
 }
 
+// One write: how many bytes it took, none where it failed.
+fn write_once<W: Write>(out: &mut W, bytes: &[u8]) -> usize
+    ensures { result ≤ length bytes.now }
+{
+    match out.write(bytes) {
+        Ok(count) => count,
+        Err(_) => 0,
+    }
+}
+
 // Passes bytes to writes on `out` until all are taken or a write takes none, after `count` bytes that were taken before.
-fn write_all(out: i32, count: usize, bytes: &[u8]) -> Sent
+fn write_all<W: Write>(out: &mut W, count: usize, bytes: &[u8]) -> Sent
     ensures { SentOf count bytes.now result }
 {
     let mut at: usize = 0;
     while at < bytes.len() {
-        let got = libc::write(out, &bytes[at..]);
-        let taken = io::count(got, &bytes[at..]);
+        let taken = write_once(out, &bytes[at..]);
         if taken == 0 {
             return Sent {
                 count: add(count, at),
@@ -110,23 +119,19 @@ fn write_all(out: i32, count: usize, bytes: &[u8]) -> Sent
 }
 
 // Passes bytes to standard output until all are taken or a write takes none, after `count` bytes that were taken before.
-pub fn send(count: usize, bytes: &[u8]) -> Sent
+pub fn send<W: Write>(out: &mut W, count: usize, bytes: &[u8]) -> Sent
     ensures { SentOf count bytes.now result }
 {
-    write_all(STDOUT_FILENO, count, bytes)
+    write_all(out, count, bytes)
 }
 
 // Writes to standard error that a program could not read its input; returns how much of it writes took.
-pub fn report_unread(name: &[u8]) -> Sent
+pub fn report_unread<W: Write>(out: &mut W, name: &[u8]) -> Sent
     ensures { SentOf 0 (unread_by name.now) result }
 {
-    let sent = write_all(STDERR_FILENO, 0, name);
+    let sent = write_all(out, 0, name);
     if sent.whole {
-        return write_all(
-            STDERR_FILENO,
-            sent.count,
-            b": standard input could not be read\n",
-        );
+        return write_all(out, sent.count, b": standard input could not be read\n");
     }
     sent
 }

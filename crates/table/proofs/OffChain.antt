@@ -5,7 +5,6 @@ use mathlib.Core.List.{List}
 use Prim.Native.Nat.{ℕ, zero, suc, ◌-◌, ◌/◌, ◌≤◌, ◌<◌}
 use native.Mathlib.Omega.{arith}
 use lib.Dec.{eqb, ltb}
-use lib.ListN.{length}
 use lib.Seq.{ext_get_or}
 use borrow.Author.Tests.{eqb-true, eqb-false}
 use Rattle.model.specs.Task.{Table, absent_task, rule_of}
@@ -15,7 +14,7 @@ use Rattle.table.specs.declared.Answer.{Answer}
 use Rattle.table.specs.declared.Answer.TheVariants.{Passed, Refused}
 use Rattle.table.specs.declared.Loaded.{Loaded}
 use Rattle.table.specs.declared.chain.Ending.TheVariants.{Past, Again, Whole}
-use Rattle.table.specs.Words.{header_words, record_words, core_count, rule, fence_of, records, field, next, visited, count, task_of_record, table_of}
+use Rattle.table.specs.Words.{header_words, record_words, rule, fence_of, records, field, next, visited, count, task_of_record, table_of}
 use Rattle.table.specs.Limits.{InRange}
 use Rattle.table.specs.Numbers.{EndAt, Reaches}
 use Rattle.table.specs.Answer.{header_number, out_of_range_at, repeated_at, stops_at, last_step, ending_of, by_tasks, answer_of}

@@ -2,12 +2,12 @@
 -- (`unfenced-passes`).
 use mathlib.Core.Bool.{Bool, true, false, not, ◌&&◌}
 use mathlib.Core.List.{List, [], ◌∷◌, map}
-use mathlib.Core.Logic.{◌⊎◌, inl, inr, ⊎_elim}
+use mathlib.Core.Logic.{◌⊎◌, inr}
 use mathlib.Core.Path.{◌≡◌, refl, sym, ap, ap₂, fun_ext, subst, ◌∙◌}
 use Prim.Native.Nat.{ℕ, zero, suc, ◌+◌, ◌-◌, ◌*◌, ◌/◌, ◌%◌, ◌^◌, ◌≤◌, ◌<◌}
 use native.Mathlib.Nat.{pow-suc}
 use native.Mathlib.Omega.{arith}
-use lib.Dec.{eqb, ltb}
+use lib.Dec.{eqb}
 use lib.ListN.{length, get_or, drop, length-drop}
 use lib.Pow.{pow_pos}
 use lib.Seq.{get_or-append-add, get_or-drop}
@@ -23,7 +23,7 @@ use Rattle.cores.proofs.Ascending.{length-kept}
 use Rattle.cores.proofs.Unfenced.{memb-open}
 use Rattle.table.specs.UnfencedWords.{unfenced_words}
 use Rattle.table.specs.Limits.{InRange, FenceOut, WidthOut, TimesOut, HorizonOut}
-use Rattle.table.specs.Numbers.{Applies, one, two, three, nineteen, four, five, six, seven, eight, nine, Position, Reaches, NoneApplies}
+use Rattle.table.specs.Numbers.{one, two, three, nineteen, four, five, six, seven, eight, nine, Position, Reaches, NoneApplies}
 use Rattle.table.specs.Words.{header_words, record_words, head, core_count, rule, fence, records, field, visited, count, chain, task_of_record, task_at, table_of}
 use Rattle.table.proofs.HeaderPasses.{words_long}
 use Rattle.table.proofs.Passed.{passed-cores, passed-fence}

@@ -9,7 +9,7 @@ use crate::{HEADER, RECORD, Task};
 use model::MOST_TASKS;
 
 // How a walk along the chain ends: at the zero, at a number past the last record, at a record met again.
-#[derive(Drop)]
+#[derive(Clone, Copy)]
 pub enum Ending {
     Whole,
     Past,
@@ -17,7 +17,7 @@ pub enum Ending {
 }
 
 // How the walk ended and, where it ended at the zero, the tasks in priority order, zeros past the count.
-#[derive(Drop)]
+#[derive(Clone, Copy)]
 pub struct Walked {
     pub ending: Ending,
     pub count: usize,

@@ -1,4 +1,6 @@
 // The table in the supplier's words: the numbers 1 to 9 and 19, the chain, the tasks, S, P and the horizon.
+#![tactic(auto)]
+
 ghost use Rattle.table.specs.Load.{LoadOf};
 
 pub mod limits; // limits.rt: numbers 2, 3, 19, 7 and 8 on plain values
@@ -18,7 +20,7 @@ pub const HEADER: usize = 5;
 pub const RECORD: usize = 7;
 
 // A task of the table: offset O, width v of its odd jobs, length C, deadline D, period T, and width w of its even jobs.
-#[derive(Drop)]
+#[derive(Clone, Copy)]
 pub struct Task {
     pub offset: u32,
     pub width: u32,
@@ -29,7 +31,7 @@ pub struct Task {
 }
 
 // Whether a table passes all of these numbers, or the number that turns it down, with its position.
-#[derive(Drop)]
+#[derive(Clone, Copy)]
 pub enum Answer {
     Passed,
     Refused(u32, u32),
@@ -37,7 +39,7 @@ pub enum Answer {
 
 // The answer, and beside it the table: the cores, the fence, which is a set of them, the tasks in priority order, zeros past the count, the last S, P and the
 // horizon.
-#[derive(Drop)]
+#[derive(Clone, Copy)]
 pub struct Loaded {
     pub answer: Answer,
     pub count: usize,

@@ -22,5 +22,5 @@ cores-without a b =
 returns : tie.Need-returns
 returns c = cores-without c.args.all c.args.fence
 
-pub difference-spec : {M : Type 1} → statement M
-difference-spec = tie.close (tie.spec returns)
+pub difference_spec : {M : Type 1} → statement M
+difference_spec = tie.close (tie.spec returns)

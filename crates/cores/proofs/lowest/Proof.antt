@@ -15,79 +15,79 @@ use Rattle.cores.proofs.Runs.{first_of, run_of, some-run, taken-off}
 use Rattle.cores.proofs.lowest.Statement.{statement}
 use Rattle.cores.proofs.lowest.Tie as tie
 
-abbrev invariant-loop : tie.invariant-loop
+abbrev invariant-loop : tie.invariant-loop-wanted
 invariant-loop free width rest₀ wanted₀ rest wanted = (wanted ≤ width) × (rest ≤ free) × (cores rest ≡ drop (width - wanted) (cores free))
 
-abbrev decreases-loop : tie.decreases-loop
+abbrev decreases-loop : tie.decreases-loop-wanted
 decreases-loop free width rest₀ wanted₀ rest wanted = wanted
 
 -- the state at the call
-abbrev entry : tie.Then1 invariant-loop decreases-loop → tie.Start invariant-loop decreases-loop
+abbrev entry : tie.Then-rest-gt0 invariant-loop decreases-loop → tie.Start invariant-loop decreases-loop
 entry c = c.before.before.before
 
 -- the state at the head of the loop
-abbrev loop : tie.After-first-cores invariant-loop decreases-loop → tie.At-loop invariant-loop decreases-loop
+abbrev loop : tie.After-first_cores invariant-loop decreases-loop → tie.At-loop-wanted invariant-loop decreases-loop
 loop c = c.before.before.before.before
 
-loop-holds : tie.Need-loop-init invariant-loop decreases-loop
+loop-holds : tie.Need-loop-wanted-init invariant-loop decreases-loop
 loop-holds c =
     let none : c.args.width - c.args.width ≡ 0 = omega arith in
     (search rules, search rules, sym (ap (λ (k : ℕ). drop k (cores c.args.free)) none))
 
 -- the rest is not empty, so it has a first run
-some : (c : tie.Then1 invariant-loop decreases-loop) → 0 < c.before.before.loop.rest
-some c = ltb-true _ _ c.if1.true
+some : (c : tie.Then-rest-gt0 invariant-loop decreases-loop) → 0 < c.loop-wanted.rest
+some c = ltb-true _ _ c.if-rest-gt0.true-raw
 
-small : (c : tie.Then1 invariant-loop decreases-loop) → c.before.before.loop.rest < 2 ^ 64
+small : (c : tie.Then-rest-gt0 invariant-loop decreases-loop) → c.loop-wanted.rest < 2 ^ 64
 small c = omega (arith, (entry c).ranges.free)
 
-run : (c : tie.Then1 invariant-loop decreases-loop) → (first_of c.before.before.loop.rest < 64) × (0 < run_of c.before.before.loop.rest)
-run c = some-run c.before.before.loop.rest (some c) (small c)
+run : (c : tie.Then-rest-gt0 invariant-loop decreases-loop) → (first_of c.loop-wanted.rest < 64) × (0 < run_of c.loop-wanted.rest)
+run c = some-run c.loop-wanted.rest (some c) (small c)
 
-cast-run : tie.Need-overflow-cast-run invariant-loop decreases-loop
+cast-run : tie.Need-overflow_cast-run invariant-loop decreases-loop
 cast-run c = omega (arith, (run c).0)
 
-shr-run : tie.Need-overflow-shr-run invariant-loop decreases-loop
+shr-run : tie.Need-overflow_shr-run invariant-loop decreases-loop
 shr-run c = (run c).0
 
-fewer-requires : tie.Need-fewer-requires invariant-loop decreases-loop
+fewer-requires : tie.Need-fewer-piece-requires invariant-loop decreases-loop
 fewer-requires c κs = search rules
 
-first-cores-requires : tie.Need-first-cores-requires invariant-loop decreases-loop
+first-cores-requires : tie.Need-first_cores-requires invariant-loop decreases-loop
 first-cores-requires c κs = search rules
 
-cast-rest : tie.Need-overflow-cast-rest invariant-loop decreases-loop
+cast-rest : tie.Need-overflow_cast-rest invariant-loop decreases-loop
 cast-rest c = omega (arith, (run c.before.before).0)
 
-shl-rest : tie.Need-overflow-shl-rest invariant-loop decreases-loop
+shl-rest : tie.Need-overflow_shl-rest invariant-loop decreases-loop
 shl-rest c = (run c.before.before).0
 
 -- the piece is taken off
-piece : (c : tie.After-first-cores invariant-loop decreases-loop)
-    → ((c.first-cores.result * 2 ^ first_of (loop c).loop.rest) % 2 ^ 64 ≤ (loop c).loop.rest)
-    × (cores ((loop c).loop.rest - (c.first-cores.result * 2 ^ first_of (loop c).loop.rest) % 2 ^ 64)
-    ≡ drop c.before.fewer.result (cores (loop c).loop.rest))
+piece : (c : tie.After-first_cores invariant-loop decreases-loop)
+    → ((c.first_cores.result * 2 ^ first_of (loop c).loop-wanted.rest) % 2 ^ 64 ≤ (loop c).loop-wanted.rest)
+    × (cores ((loop c).loop-wanted.rest - (c.first_cores.result * 2 ^ first_of (loop c).loop-wanted.rest) % 2 ^ 64)
+    ≡ drop c.fewer-piece.result (cores (loop c).loop-wanted.rest))
 piece c =
     let t = c.before.before in
-    taken-off t.before.before.loop.rest c.before.fewer.result c.first-cores.result (some t)
-    (small t) (omega (arith, c.before.fewer.ensures)) (omega (arith, c.first-cores.type-inv)) c.first-cores.ensures
+    taken-off t.loop-wanted.rest c.fewer-piece.result c.first_cores.result (some t)
+    (small t) (omega (arith, c.fewer-piece.ensures)) (omega (arith, c.first_cores.type_inv)) c.first_cores.ensures
 
-sub-rest : tie.Need-overflow-sub-rest invariant-loop decreases-loop
+sub-rest : tie.Need-overflow_sub-rest invariant-loop decreases-loop
 sub-rest c = (piece c).0
 
-sub-wanted : tie.Need-overflow-sub-wanted invariant-loop decreases-loop
-sub-wanted c = omega (arith, c.before.fewer.ensures)
+sub-wanted : tie.Need-overflow_sub-wanted invariant-loop decreases-loop
+sub-wanted c = omega (arith, c.fewer-piece.ensures)
 
-loop-less : tie.Need-loop-smaller invariant-loop decreases-loop
-loop-less c = omega (arith, c.before.fewer.ensures, (run c.before.before).1)
+loop-less : tie.Need-loop-wanted-smaller invariant-loop decreases-loop
+loop-less c = omega (arith, c.fewer-piece.ensures, (run c.before.before).1)
 
-loop-again : tie.Need-loop-preserved invariant-loop decreases-loop
+loop-again : tie.Need-loop-wanted-preserved invariant-loop decreases-loop
 loop-again c =
-    let l = (loop c).loop in
-    let s = (loop c).before.args in
-    let m = c.before.fewer.result in
-    let k : s.width - l.wanted + m ≡ s.width - (l.wanted - m) = omega (arith, c.before.fewer.ensures) in
-    (omega arith, omega arith, (piece c).1 ∙ ap (drop m) l.inv.2 ∙ drop-drop m (s.width - l.wanted) (cores s.free) ∙ ap (λ (i : ℕ). drop i (cores s.free)) k)
+    let l = (loop c).loop-wanted in
+    let s = (loop c).args in
+    let m = c.fewer-piece.result in
+    let k : s.width - l.wanted + m ≡ s.width - (l.wanted - m) = omega (arith, c.fewer-piece.ensures) in
+    (omega arith, omega arith, (piece c).1 ∙ ap (drop m) l.invariant.2 ∙ drop-drop m (s.width - l.wanted) (cores s.free) ∙ ap (λ (i : ℕ). drop i (cores s.free)) k)
 
 -- nothing is left to drop
 ran_out : (l : List ℕ) (k w : ℕ) → k ≤ w → drop k l ≡ [] → drop w l ≡ []
@@ -95,28 +95,28 @@ ran_out l k w h e =
     let s : w ≡ k + (w - k) = omega arith in
     ap (λ (x : ℕ). drop x l) s ∙ sym (drop-drop (w - k) k l) ∙ ap (drop (w - k)) e ∙ drop-nil (w - k)
 
-at-end : (c : tie.Left-loop invariant-loop decreases-loop) → cores c.before.loop.rest ≡ drop c.before.before.args.width (cores c.before.before.args.free)
+at-end : (c : tie.Left-loop-wanted invariant-loop decreases-loop) → cores c.loop-wanted.rest ≡ drop c.args.width (cores c.args.free)
 at-end c =
-    let l = c.before.loop in
-    let free = c.before.before.args.free in
-    let width = c.before.before.args.width in
+    let l = c.loop-wanted in
+    let free = c.args.free in
+    let width = c.args.width in
     ⊎_elim
-    (λ w. let z : l.rest ≡ 0 = omega (arith, ltb-false 0 l.rest w.1.left) in
+    (λ w. let z : l.rest ≡ 0 = omega (arith, ltb-false 0 l.rest w.if-rest-gt0.false-raw) in
     let n : cores l.rest ≡ [] = ap cores z ∙ cores-none in
     n ∙ sym (ran_out (cores free) (width - l.wanted) width (omega arith) (sym l.invariant.2 ∙ n)))
     (λ w. let e : width - l.wanted ≡ width = omega arith in l.invariant.2 ∙ ap (λ (k : ℕ). drop k (cores free)) e)
-    c.loop-test.branch
+    c.loop-wanted-test.branch-raw
 
-sub-result : tie.Need-overflow-sub-result invariant-loop decreases-loop
-sub-result c = c.before.loop.invariant.1
+sub-result : tie.Need-overflow_sub-result invariant-loop decreases-loop
+sub-result c = c.loop-wanted.invariant.1
 
 returns : tie.Need-returns invariant-loop decreases-loop
 returns c =
     let s = c.before.before in
-    front_of s.args.free s.args.width c.before.loop.rest s.ranges.free.fits (omega (arith, s.ranges.free)) (at-end c)
+    front_of s.args.free s.args.width c.loop-wanted.rest s.ranges.free.fits (omega (arith, s.ranges.free)) (at-end c)
 
-pub lowest-spec : {M : Type 1} → statement M
-lowest-spec =
+pub lowest_spec : {M : Type 1} → statement M
+lowest_spec =
     tie.close
     (tie.spec
     invariant-loop

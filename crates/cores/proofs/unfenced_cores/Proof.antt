@@ -5,14 +5,14 @@ use Rattle.model.specs.Fence.{outside}
 use Rattle.cores.proofs.unfenced_cores.Statement.{statement}
 use Rattle.cores.proofs.unfenced_cores.Tie as tie
 
-first-cores-requires : tie.Need-first-cores-requires
+first-cores-requires : tie.Need-first_cores-requires
 first-cores-requires c κs = search rules
 
 difference-requires : tie.Need-difference-requires
 difference-requires c κs = search rules
 
 returns : tie.Need-returns
-returns c = c.difference.ensures ∙ ap (outside c.before.before.args.fence) c.before.first-cores.ensures
+returns c = c.difference.ensures ∙ ap (outside c.args.fence) c.first_cores.ensures
 
-pub unfenced-cores-spec : {M : Type 1} → statement M
-unfenced-cores-spec = tie.close (tie.spec first-cores-requires difference-requires returns)
+pub unfenced_cores_spec : {M : Type 1} → statement M
+unfenced_cores_spec = tie.close (tie.spec first-cores-requires difference-requires returns)

@@ -7,11 +7,11 @@ use Rattle.cores.proofs.Cores.{cores-length}
 use Rattle.cores.proofs.unfenced_count.Statement.{statement}
 use Rattle.cores.proofs.unfenced_count.Tie as tie
 
-unfenced-cores-requires : tie.Need-unfenced-cores-requires
+unfenced-cores-requires : tie.Need-unfenced_cores-requires
 unfenced-cores-requires c κs = search rules
 
 returns : tie.Need-returns
-returns c = sym (cores-length c.unfenced-cores.result (omega (arith, c.unfenced-cores.type-inv))) ∙ ap length c.unfenced-cores.ensures
+returns c = sym (cores-length c.unfenced_cores.result (omega (arith, c.unfenced_cores.type_inv))) ∙ ap length c.unfenced_cores.ensures
 
-pub unfenced-count-spec : {M : Type 1} → statement M
-unfenced-count-spec = tie.close (tie.spec unfenced-cores-requires returns)
+pub unfenced_count_spec : {M : Type 1} → statement M
+unfenced_count_spec = tie.close (tie.spec unfenced-cores-requires returns)

@@ -8,5 +8,5 @@ use Rattle.phase.proofs.idles.Tie as tie
 returns : tie.Need-returns
 returns c = sym (idles-rule c.args.rule)
 
-pub idles-spec : {M : Type 1} → statement M
-idles-spec = tie.close (tie.spec returns)
+pub idles_spec : {M : Type 1} → statement M
+idles_spec = tie.close (tie.spec returns)

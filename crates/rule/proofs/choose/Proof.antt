@@ -24,32 +24,32 @@ use Rattle.rule.proofs.Granting.{takes, passes, ends}
 use Rattle.rule.proofs.choose.Statement.{statement}
 use Rattle.rule.proofs.choose.Tie as tie
 
-abbrev invariant-loop : tie.invariant-loop
+abbrev invariant-loop : tie.invariant-loop-rest
 invariant-loop rule free claims even widths chosen₀ left₀ rest₀ chosen left rest =
     (rest < 2 ^ 32)
     × ((p : ℕ)
     → bit chosen p || places (rule_of rule) (widths_in even widths) rest left p
     ≡ granted (rule_of rule) (claimants (widths_in even widths) (bit claims)) (cores free) p)
 
-abbrev decreases-loop : tie.decreases-loop
+abbrev decreases-loop : tie.decreases-loop-rest
 decreases-loop rule free claims even widths chosen₀ left₀ rest₀ chosen left rest = rest
 
 -- the state at the head of the loop
-abbrev loop : tie.After-select invariant-loop decreases-loop → tie.At-loop invariant-loop decreases-loop
+abbrev loop : tie.After-select invariant-loop decreases-loop → tie.At-loop-rest invariant-loop decreases-loop
 loop c = c.before.before.before
 
 -- the state in the loop
-abbrev in-loop-from-arm3 : tie.At-match-keys3 invariant-loop decreases-loop → tie.In-loop invariant-loop decreases-loop
+abbrev in-loop-from-arm3 : tie.In-Ends invariant-loop decreases-loop → tie.In-loop-rest invariant-loop decreases-loop
 in-loop-from-arm3 c = c.before.before.before
 
-abbrev in-loop-from-enum-told : tie.After-enum-told invariant-loop decreases-loop → tie.In-loop invariant-loop decreases-loop
-in-loop-from-enum-told c = c.before.before.before.before
+abbrev in-loop-from-enum-told : tie.In-Takes invariant-loop decreases-loop → tie.In-loop-rest invariant-loop decreases-loop
+in-loop-from-enum-told c = c.before.before.before
 
-abbrev in-loop-from-enum-told2 : tie.After-enum-told2 invariant-loop decreases-loop → tie.In-loop invariant-loop decreases-loop
-in-loop-from-enum-told2 c = c.before.before.before.before
+abbrev in-loop-from-enum-told2 : tie.In-Passed invariant-loop decreases-loop → tie.In-loop-rest invariant-loop decreases-loop
+in-loop-from-enum-told2 c = c.before.before.before
 
 -- the free cores are counted
-loop-holds : tie.Need-loop-init invariant-loop decreases-loop
+loop-holds : tie.Need-loop-rest-init invariant-loop decreases-loop
 loop-holds c =
     let a = c.args in (
       c.ranges.claims.fits,
@@ -87,100 +87,100 @@ module _ (r : Rule) (ws : List ℕ) (x y q v n chosen : ℕ) (l : Lowest x q) (e
 
 -- ---- the needs
 
-at-step : (c : tie.In-loop invariant-loop decreases-loop) → LowestDigit 32 c.before.loop.rest
-at-step c = lowest-digit 32 c.before.loop.rest c.loop-test.true c.before.loop.invariant.0
+at-step : (c : tie.In-loop-rest invariant-loop decreases-loop) → LowestDigit 32 c.loop-rest.rest
+at-step c = lowest-digit 32 c.loop-rest.rest c.loop-rest-test.true c.loop-rest.invariant.0
 
-sub-rest : tie.Need-overflow-sub-rest invariant-loop decreases-loop
+sub-rest : tie.Need-overflow_sub-rest invariant-loop decreases-loop
 sub-rest c = omega arith
 
-width-at-requires : tie.Need-width-at-requires invariant-loop decreases-loop
+width-at-requires : tie.Need-width_at-width-requires invariant-loop decreases-loop
 width-at-requires c κs = (at-step c).place
 
 select-requires : tie.Need-select-requires invariant-loop decreases-loop
 select-requires c κs = search rules
 
-enum_told : tie.Need-enum-told invariant-loop decreases-loop
+enum_told : tie.Need-enum_told-1 invariant-loop decreases-loop
 enum_told c = search rules
 
 -- the width that is read, and the rule's answer to it
 abbrev width : tie.After-select invariant-loop decreases-loop → ℕ
-width c = c.before.width-at.result
+width c = c.width_at-width.result
 
-said : (c : tie.After-select invariant-loop decreases-loop) → c.select.result ≡ selection (rule_of (loop c).before.args.rule) (loop c).loop.left (width c)
+said : (c : tie.After-select invariant-loop decreases-loop) → c.select.result ≡ selection (rule_of (loop c).args.rule) (loop c).loop-rest.left (width c)
 said c = c.select.ensures
 
-sub-left : tie.Need-overflow-sub-left invariant-loop decreases-loop
+sub-left : tie.Need-overflow_sub-left invariant-loop decreases-loop
 sub-left c =
-    let l = (in-loop-from-enum-told c).before.loop in
-    let a = (in-loop-from-enum-told c).before.before.args in
-    takes (rule_of a.rule) l.left (width c.before.before) (sym (said c.before.before) ∙ c.enum_told.given.1)
+    let l = (in-loop-from-enum-told c).loop-rest in
+    let a = (in-loop-from-enum-told c).args in
+    takes (rule_of a.rule) l.left (width c.before) (sym (said c.before) ∙ c.in-Takes.is)
 
-shl-chosen : tie.Need-overflow-shl-chosen invariant-loop decreases-loop
+shl-chosen : tie.Need-overflow_shl-chosen invariant-loop decreases-loop
 shl-chosen c = (at-step (in-loop-from-enum-told c.before)).place
 
-loop-less : tie.Need-loop-smaller invariant-loop decreases-loop
+loop-less : tie.Need-loop-rest-smaller-then-width-gt0 invariant-loop decreases-loop
 loop-less c = (at-step (in-loop-from-enum-told c.before)).falls
 
-loop-again : tie.Need-loop-preserved invariant-loop decreases-loop
+loop-again : tie.Need-loop-rest-preserved-then-width-gt0 invariant-loop decreases-loop
 loop-again c =
     let t = in-loop-from-enum-told c.before in
-    let a = t.before.before.args in
-    let l = t.before.loop in (
+    let a = t.args in
+    let l = t.loop-rest in (
       omega (arith, (at-step t).falls),
       λ p. given-step (rule_of a.rule) (widths_in a.even a.widths.now) l.rest _ (count_trailing_zeros 32 l.rest) _ l.left l.chosen
-          (at-step t).lowest (at-step t).after c.before.before.before.before.width-at.ensures p _
-          (shifted_one 32 (count_trailing_zeros 32 l.rest) (at-step t).place) (sub-left c.before) c.if1.true ∙ l.inv.1 p,
+          (at-step t).lowest (at-step t).after c.width_at-width.ensures p _
+          (shifted_one 32 (count_trailing_zeros 32 l.rest) (at-step t).place) (sub-left c.before) c.if-width-gt0.true ∙ l.invariant.1 p,
     )
 
-loop-less-2 : tie.Need-loop-smaller-2 invariant-loop decreases-loop
+loop-less-2 : tie.Need-loop-rest-smaller-else-width-gt0 invariant-loop decreases-loop
 loop-less-2 c = (at-step (in-loop-from-enum-told c.before)).falls
 
-loop-again-2 : tie.Need-loop-preserved-2 invariant-loop decreases-loop
+loop-again-2 : tie.Need-loop-rest-preserved-else-width-gt0 invariant-loop decreases-loop
 loop-again-2 c =
     let t = in-loop-from-enum-told c.before in
-    let a = t.before.before.args in
-    let l = t.before.loop in (
+    let a = t.args in
+    let l = t.loop-rest in (
       omega (arith, (at-step t).falls),
       λ p. empty-step (rule_of a.rule) (widths_in a.even a.widths.now) l.rest _ (count_trailing_zeros 32 l.rest) _ l.left
-          l.chosen (at-step t).lowest (at-step t).after c.before.before.before.before.width-at.ensures p
-          (sub-left c.before) c.if1.false ∙ l.inv.1 p,
+          l.chosen (at-step t).lowest (at-step t).after c.width_at-width.ensures p
+          (sub-left c.before) c.if-width-gt0.false ∙ l.invariant.1 p,
     )
 
-enum-told-2 : tie.Need-enum-told-2 invariant-loop decreases-loop
+enum-told-2 : tie.Need-enum_told-in-Passed invariant-loop decreases-loop
 enum-told-2 c = search rules
 
-loop-less-3 : tie.Need-loop-smaller-3 invariant-loop decreases-loop
+loop-less-3 : tie.Need-loop-rest-smaller invariant-loop decreases-loop
 loop-less-3 c = (at-step (in-loop-from-enum-told2 c)).falls
 
-loop-again-3 : tie.Need-loop-preserved-3 invariant-loop decreases-loop
+loop-again-3 : tie.Need-loop-rest-preserved invariant-loop decreases-loop
 loop-again-3 c =
     let t = in-loop-from-enum-told2 c in
-    let a = t.before.before.args in
-    let l = t.before.loop in
+    let a = t.args in
+    let l = t.loop-rest in
     let q = count_trailing_zeros 32 l.rest in
-    let w = passes (rule_of a.rule) l.left (width c.before.before) (sym (said c.before.before) ∙ c.enum-told2.given.1) in (
+    let w = passes (rule_of a.rule) l.left (width c.before) (sym (said c.before) ∙ c.in-Passed.is) in (
       omega (arith, (at-step t).falls),
-      λ p. passed-step (rule_of a.rule) (widths_in a.even a.widths.now) l.rest _ q (width c.before.before) l.left l.chosen
-          (at-step t).lowest (at-step t).after c.before.before.before.width-at.ensures p w.0 w.1 ∙ l.inv.1 p,
+      λ p. passed-step (rule_of a.rule) (widths_in a.even a.widths.now) l.rest _ q (width c.before) l.left l.chosen
+          (at-step t).lowest (at-step t).after c.width_at-width.ensures p w.0 w.1 ∙ l.invariant.1 p,
     )
 
-enum-told-3 : tie.Need-enum-told-3 invariant-loop decreases-loop
+enum-told-3 : tie.Need-enum_told-in-Ends invariant-loop decreases-loop
 enum-told-3 c = search rules
 
-returns : tie.Need-returns invariant-loop decreases-loop
+returns : tie.Need-returns-in-Ends invariant-loop decreases-loop
 returns c p =
-    let t = in-loop-from-arm3 c.before in
-    let a = t.before.before.args in
-    let l = t.before.loop in
+    let t = in-loop-from-arm3 c in
+    let a = t.args in
+    let l = t.loop-rest in
     let q = count_trailing_zeros 32 l.rest in
-    let w = ends (rule_of a.rule) l.left (width c.before.before) (sym (said c.before.before) ∙ c.enum-told3.given.1) in
-    ended-step (rule_of a.rule) (widths_in a.even a.widths.now) l.rest _ q (width c.before.before) l.left l.chosen
-    (at-step t).lowest (at-step t).after c.before.before.before.width-at.ensures p w.0 w.1 ∙ l.inv.1 p
+    let w = ends (rule_of a.rule) l.left (width c.before) (sym (said c.before) ∙ c.in-Ends.is) in
+    ended-step (rule_of a.rule) (widths_in a.even a.widths.now) l.rest _ q (width c.before) l.left l.chosen
+    (at-step t).lowest (at-step t).after c.width_at-width.ensures p w.0 w.1 ∙ l.invariant.1 p
 
-returns-2 : tie.Need-returns-2 invariant-loop decreases-loop
+returns-2 : tie.Need-returns invariant-loop decreases-loop
 returns-2 c p =
-    let l = c.before.loop in
-    let a = c.before.before.args in
+    let l = c.loop-rest in
+    let a = c.args in
     let z : l.rest ≡ 0 = omega arith in
     sym (or-false (bit l.chosen p))
     ∙ ap (λ (t : Bool). bit l.chosen p || t) (sym (places-none (rule_of a.rule) (widths_in a.even a.widths.now) l.left p))

@@ -16,87 +16,87 @@ use Rattle.rule.proofs.Widths.{front_length}
 use Rattle.rule.proofs.lend.Statement.{statement}
 use Rattle.rule.proofs.lend.Tie as tie
 
-abbrev invariant-loop : tie.invariant-loop
+abbrev invariant-loop : tie.invariant-loop-i
 invariant-loop reserved holders seekers even widths count sets₀ seeking₀ i₀ sets seeking i =
     (i ≤ count) × Lending (take count (widths_in even widths)) reserved holders seekers count sets seeking i
 
-abbrev decreases-loop : tie.decreases-loop
+abbrev decreases-loop : tie.decreases-loop-i
 decreases-loop reserved holders seekers even widths count sets₀ seeking₀ i₀ sets seeking i = count - i
 
-loop-holds : tie.Need-loop-init invariant-loop decreases-loop
+loop-holds : tie.Need-loop-i-init invariant-loop decreases-loop
 loop-holds c =
     let a = c.args in
     let ws = take a.count (widths_in a.even a.widths.now) in
     (omega arith, lending-begun ws a.reserved.now a.holders a.seekers a.count c.ranges.seekers.fits)
 
-cast-place : tie.Need-overflow-cast-place invariant-loop decreases-loop
+cast-place : tie.Need-overflow_cast-place invariant-loop decreases-loop
 cast-place c = omega arith
 
-shl-seeking : tie.Need-overflow-shl-seeking invariant-loop decreases-loop
+shl-seeking : tie.Need-overflow_shl-seeking invariant-loop decreases-loop
 shl-seeking c = omega arith
 
-shr-if1 : tie.Need-overflow-shr-if1 invariant-loop decreases-loop
+shr-if1 : tie.Need-overflow_shr-holders invariant-loop decreases-loop
 shr-if1 c = omega arith
 
-mul-grants : tie.Need-overflow-mul-grants invariant-loop decreases-loop
+mul-grants : tie.Need-offset_bounds-reserved-i invariant-loop decreases-loop
 mul-grants c = omega arith
 
-element-copy-out-grants : tie.Need-element-copy-out-grants invariant-loop decreases-loop
+element-copy-out-grants : tie.Need-bounds-reserved-i invariant-loop decreases-loop
 element-copy-out-grants c = omega arith
 
-grants-requires : tie.Need-grants-requires invariant-loop decreases-loop
+grants-requires : tie.Need-grants-more-requires invariant-loop decreases-loop
 grants-requires c κs = search rules
 
 owners-requires : tie.Need-owners-requires invariant-loop decreases-loop
 owners-requires c κs = search rules
 
-merged-requires : tie.Need-merged-requires invariant-loop decreases-loop
+merged-requires : tie.Need-merged-next-requires invariant-loop decreases-loop
 merged-requires c κs = search rules
 
-add-i : tie.Need-overflow-add-i invariant-loop decreases-loop
+add-i : tie.Need-overflow_add-i invariant-loop decreases-loop
 add-i c = omega arith
 
-loop-less : tie.Need-loop-smaller invariant-loop decreases-loop
+loop-less : tie.Need-loop-i-smaller invariant-loop decreases-loop
 loop-less c = omega arith
 
 -- the state before the iteration
-abbrev loop : tie.Joined1 invariant-loop decreases-loop → tie.At-loop invariant-loop decreases-loop
+abbrev loop : tie.Joined-holders-place-eq1 invariant-loop decreases-loop → tie.At-loop-i invariant-loop decreases-loop
 loop c = c.before.before
 
 -- what holds at place i, with these sets and these seekers
-abbrev Holds : tie.Joined1 invariant-loop decreases-loop → List ℕ → ℕ → ℕ → Type 0
+abbrev Holds : tie.Joined-holders-place-eq1 invariant-loop decreases-loop → List ℕ → ℕ → ℕ → Type 0
 Holds c =
-    let a = (loop c).before.args in
+    let a = (loop c).args in
     Lending (take a.count (widths_in a.even a.widths.now)) a.reserved.now a.holders a.seekers a.count
 
 -- one iteration
-turned : (c : tie.Joined1 invariant-loop decreases-loop) → Holds c c.if1.sets c.if1.seeking (suc (loop c).loop.i)
+turned : (c : tie.Joined-holders-place-eq1 invariant-loop decreases-loop) → Holds c c.if-holders-place-eq1.sets c.if-holders-place-eq1.seeking (suc (loop c).loop-i.i)
 turned c =
-    let a = (loop c).before.args in
-    let l = (loop c).loop in
+    let a = (loop c).args in
+    let l = (loop c).loop-i in
     let ws = take a.count (widths_in a.even a.widths.now) in
     let y = bit_and l.seeking (bit_xor l.seeking ((1 * 2 ^ l.i) % 2 ^ 32)) in
-    let inside : l.i < 32 = omega (arith, (loop c).before.requires) in
+    let inside : l.i < 32 = omega (arith, (loop c).requires) in
     ⊎_elim
     (λ w.
-    let all = lends ws a.reserved.now a.holders a.seekers a.count l.sets l.seeking l.i l.inv.1 inside y refl
-    (eq-eqb _ _ w.0.taken) w.2.result w.2.ensures w.4.result w.4.ensures w.6.result (search (rules, w.6.ok)) w.6.ensures in
-    subst₂ (λ (sets : List ℕ) (seeking : ℕ). Holds c sets seeking (suc l.i)) (sym w.7) (sym w.8) all)
+    let all = lends ws a.reserved.now a.holders a.seekers a.count l.sets l.seeking l.i l.invariant.1 inside y refl
+    (eq-eqb _ _ w.if-holders-place-eq1.true) w.grants-more.result w.grants-more.ensures w.owners.result w.owners.ensures w.merged-next.result (search (rules, w.merged-next.type_inv)) w.merged-next.ensures in
+    subst₂ (λ (sets : List ℕ) (seeking : ℕ). Holds c sets seeking (suc l.i)) (sym w.sets-is) (sym w.seeking-is) all)
     (λ w.
-    let all = lends_none ws a.reserved.now a.holders a.seekers a.count l.sets l.seeking l.i l.inv.1 inside y refl
-    (ne_eqb _ _ w.0.left) in
-    subst₂ (λ (sets : List ℕ) (seeking : ℕ). Holds c sets seeking (suc l.i)) (sym w.1) (sym w.2) all)
-    c.if1.branch
+    let all = lends_none ws a.reserved.now a.holders a.seekers a.count l.sets l.seeking l.i l.invariant.1 inside y refl
+    (ne_eqb _ _ w.if-holders-place-eq1.false) in
+    subst₂ (λ (sets : List ℕ) (seeking : ℕ). Holds c sets seeking (suc l.i)) (sym w.sets-is) (sym w.seeking-is) all)
+    c.if-holders-place-eq1.branch-raw
 
-loop-again : tie.Need-loop-preserved invariant-loop decreases-loop
+loop-again : tie.Need-loop-i-preserved invariant-loop decreases-loop
 loop-again c = (omega arith, rw add-one (turned c))
 
 returns : tie.Need-returns invariant-loop decreases-loop
 returns c =
-    let a = c.before.before.args in
-    let l = c.before.loop in
+    let a = c.args in
+    let l = c.loop-i in
     let ws = take a.count (widths_in a.even a.widths.now) in
-    let few : a.count ≤ 32 = c.before.before.requires in
+    let few : a.count ≤ 32 = c.requires in
     let e : l.i ≡ a.count = omega arith in
     all-lent ws a.reserved.now a.holders a.seekers a.count l.sets l.seeking (front_length a.even a.widths.now a.count few) few
     (subst (Lending ws a.reserved.now a.holders a.seekers a.count l.sets l.seeking) e l.invariant.1)

@@ -13,37 +13,37 @@ use Rattle.rule.proofs.Rows.{marked-none, marked_more}
 use Rattle.rule.proofs.mark.Statement.{statement}
 use Rattle.rule.proofs.mark.Tie as tie
 
-abbrev invariant-loop : tie.invariant-loop
+abbrev invariant-loop : tie.invariant-loop-rest
 invariant-loop set mark out₀ rest₀ out rest = (rest < 2 ^ 64) × (length out ≡ 64) × (marked out mark (cores rest) ≡ marked out₀ mark (cores set))
 
-abbrev decreases-loop : tie.decreases-loop
+abbrev decreases-loop : tie.decreases-loop-rest
 decreases-loop set mark out₀ rest₀ out rest = rest
 
-loop-holds : tie.Need-loop-init invariant-loop decreases-loop
+loop-holds : tie.Need-loop-rest-init invariant-loop decreases-loop
 loop-holds c = (c.ranges.set.fits, search rules, refl)
 
-at-step : (c : tie.In-loop invariant-loop decreases-loop) → Popped c.before.loop.rest
-at-step c = popped c.before.loop.rest c.loop-test.true c.before.loop.invariant.0
+at-step : (c : tie.In-loop-rest invariant-loop decreases-loop) → Popped c.loop-rest.rest
+at-step c = popped c.loop-rest.rest c.loop-rest-test.true c.loop-rest.invariant.0
 
-cast-c : tie.Need-overflow-cast-c invariant-loop decreases-loop
+cast-c : tie.Need-overflow_cast-c invariant-loop decreases-loop
 cast-c c = omega (arith, (at-step c).core)
 
-array-write-out : tie.Need-array-write-out invariant-loop decreases-loop
+array-write-out : tie.Need-bounds-out-c invariant-loop decreases-loop
 array-write-out c = omega (arith, (at-step c).core)
 
-shl-rest : tie.Need-overflow-shl-rest invariant-loop decreases-loop
+shl-rest : tie.Need-overflow_shl-rest invariant-loop decreases-loop
 shl-rest c = (at-step c).core
 
-sub-rest : tie.Need-overflow-sub-rest invariant-loop decreases-loop
+sub-rest : tie.Need-overflow_sub-rest invariant-loop decreases-loop
 sub-rest c = omega (arith, (at-step c).within)
 
-loop-less : tie.Need-loop-smaller invariant-loop decreases-loop
+loop-less : tie.Need-loop-rest-smaller invariant-loop decreases-loop
 loop-less c = omega (arith, (at-step c).some, (at-step c).within)
 
-loop-again : tie.Need-loop-preserved invariant-loop decreases-loop
+loop-again : tie.Need-loop-rest-preserved invariant-loop decreases-loop
 loop-again c =
-    let l = c.before.loop in
-    let m = c.before.before.args.mark in
+    let l = c.loop-rest in
+    let m = c.args.mark in
     let q = count_trailing_zeros 64 l.rest in (
       omega (arith, (at-step c).within),
       length-set l.out q m ∙ l.invariant.1,
@@ -52,8 +52,8 @@ loop-again c =
 
 returns : tie.Need-returns invariant-loop decreases-loop
 returns c =
-    let l = c.before.loop in
-    let m = c.before.before.args.mark in
+    let l = c.loop-rest in
+    let m = c.args.mark in
     let z : l.rest ≡ 0 = omega arith in
     sym (ap (marked l.out m) (ap cores z ∙ cores-none) ∙ marked-none l.out m) ∙ l.invariant.2
 

@@ -43,47 +43,47 @@ joined-more sets more out i h j = record {
         let n : p ≡ i → ⊥ = eqb-false p i e in
         get_or-set_other out i p x 0 n ∙ j.below p (omega arith)
 
-abbrev invariant-loop : tie.invariant-loop
+abbrev invariant-loop : tie.invariant-loop-i
 invariant-loop more out₀ i₀ out i = Joined out₀ more out i
 
-abbrev decreases-loop : tie.decreases-loop
+abbrev decreases-loop : tie.decreases-loop-i
 decreases-loop more out₀ i₀ out i = 32 - i
 
-loop-holds : tie.Need-loop-init invariant-loop decreases-loop
+loop-holds : tie.Need-loop-i-init invariant-loop decreases-loop
 loop-holds c = record { size = search rules; below = λ p h. absurd (omega arith); above = λ p h. refl }
 
-mul-out : tie.Need-overflow-mul-out invariant-loop decreases-loop
+mul-out : tie.Need-offset_bounds-more-i invariant-loop decreases-loop
 mul-out c = omega arith
 
-element-copy-out-out : tie.Need-element-copy-out-out invariant-loop decreases-loop
+element-copy-out-out : tie.Need-bounds-more-i invariant-loop decreases-loop
 element-copy-out-out c = omega arith
 
-mul-out-2 : tie.Need-overflow-mul-out-2 invariant-loop decreases-loop
+mul-out-2 : tie.Need-offset_bounds-out-i invariant-loop decreases-loop
 mul-out-2 c = omega arith
 
-array-read-out : tie.Need-array-read-out invariant-loop decreases-loop
+array-read-out : tie.Need-bounds-out-i invariant-loop decreases-loop
 array-read-out c = omega arith
 
-array-write-out : tie.Need-array-write-out invariant-loop decreases-loop
+array-write-out : tie.Need-bounds-out-i-in-loop-i invariant-loop decreases-loop
 array-write-out c = omega arith
 
-add-i : tie.Need-overflow-add-i invariant-loop decreases-loop
+add-i : tie.Need-overflow_add-i invariant-loop decreases-loop
 add-i c = omega arith
 
-loop-less : tie.Need-loop-smaller invariant-loop decreases-loop
+loop-less : tie.Need-loop-i-smaller invariant-loop decreases-loop
 loop-less c = omega arith
 
-loop-again : tie.Need-loop-preserved invariant-loop decreases-loop
+loop-again : tie.Need-loop-i-preserved invariant-loop decreases-loop
 loop-again c =
-    let l = c.before.before.loop in
-    let a = c.before.before.before.args in
+    let l = c.loop-i in
+    let a = c.args in
     joined-more a.sets a.more.now l.out l.i (omega arith) l.invariant
 
 returns : tie.Need-returns invariant-loop decreases-loop
-returns c p h = c.before.loop.invariant.below p (omega arith)
+returns c p h = c.loop-i.invariant.below p (omega arith)
 
-pub merged-spec : {M : Type 1} → statement M
-merged-spec =
+pub merged_spec : {M : Type 1} → statement M
+merged_spec =
     tie.close
     (tie.spec
     invariant-loop

@@ -16,19 +16,19 @@ use Rattle.rule.proofs.Rows.{shown-row}
 use Rattle.rule.proofs.row_in.Statement.{statement}
 use Rattle.rule.proofs.row_in.Tie as tie
 
-unfenced-cores-requires : tie.Need-unfenced-cores-requires
+unfenced-cores-requires : tie.Need-unfenced_cores-free-requires
 unfenced-cores-requires c κs = search rules
 
-first-cores-requires : tie.Need-first-cores-requires
+first-cores-requires : tie.Need-first_cores-requires
 first-cores-requires c κs = search rules
 
-difference-requires : tie.Need-difference-requires
+difference-requires : tie.Need-difference-fenced-requires
 difference-requires c κs = search rules
 
-mark-requires : tie.Need-mark-requires
+mark-requires : tie.Need-mark-start-requires
 mark-requires c κs = search rules
 
-row-of-requires : tie.Need-row-of-requires
+row-of-requires : tie.Need-row_of-requires
 row-of-requires c κs = search rules
 
 returns : tie.Need-returns
@@ -38,16 +38,16 @@ returns c =
     let o = w.before.before in
     let s = o.before in
     let a = s.args in
-    let free = o.unfenced-cores.result in
+    let free = o.unfenced_cores-free.result in
     let all : min a.cores 64 ≡ a.cores = omega arith in
-    let opened : cores free ≡ unfenced a.fence a.cores = open_of free a.fence a.cores (omega arith) o.unfenced-cores.ensures in
-    let fenced : cores w.difference.result ≡ outside free (up_from 0 a.cores) =
-    w.difference.ensures ∙ ap (outside free) (w.before.first-cores.ensures ∙ ap (up_from 0) all) in
+    let opened : cores free ≡ unfenced a.fence a.cores = open_of free a.fence a.cores (omega arith) o.unfenced_cores-free.ensures in
+    let fenced : cores w.difference-fenced.result ≡ outside free (up_from 0 a.cores) =
+    w.difference-fenced.ensures ∙ ap (outside free) (w.first_cores.ensures ∙ ap (up_from 0) all) in
     let gs = map cores (take a.count a.sets.now) in
-    c.row-of.ensures
-    ∙ (ap (λ (start : List ℕ). shown_bytes start 1 gs) (p.mark.ensures ∙ ap (marked (replicate 64 0) fenced_byte) fenced)
+    c.row_of.ensures
+    ∙ (ap (λ (start : List ℕ). shown_bytes start 1 gs) (p.mark-start.ensures ∙ ap (marked (replicate 64 0) fenced_byte) fenced)
     ∙ shown-row 64 a.cores a.fence (outside free (up_from 0 a.cores)) (omega arith)
     (λ x l. memb-fenced free a.fence a.cores x l opened) gs s.requires.1.apart s.requires.1.unfenced-only)
 
-pub row-in-spec : {M : Type 1} → statement M
-row-in-spec = tie.close (tie.spec unfenced-cores-requires first-cores-requires difference-requires mark-requires row-of-requires returns)
+pub row_in_spec : {M : Type 1} → statement M
+row_in_spec = tie.close (tie.spec unfenced-cores-requires first-cores-requires difference-requires mark-requires row-of-requires returns)

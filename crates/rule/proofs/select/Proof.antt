@@ -2,21 +2,21 @@
 -- Assumes nothing.
 use borrow.Author.Rules.{rules}
 use borrow.Author.Tests.{le-leb, lt-leb}
-use mathlib.Core.Path.{◌≡◌, refl, sym, ◌∙◌}
+use mathlib.Core.Path.{sym, ◌∙◌}
 use Rattle.rule.proofs.select.Statement.{statement}
 use Rattle.rule.proofs.select.Tie as tie
 
-returns : tie.Need-returns
-returns c = rw (le-leb _ _ c.if1.true)
+returns : tie.Need-returns-then-width-free
+returns c = rw (le-leb _ _ c.if-width-free.true)
 
-ends-choosing-requires : tie.Need-ends-choosing-requires
+ends-choosing-requires : tie.Need-ends_choosing-requires
 ends-choosing-requires c κs = search rules
 
-returns-2 : tie.Need-returns-2
-returns-2 c = rw (lt-leb _ _ c.before.before.if1.false, sym c.before.ends-choosing.ensures ∙ c.if2.true)
+returns-2 : tie.Need-returns-then-ends_choosing
+returns-2 c = rw (lt-leb _ _ c.if-width-free.false, sym c.ends_choosing.ensures ∙ c.if-ends_choosing.true)
 
-returns-3 : tie.Need-returns-3
-returns-3 c = rw (lt-leb _ _ c.before.before.if1.false, sym c.before.ends-choosing.ensures ∙ c.if2.false)
+returns-3 : tie.Need-returns
+returns-3 c = rw (lt-leb _ _ c.if-width-free.false, sym c.ends_choosing.ensures ∙ c.if-ends_choosing.false)
 
-pub select-spec : {M : Type 1} → statement M
-select-spec = tie.close (tie.spec returns ends-choosing-requires returns-2 returns-3)
+pub select_spec : {M : Type 1} → statement M
+select_spec = tie.close (tie.spec returns ends-choosing-requires returns-2 returns-3)

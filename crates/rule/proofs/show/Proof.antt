@@ -17,35 +17,35 @@ use Rattle.rule.proofs.Sets.{sets-showable}
 use Rattle.rule.proofs.show.Statement.{statement}
 use Rattle.rule.proofs.show.Tie as tie
 
-unfenced-cores-requires : tie.Need-unfenced-cores-requires
+unfenced-cores-requires : tie.Need-unfenced_cores-free-requires
 unfenced-cores-requires c κs = search rules
 
-grants-requires : tie.Need-grants-requires
+grants-requires : tie.Need-grants-sets-requires
 grants-requires c κs = search rules
 
 -- the cores that are free are the unfenced ones
-opened : (c : tie.After-unfenced-cores) → cores c.unfenced-cores.result ≡ unfenced c.before.args.fence c.before.args.cores
-opened c = open_of c.unfenced-cores.result c.before.args.fence c.before.args.cores (omega arith) c.unfenced-cores.ensures
+opened : (c : tie.After-unfenced_cores-free) → cores c.unfenced_cores-free.result ≡ unfenced c.args.fence c.args.cores
+opened c = open_of c.unfenced_cores-free.result c.args.fence c.args.cores (omega arith) c.unfenced_cores-free.ensures
 
-row-in-requires : tie.Need-row-in-requires
+row-in-requires : tie.Need-row_in-requires
 row-in-requires c κs =
     let g = c.before in
     let o = g.before in
-    let a = o.before.args in
+    let a = o.args in
     let bs = claimants (take a.count (widths_in a.even a.widths.now)) (bit a.claiming) in (
-      o.before.requires,
-      sets-showable (rule_of a.rule) bs a.count o.unfenced-cores.result g.grants.result g.grants.ensures a.fence a.cores (opened o),
+      o.requires,
+      sets-showable (rule_of a.rule) bs a.count o.unfenced_cores-free.result g.grants-sets.result g.grants-sets.ensures a.fence a.cores (opened o),
     )
 
 returns : tie.Need-returns
 returns c =
     let g = c.before.before in
     let o = g.before in
-    let a = o.before.args in
+    let a = o.args in
     let bs = claimants (take a.count (widths_in a.even a.widths.now)) (bit a.claiming) in
     c.row_in.ensures
     ∙ ap (λ (gs : List (List ℕ)). row a.fence a.cores gs ++ replicate (64 - a.cores) 0)
-    (g.grants.ensures.gives ∙ ap (grants (rule_of a.rule) bs) (opened o))
+    (g.grants-sets.ensures.gives ∙ ap (grants (rule_of a.rule) bs) (opened o))
 
-pub show-spec : {M : Type 1} → statement M
-show-spec = tie.close (tie.spec unfenced-cores-requires grants-requires row-in-requires returns)
+pub show_spec : {M : Type 1} → statement M
+show_spec = tie.close (tie.spec unfenced-cores-requires grants-requires row-in-requires returns)

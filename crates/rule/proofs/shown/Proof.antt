@@ -67,69 +67,69 @@ module _ (reserved borrowed : List ℕ) (count : ℕ) (sets : List ℕ) (i lent 
           let n : p ≡ i → ⊥ = eqb-false p i e in
           ap cores (get_or-set_other sets i p x 0 n) ∙ h.below p (omega arith)
 
-abbrev invariant-loop : tie.invariant-loop
+abbrev invariant-loop : tie.invariant-loop-i
 invariant-loop reserved borrowed count lent sets₀ i₀ sets i = (i ≤ count) × Shows reserved borrowed count sets i
 
-abbrev decreases-loop : tie.decreases-loop
+abbrev decreases-loop : tie.decreases-loop-i
 decreases-loop reserved borrowed count lent sets₀ i₀ sets i = count - i
 
-union-requires : tie.Need-union-requires invariant-loop decreases-loop
+union-requires : tie.Need-union-lent-requires invariant-loop decreases-loop
 union-requires c κs = c.requires.0
 
-loop-holds : tie.Need-loop-init invariant-loop decreases-loop
+loop-holds : tie.Need-loop-i-init invariant-loop decreases-loop
 loop-holds c = (omega arith, record { size = refl; below = λ p h. absurd (omega arith); above = λ p h. get_d-zeros 32 p })
 
-mul-sets : tie.Need-overflow-mul-sets invariant-loop decreases-loop
+mul-sets : tie.Need-offset_bounds-borrowed-i invariant-loop decreases-loop
 mul-sets c = omega arith
 
-element-copy-out-sets : tie.Need-element-copy-out-sets invariant-loop decreases-loop
+element-copy-out-sets : tie.Need-bounds-borrowed-i invariant-loop decreases-loop
 element-copy-out-sets c = omega arith
 
-mul-difference : tie.Need-overflow-mul-difference invariant-loop decreases-loop
+mul-difference : tie.Need-offset_bounds-reserved-i invariant-loop decreases-loop
 mul-difference c = omega arith
 
-element-copy-out-difference : tie.Need-element-copy-out-difference invariant-loop decreases-loop
+element-copy-out-difference : tie.Need-bounds-reserved-i invariant-loop decreases-loop
 element-copy-out-difference c = omega arith
 
 difference-requires : tie.Need-difference-requires invariant-loop decreases-loop
 difference-requires c κs = search rules
 
-mul-sets-2 : tie.Need-overflow-mul-sets-2 invariant-loop decreases-loop
+mul-sets-2 : tie.Need-offset_bounds-sets-i invariant-loop decreases-loop
 mul-sets-2 c = omega arith
 
-array-write-sets : tie.Need-array-write-sets invariant-loop decreases-loop
+array-write-sets : tie.Need-bounds-sets-i invariant-loop decreases-loop
 array-write-sets c = omega arith
 
-add-i : tie.Need-overflow-add-i invariant-loop decreases-loop
+add-i : tie.Need-overflow_add-i invariant-loop decreases-loop
 add-i c = omega arith
 
-loop-less : tie.Need-loop-smaller invariant-loop decreases-loop
+loop-less : tie.Need-loop-i-smaller invariant-loop decreases-loop
 loop-less c = omega arith
 
-loop-again : tie.Need-loop-preserved invariant-loop decreases-loop
+loop-again : tie.Need-loop-i-preserved invariant-loop decreases-loop
 loop-again c =
     let t = c.before.before.before.before in
     let u = t.before in
     let s = u.before in
     let a = s.args in
-    let l = t.loop in (
+    let l = t.loop-i in (
       omega arith,
-      shows_more a.reserved.now a.borrowed.now a.count l.sets l.i u.union.result c.difference.result l.invariant.1
-          (omega (arith, s.requires.0)) u.union.ensures c.difference.ensures s.requires.1,
+      shows_more a.reserved.now a.borrowed.now a.count l.sets l.i u.union-lent.result c.difference.result l.invariant.1
+          (omega (arith, s.requires.0)) u.union-lent.ensures c.difference.ensures s.requires.1,
     )
 
 returns : tie.Need-returns invariant-loop decreases-loop
 returns c =
-    let a = c.before.before.before.args in
-    let l = c.before.loop in
+    let a = c.args in
+    let l = c.loop-i in
     record {
       size = l.invariant.1.size;
       gives = λ p h. l.invariant.1.below p (omega arith);
       none = λ p h. l.invariant.1.above p (omega arith);
     }
 
-pub shown-spec : {M : Type 1} → statement M
-shown-spec =
+pub shown_spec : {M : Type 1} → statement M
+shown_spec =
     tie.close
     (tie.spec
     invariant-loop

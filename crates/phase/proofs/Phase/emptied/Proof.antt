@@ -10,14 +10,14 @@ released-requires c κs = search rules
 idles-requires : tie.Need-idles-requires
 idles-requires c κs = search rules
 
-returns : tie.Need-returns
-returns c = simp (← c.before.before.before.released.ensures, c.before.before.if1.true, ← c.before.idles.ensures, c.if2.true)
+returns : tie.Need-returns-then-idles
+returns c = simp (← c.released.ensures, c.if-empty-released.true, ← c.idles.ensures, c.if-idles.true)
 
-returns-2 : tie.Need-returns-2
-returns-2 c = simp (← c.before.before.before.released.ensures, c.before.before.if1.true, ← c.before.idles.ensures, c.if2.false)
+returns-2 : tie.Need-returns-else-idles
+returns-2 c = simp (← c.released.ensures, c.if-empty-released.true, ← c.idles.ensures, c.if-idles.false)
 
-returns-3 : tie.Need-returns-3
-returns-3 c = simp (← c.before.released.ensures, c.if1.false)
+returns-3 : tie.Need-returns-else-empty-released
+returns-3 c = simp (← c.released.ensures, c.if-empty-released.false)
 
-pub emptied-spec : {M : Type 1} → statement M
-emptied-spec = tie.close (tie.spec released-requires idles-requires returns returns-2 returns-3)
+pub emptied_spec : {M : Type 1} → statement M
+emptied_spec = tie.close (tie.spec released-requires idles-requires returns returns-2 returns-3)

@@ -13,11 +13,11 @@ held-requires c κs = search rules
 rested-requires : tie.Need-rested-requires
 rested-requires c κs = search rules
 
-returns : tie.Need-returns
-returns c = simp (← c.before.before.idles.ensures, c.before.if1.true) c.held.ensures
+returns : tie.Need-returns-then-idles
+returns c = simp (← c.idles.ensures, c.if-idles.true) c.held.ensures
 
-returns-2 : tie.Need-returns-2
-returns-2 c = simp (← c.before.before.idles.ensures, c.before.if1.false) c.rested.ensures
+returns-2 : tie.Need-returns-else-idles
+returns-2 c = simp (← c.idles.ensures, c.if-idles.false) c.rested.ensures
 
-pub ended-spec : {M : Type 1} → statement M
-ended-spec = tie.close (tie.spec idles-requires held-requires rested-requires returns returns-2)
+pub ended_spec : {M : Type 1} → statement M
+ended_spec = tie.close (tie.spec idles-requires held-requires rested-requires returns returns-2)

@@ -6,14 +6,14 @@ use Rattle.phase.proofs.Rules.{emptied-no-overflow}
 use Rattle.phase.proofs.Task.next.Statement.{statement}
 use Rattle.phase.proofs.Task.next.Tie as tie
 
-emptied-requires : tie.Need-emptied-requires
+emptied-requires : tie.Need-emptied-seen-requires
 emptied-requires c κs = search rules
 
-stepped-requires : tie.Need-stepped-requires
-stepped-requires c κs = rw c.emptied.ensures (emptied-no-overflow (rule_of c.before.args.rule) c.before.args.empty c.before.args.self.phase c.before.requires)
+stepped-requires : tie.Need-stepped-state-requires
+stepped-requires c κs = rw c.emptied-seen.ensures (emptied-no-overflow (rule_of c.args.rule) c.args.empty c.args.self.phase c.requires)
 
 returns : tie.Need-returns
-returns c = simp (c.stepped.ensures, c.before.emptied.ensures)
+returns c = simp (c.stepped-state.ensures, c.emptied-seen.ensures)
 
-pub next-spec : {M : Type 1} → statement M
-next-spec = tie.close (tie.spec emptied-requires stepped-requires returns)
+pub next_spec : {M : Type 1} → statement M
+next_spec = tie.close (tie.spec emptied-requires stepped-requires returns)

@@ -2,25 +2,25 @@
 -- Assumes nothing.
 use mathlib.Core.Path.{ap, ◌∙◌}
 use borrow.Author.Rules.{rules}
-use Rattle.table.specs.Limits.{taskNumber}
+use Rattle.table.specs.Limits.{task_number}
 use Rattle.phase.proofs.Task.out.Statement.{statement}
 use Rattle.phase.proofs.Task.out.Tie as tie
 
-parameters-requires : tie.Need-parameters-requires
+parameters-requires : tie.Need-parameters-plain-requires
 parameters-requires c κs = search rules
 
-task-number-requires : tie.Need-task-number-requires
+task-number-requires : tie.Need-task_number-requires
 task-number-requires c κs = search rules
 
-phase-in-requires : tie.Need-phase-in-requires
+phase-in-requires : tie.Need-phase_in-requires
 phase-in-requires c κs = search rules
 
 returns : tie.Need-returns
 returns c =
     let n = c.before in
     let p = n.before in
-    let a = p.before.args in
-    simp (n.task-number.ensures ∙ ap (taskNumber a.wide) p.parameters.ensures, c.phase-in.ensures)
+    let a = p.args in
+    simp (n.task_number.ensures ∙ ap (task_number a.wide) p.parameters-plain.ensures, c.phase_in.ensures)
 
-pub out-spec : {M : Type 1} → statement M
-out-spec = tie.close (tie.spec parameters-requires task-number-requires phase-in-requires returns)
+pub out_spec : {M : Type 1} → statement M
+out_spec = tie.close (tie.spec parameters-requires task-number-requires phase-in-requires returns)

@@ -27,96 +27,96 @@ idle false true e own borrowed other = absurd (true≢false e)
 idle false false e own borrowed other = refl
 
 -- the state at the call, from each arm
-abbrev coming : tie.After-known-told → tie.Start
-coming c = c.before.before.before
+abbrev coming : tie.In-Coming → tie.Start
+coming c = c.before
 
-abbrev working : tie.After-known-told2 → tie.Start
-working c = c.before.before.before
+abbrev working : tie.In-Working → tie.Start
+working c = c.before
 
-abbrev holding : tie.After-known-told3 → tie.Start
-holding c = c.before.before.before
+abbrev holding : tie.In-Holding → tie.Start
+holding c = c.before
 
-abbrev resting : tie.After-known-told4 → tie.Start
-resting c = c.before.before.before
+abbrev resting : tie.In-Resting → tie.Start
+resting c = c.before
 
 -- the state in which the phase is known, from the calls of two arms
-abbrev served : tie.After-worked → tie.After-known-told2
+abbrev served : tie.After-worked → tie.In-Working
 served c = c.before.before.before
 
-abbrev held : tie.After-held → tie.After-known-told3
+abbrev held : tie.After-held → tie.In-Holding
 held c = c.before.before
 
-enum-known-seen : tie.Need-enum-known-seen
+enum-known-seen : tie.Need-enum_known-seen
 enum-known-seen c = search rules
 
-sub-still : tie.Need-overflow-sub-still
-sub-still c = let h = rw c.before.seen.given.1 at (coming c).requires in omega arith
+sub-still : tie.Need-overflow_sub-still
+sub-still c = let h = rw c.in-Coming.is at (coming c).requires in omega arith
 
-enum-known-seen-2 : tie.Need-enum-known-seen-2
+enum-known-seen-2 : tie.Need-enum_known-seen-in-Working-1
 enum-known-seen-2 c = search rules
 
-add-worked : tie.Need-overflow-add-worked
-add-worked c = let h = rw c.before.before.seen2.given.1 at (working c.before).requires in omega arith
+add-worked : tie.Need-overflow_add-z
+add-worked c = let h = rw c.in-Working.is at (working c.before).requires in omega arith
 
-add-worked-2 : tie.Need-overflow-add-worked-2
-add-worked-2 c = let h = rw c.before.before.seen2.given.1 at (working c.before).requires in omega arith
+add-worked-2 : tie.Need-overflow_add-had
+add-worked-2 c = let h = rw c.in-Working.is at (working c.before).requires in omega arith
 
 counted-requires : tie.Need-counted-requires
-counted-requires c κs = let h = rw c.before.before.seen2.given.1 at (working c.before).requires in h.2
+counted-requires c κs = let h = rw c.in-Working.is at (working c.before).requires in h.2
 
 worked-requires : tie.Need-worked-requires
 worked-requires c κs = search rules
 
-add-waited : tie.Need-overflow-add-waited
-add-waited c = let h = rw c.before.before.seen2.given.1 at (working c.before).requires in omega arith
+add-waited : tie.Need-overflow_add-waited
+add-waited c = let h = rw c.in-Working.is at (working c.before).requires in omega arith
 
-enum-known-seen-3 : tie.Need-enum-known-seen-3
+enum-known-seen-3 : tie.Need-enum_known-seen-in-Holding-1
 enum-known-seen-3 c = search rules
 
-add-held : tie.Need-overflow-add-held
-add-held c = let h = rw c.before.seen3.given.1 at (holding c).requires in omega arith
+add-held : tie.Need-overflow_add-z-in-Holding
+add-held c = let h = rw c.in-Holding.is at (holding c).requires in omega arith
 
-counted-requires-2 : tie.Need-counted-requires-2
-counted-requires-2 c κs = let h = rw c.before.seen3.given.1 at (holding c).requires in h.1
+counted-requires-2 : tie.Need-counted-requires-in-Holding
+counted-requires-2 c κs = let h = rw c.in-Holding.is at (holding c).requires in h.1
 
 held-requires : tie.Need-held-requires
 held-requires c κs = search rules
 
-enum-known-seen-4 : tie.Need-enum-known-seen-4
+enum-known-seen-4 : tie.Need-enum_known-seen-in-Resting-1
 enum-known-seen-4 c = search rules
 
-add-rested : tie.Need-overflow-add-rested
-add-rested c = let h = rw c.before.seen4.given.1 at (resting c).requires in omega arith
+add-rested : tie.Need-overflow_add-z-in-Resting
+add-rested c = let h = rw c.in-Resting.is at (resting c).requires in omega arith
 
 rested-requires : tie.Need-rested-requires
 rested-requires c κs = search rules
 
-returns : tie.Need-returns
-returns c = simp (c.before.before.seen.given.1, eq-eqb _ _ c.if1.true)
+returns : tie.Need-returns-then-still-eq0
+returns c = simp (c.in-Coming.is, eq-eqb _ _ c.if-still-eq0.true)
 
-returns-2 : tie.Need-returns-2
-returns-2 c = simp (c.before.before.seen.given.1, ne_eqb _ _ c.if1.false)
+returns-2 : tie.Need-returns-else-still-eq0
+returns-2 c = simp (c.in-Coming.is, ne_eqb _ _ c.if-still-eq0.false)
 
-returns-3 : tie.Need-returns-3
+returns-3 : tie.Need-returns-then-given-lent
 returns-3 c =
     let s = served c in
     let a = (working s).args in
-    simp (s.before.seen2.given.1, c.worked.ensures, c.before.counted.ensures)
-    (busy (rule_of a.rule) (task_of a.self) a.given a.lent a.reported a.self.even _ _ _ c.before.before.if2.true)
+    simp (s.in-Working.is, c.worked.ensures, c.counted.ensures)
+    (busy (rule_of a.rule) (task_of a.self) a.given a.lent a.reported a.self.even _ _ _ c.if-given-lent.true)
 
-returns-4 : tie.Need-returns-4
+returns-4 : tie.Need-returns-else-given-lent
 returns-4 c =
     let a = (working c.before).args in
-    simp (c.before.before.seen2.given.1, idle a.given a.lent c.if2.false)
+    simp (c.in-Working.is, idle a.given a.lent c.if-given-lent.false)
 
-returns-5 : tie.Need-returns-5
-returns-5 c = simp ((held c).before.seen3.given.1, c.held.ensures, c.before.counted2.ensures)
+returns-5 : tie.Need-returns-in-Holding
+returns-5 c = simp ((held c).in-Holding.is, c.held.ensures, c.counted-in-Holding.ensures)
 
-returns-6 : tie.Need-returns-6
-returns-6 c = simp (c.before.before.seen4.given.1, c.rested.ensures)
+returns-6 : tie.Need-returns-in-Resting
+returns-6 c = simp (c.in-Resting.is, c.rested.ensures)
 
-pub stepped-spec : {M : Type 1} → statement M
-stepped-spec =
+pub stepped_spec : {M : Type 1} → statement M
+stepped_spec =
     tie.close
     (tie.spec
     enum-known-seen

@@ -4,14 +4,14 @@ use native.Mathlib.Omega.{arith}
 use Rattle.phase.proofs.moves.counted.Statement.{statement}
 use Rattle.phase.proofs.moves.counted.Tie as tie
 
-add-result : tie.Need-overflow-add-result
+add-result : tie.Need-overflow_add-result
 add-result c = omega arith
 
-returns : tie.Need-returns
-returns c = simp c.if1.true
+returns : tie.Need-returns-then-given
+returns c = simp c.if-given.true
 
-returns-2 : tie.Need-returns-2
-returns-2 c = simp c.if1.false
+returns-2 : tie.Need-returns-else-given
+returns-2 c = simp c.if-given.false
 
 pub counted_spec : {M : Type 1} → statement M
 counted_spec = tie.close (tie.spec add-result returns returns-2)

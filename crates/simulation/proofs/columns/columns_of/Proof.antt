@@ -15,7 +15,7 @@ use Rattle.simulation.proofs.Parts.{pair-first, pair-second, pair_parts, stored-
 use Rattle.simulation.proofs.columns.columns_of.Statement.{statement}
 use Rattle.simulation.proofs.columns.columns_of.Tie as tie
 
-abbrev invariant-loop : tie.invariant-loop
+abbrev invariant-loop : tie.invariant-loop-i
 invariant-loop table tasks widths₀ times₀ i₀ widths times i =
     (i ≤ 32)
     × Filled (λ t. t.width) tasks i (segment 0 widths)
@@ -25,24 +25,24 @@ invariant-loop table tasks widths₀ times₀ i₀ widths times i =
     × Filled (λ t. t.period) tasks i (segment 64 times)
     × (list.length widths ≡ 64)
 
-abbrev decreases-loop : tie.decreases-loop
+abbrev decreases-loop : tie.decreases-loop-i
 decreases-loop table tasks widths₀ times₀ i₀ widths times i = 32 - i
 
 -- the state at the call
-abbrev entry-from-past-loop : tie.After-loop invariant-loop decreases-loop → tie.Start invariant-loop decreases-loop
+abbrev entry-from-past-loop : tie.After-loop-i invariant-loop decreases-loop → tie.Start invariant-loop decreases-loop
 entry-from-past-loop c = c.before.before.before
 
-abbrev entry-from-task : tie.After-task invariant-loop decreases-loop → tie.Start invariant-loop decreases-loop
+abbrev entry-from-task : tie.After-task-1 invariant-loop decreases-loop → tie.Start invariant-loop decreases-loop
 entry-from-task c = c.before.before.before.before
 
 -- the table's array has 32 tasks
 all : (c : tie.Start invariant-loop decreases-loop) → list.length c.args.table.tasks ≡ 32
-all c = simp list.length-map at c.well-formed.0.1.1.1.1.1.1.1.0.1.0.1
+all c = c.well_formed.0.1.1.1.1.1.1.1.0.1.0.1
 
-loop-holds : tie.Need-loop-init invariant-loop decreases-loop
+loop-holds : tie.Need-loop-i-init invariant-loop decreases-loop
 unfolding segment
 loop-holds c =
-    let ts = c.before.args.table.tasks in
+    let ts = c.args.table.tasks in
     let all = all c.before in (
       omega arith,
       filled_none (λ t. t.width) ts all,
@@ -53,61 +53,61 @@ loop-holds c =
       refl,
     )
 
-mul-task : tie.Need-overflow-mul-task invariant-loop decreases-loop
+mul-task : tie.Need-offset_bounds-tasks-i invariant-loop decreases-loop
 mul-task c = omega arith
 
-array-copy-out-task : tie.Need-array-copy-out-task invariant-loop decreases-loop
+array-copy-out-task : tie.Need-bounds-tasks-i invariant-loop decreases-loop
 array-copy-out-task c = omega arith
 
-mul-widths : tie.Need-overflow-mul-widths invariant-loop decreases-loop
+mul-widths : tie.Need-offset_bounds-widths-i invariant-loop decreases-loop
 mul-widths c = omega arith
 
-array-write-widths : tie.Need-array-write-widths invariant-loop decreases-loop
+array-write-widths : tie.Need-bounds-widths-i invariant-loop decreases-loop
 array-write-widths c = omega arith
 
-add-widths : tie.Need-overflow-add-widths invariant-loop decreases-loop
+add-widths : tie.Need-overflow_add-widths invariant-loop decreases-loop
 add-widths c = omega arith
 
-mul-widths-2 : tie.Need-overflow-mul-widths-2 invariant-loop decreases-loop
+mul-widths-2 : tie.Need-offset_bounds-widths-i-in-loop-i invariant-loop decreases-loop
 mul-widths-2 c = omega arith
 
-array-write-widths-2 : tie.Need-array-write-widths-2 invariant-loop decreases-loop
+array-write-widths-2 : tie.Need-bounds-widths-i-in-loop-i invariant-loop decreases-loop
 array-write-widths-2 c = omega arith
 
-mul-times : tie.Need-overflow-mul-times invariant-loop decreases-loop
+mul-times : tie.Need-offset_bounds-times-i invariant-loop decreases-loop
 mul-times c = omega arith
 
-array-write-times : tie.Need-array-write-times invariant-loop decreases-loop
+array-write-times : tie.Need-bounds-times-i invariant-loop decreases-loop
 array-write-times c = omega arith
 
-add_times : tie.Need-overflow-add-times invariant-loop decreases-loop
+add_times : tie.Need-overflow_add-times invariant-loop decreases-loop
 add_times c = omega arith
 
-mul-times-2 : tie.Need-overflow-mul-times-2 invariant-loop decreases-loop
+mul-times-2 : tie.Need-offset_bounds-times-i-in-loop-i invariant-loop decreases-loop
 mul-times-2 c = omega arith
 
-array-write-times-2 : tie.Need-array-write-times-2 invariant-loop decreases-loop
+array-write-times-2 : tie.Need-bounds-times-i-in-loop-i invariant-loop decreases-loop
 array-write-times-2 c = omega arith
 
-add-times-2 : tie.Need-overflow-add-times-2 invariant-loop decreases-loop
+add-times-2 : tie.Need-overflow_add-times-in-loop-i invariant-loop decreases-loop
 add-times-2 c = omega arith
 
-mul-times-3 : tie.Need-overflow-mul-times-3 invariant-loop decreases-loop
+mul-times-3 : tie.Need-offset_bounds-times-i-in-loop-i-2 invariant-loop decreases-loop
 mul-times-3 c = omega arith
 
-array-write-times-3 : tie.Need-array-write-times-3 invariant-loop decreases-loop
+array-write-times-3 : tie.Need-bounds-times-i-in-loop-i-2 invariant-loop decreases-loop
 array-write-times-3 c = omega arith
 
-add-i : tie.Need-overflow-add-i invariant-loop decreases-loop
+add-i : tie.Need-overflow_add-i invariant-loop decreases-loop
 add-i c = omega arith
 
-loop-less : tie.Need-loop-smaller invariant-loop decreases-loop
+loop-less : tie.Need-loop-i-smaller invariant-loop decreases-loop
 loop-less c = omega arith
 
-loop-again : tie.Need-loop-preserved invariant-loop decreases-loop
+loop-again : tie.Need-loop-i-preserved invariant-loop decreases-loop
 loop-again c =
     let s = entry-from-task c in
-    let l = c.before.before.loop in
+    let l = c.loop-i in
     let ts = s.args.table.tasks in
     let inside : l.i < 32 = omega arith in
     let v = (list.get_or ts l.i no_task).width in
@@ -127,14 +127,14 @@ loop-again c =
       list.length-set (list.set l.widths l.i v) (32 + l.i) w ∙ (list.length-set l.widths l.i v ∙ l.invariant.6),
     )
 
-paired-in-requires : tie.Need-paired-in-requires invariant-loop decreases-loop
+paired-in-requires : tie.Need-paired_in-requires invariant-loop decreases-loop
 paired-in-requires c κs = search rules
 
 returns : tie.Need-returns invariant-loop decreases-loop
 returns c =
     let past = c.before in
     let s = entry-from-past-loop past in
-    let l = past.before.loop in
+    let l = past.loop-i in
     let t = s.args.table in
     let e : l.i ≡ 32 = omega arith in
     let whole : (f : Task → ℕ) (xs : List ℕ) → Filled f t.tasks l.i xs → xs ≡ map f t.tasks =
@@ -147,15 +147,15 @@ returns c =
       cores = t.cores;
       fence = t.fence;
       count = t.count;
-      paired = c.paired-in.ensures j;
+      paired = c.paired_in.ensures j;
       widths = both j;
       lengths = whole (λ x. x.length) (segment 0 l.times) l.invariant.3 j;
       deadlines = whole (λ x. x.deadline) (segment 32 l.times) l.invariant.4 j;
       periods = whole (λ x. x.period) (segment 64 l.times) l.invariant.5 j;
     }
 
-pub columns-of-spec : {M : Type 1} → statement M
-columns-of-spec =
+pub columns_of_spec : {M : Type 1} → statement M
+columns_of_spec =
     tie.close
     (tie.spec
     invariant-loop

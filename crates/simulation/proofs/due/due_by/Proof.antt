@@ -11,18 +11,18 @@ use Rattle.simulation.proofs.due.due_by.Tie as tie
 chosen : (b : Bool) (t next_event set : ℕ) → eqb t next_event ≡ b → cond b set 0 ≡ cond (eqb t next_event) set 0
 chosen b t next_event set e = ap (λ (x : Bool). cond x set 0) (sym e)
 
-due-places-requires : tie.Need-due-places-requires
+due-places-requires : tie.Need-due_places-requires
 due-places-requires c κs = search rules
 
-returns : tie.Need-returns
+returns : tie.Need-returns-then-tick-event
 returns c =
-    let a = c.before.before.args in
-    c.due-places.ensures ∙ chosen true a.tick a.event _ (eq-eqb a.tick a.event c.before.if1.true)
+    let a = c.args in
+    c.due_places.ensures ∙ chosen true a.tick a.event _ (eq-eqb a.tick a.event c.if-tick-event.true)
 
-returns-2 : tie.Need-returns-2
+returns-2 : tie.Need-returns
 returns-2 c =
-    let a = c.before.args in
-    chosen false a.tick a.event _ (ne_eqb a.tick a.event c.if1.false)
+    let a = c.args in
+    chosen false a.tick a.event _ (ne_eqb a.tick a.event c.if-tick-event.false)
 
-pub due-by-spec : {M : Type 1} → statement M
-due-by-spec = tie.close (tie.spec due-places-requires returns returns-2)
+pub due_by_spec : {M : Type 1} → statement M
+due_by_spec = tie.close (tie.spec due-places-requires returns returns-2)

@@ -3,7 +3,7 @@
 use borrow.Author.Rules.{rules}
 use mathlib.Core.Path.{◌≡◌, refl, sym, ap, ◌∙◌}
 use mathlib.Core.Bool.{Bool, true, false, true≢false}
-use Prim.Native.Nat.{ℕ, ◌^◌, ◌<◌, ◌≤◌, min}
+use Prim.Native.Nat.{ℕ, ◌^◌, ◌<◌, min}
 use native.Mathlib.Omega.{arith}
 use lib.Dec.{leb}
 use borrow.Author.Tests.{leb-true, leb-false}
@@ -17,11 +17,11 @@ use Rattle.simulation.proofs.Shortest.{Shortest, shortest-none, shortest-same, s
 use Rattle.simulation.proofs.events.shortest.Statement.{statement}
 use Rattle.simulation.proofs.events.shortest.Tie as tie
 
-abbrev invariant-loop : tie.invariant-loop
+abbrev invariant-loop : tie.invariant-loop-rest
 invariant-loop granted most places rest₀ ticks₀ rest ticks =
     (rest < 2 ^ 32) × ((p : ℕ) → bit rest p ≡ true → bit granted p ≡ true) × Shortest (taken granted rest) most (segment 0 places) ticks
 
-abbrev decreases-loop : tie.decreases-loop
+abbrev decreases-loop : tie.decreases-loop-rest
 decreases-loop granted most places rest₀ ticks₀ rest ticks = rest
 
 -- a set of 32 places has none past them
@@ -32,59 +32,59 @@ within g small p e = go (leb 32 p) refl
     go true q = absurd (true≢false (sym e ∙ bit_past 32 g p small (leb-true 32 p q)))
     go false q = leb-false 32 p q
 
-loop-holds : tie.Need-loop-init invariant-loop decreases-loop
+loop-holds : tie.Need-loop-rest-init invariant-loop decreases-loop
 loop-holds c = (
   c.ranges.granted.fits,
   λ p e. e,
   shortest-none (taken c.args.granted c.args.granted) c.args.most (segment 0 c.args.places.now) (none-taken c.args.granted),
 )
 
-at_off : (c : tie.In-loop invariant-loop decreases-loop) → Off c.before.before.args.granted c.before.loop.rest
-at_off c = off-turn c.before.before.args.granted c.before.loop.rest c.loop-test.true c.before.loop.invariant.0 c.before.loop.invariant.1
+at_off : (c : tie.In-loop-rest invariant-loop decreases-loop) → Off c.args.granted c.loop-rest.rest
+at_off c = off-turn c.args.granted c.loop-rest.rest c.loop-rest-test.true c.loop-rest.invariant.0 c.loop-rest.invariant.1
 
-sub-rest : tie.Need-overflow-sub-rest invariant-loop decreases-loop
+sub-rest : tie.Need-overflow_sub-rest invariant-loop decreases-loop
 sub-rest c = omega arith
 
-cast-earlier : tie.Need-overflow-cast-earlier invariant-loop decreases-loop
+cast-earlier : tie.Need-overflow_cast-place invariant-loop decreases-loop
 cast-earlier c = omega (arith, (at_off c).below)
 
-mul-earlier : tie.Need-overflow-mul-earlier invariant-loop decreases-loop
+mul-earlier : tie.Need-offset_bounds-places-place invariant-loop decreases-loop
 mul-earlier c = omega (arith, (at_off c).below)
 
-element-copy-out-earlier : tie.Need-element-copy-out-earlier invariant-loop decreases-loop
-element-copy-out-earlier c = omega (arith, (at_off c).below)
+element-copy-out-earlier : tie.Need-bounds-places-place invariant-loop decreases-loop
+element-copy-out-earlier c = omega (arith, (at_off c.before).below)
 
-earlier-requires : tie.Need-earlier-requires invariant-loop decreases-loop
+earlier-requires : tie.Need-earlier-ticks-requires invariant-loop decreases-loop
 earlier-requires c κs = search rules
 
-loop-less : tie.Need-loop-smaller invariant-loop decreases-loop
-loop-less c = (at_off c.before.before).falls
+loop-less : tie.Need-loop-rest-smaller invariant-loop decreases-loop
+loop-less c = (at_off c.before.before.before).falls
 
-loop-again : tie.Need-loop-preserved invariant-loop decreases-loop
+loop-again : tie.Need-loop-rest-preserved invariant-loop decreases-loop
 loop-again c =
-    let t = c.before.before in
-    let a = t.before.before.args in
-    let l = t.before.loop in
+    let t = c.before.before.before in
+    let a = t.args in
+    let l = t.loop-rest in
     let o = at_off t in (
       omega (arith, o.falls, l.invariant.0),
       o.subset,
-      shortest-more (taken a.granted l.rest) (taken a.granted (others l.rest)) a.most (segment 0 a.places.now) (lowest l.rest) l.ticks c.earlier.result
-          o.on o.same (c.earlier.ensures ∙ ap (λ (x : ℕ). min l.ticks x) (sym (front_at a.places.now (lowest l.rest) o.below))) l.invariant.2,
+      shortest-more (taken a.granted l.rest) (taken a.granted (others l.rest)) a.most (segment 0 a.places.now) (lowest l.rest) l.ticks c.earlier-ticks.result
+          o.on o.same (c.earlier-ticks.ensures ∙ ap (λ (x : ℕ). min l.ticks x) (sym (front_at a.places.now (lowest l.rest) o.below))) l.invariant.2,
     )
 
 returns : tie.Need-returns invariant-loop decreases-loop
 returns c =
     let s = c.before.before in
     let a = s.args in
-    let l = c.before.loop in
+    let l = c.loop-rest in
     let left = segment 0 a.places.now in
-    let z : l.rest ≡ 0 = omega (arith, c.loop-test.false) in
+    let z : l.rest ≡ 0 = omega (arith, c.loop-rest-test.false) in
     shortest-one (bit a.granted) a.most left l.ticks (least_left 32 (bit a.granted) a.most left)
     (shortest-same (taken a.granted l.rest) (bit a.granted) a.most left l.ticks (all-taken a.granted l.rest z) l.invariant.2)
     (least-left-is 32 (bit a.granted) a.most left (within a.granted s.ranges.granted.fits))
 
-pub shortest-spec : {M : Type 1} → statement M
-shortest-spec =
+pub shortest_spec : {M : Type 1} → statement M
+shortest_spec =
     tie.close
     (tie.spec
     invariant-loop

@@ -16,7 +16,7 @@ use Rattle.simulation.proofs.Parts.{stored-later}
 use Rattle.simulation.proofs.machine.start.Statement.{statement}
 use Rattle.simulation.proofs.machine.start.Tie as tie
 
-abbrev invariant-loop : tie.invariant-loop
+abbrev invariant-loop : tie.invariant-loop-i
 invariant-loop tasks places₀ i₀ places i =
     (i ≤ 32)
     × (segment 0 places ≡ list.replicate 32 0)
@@ -24,61 +24,61 @@ invariant-loop tasks places₀ i₀ places i =
     × Filled (λ t. t.offset) tasks i (segment 64 places)
     × (list.length places ≡ 96)
 
-abbrev decreases-loop : tie.decreases-loop
+abbrev decreases-loop : tie.decreases-loop-i
 decreases-loop tasks places₀ i₀ places i = 32 - i
 
 -- the state at the call
-abbrev entry-from-past-loop : tie.After-loop invariant-loop decreases-loop → tie.Start invariant-loop decreases-loop
+abbrev entry-from-past-loop : tie.After-loop-i invariant-loop decreases-loop → tie.Start invariant-loop decreases-loop
 entry-from-past-loop c = c.before.before.before
 
-abbrev entry-from-task : tie.After-task invariant-loop decreases-loop → tie.Start invariant-loop decreases-loop
+abbrev entry-from-task : tie.After-task-1 invariant-loop decreases-loop → tie.Start invariant-loop decreases-loop
 entry-from-task c = c.before.before.before.before
 
 -- the table's array has 32 tasks
 all : (c : tie.Start invariant-loop decreases-loop) → list.length c.args.table.tasks ≡ 32
-all c = simp list.length-map at c.well-formed.0.1.1.1.1.1.1.1.0.1.0.1
+all c = c.well_formed.0.1.1.1.1.1.1.1.0.1.0.1
 
-loop-holds : tie.Need-loop-init invariant-loop decreases-loop
+loop-holds : tie.Need-loop-i-init invariant-loop decreases-loop
 unfolding segment
 loop-holds c =
-    let ts = c.before.args.table.tasks in
+    let ts = c.args.table.tasks in
     let none = filled_none (λ t. t.offset) ts (all c.before) in
     (omega arith, refl, none, none, refl)
 
-mul-task : tie.Need-overflow-mul-task invariant-loop decreases-loop
+mul-task : tie.Need-offset_bounds-tasks-i invariant-loop decreases-loop
 mul-task c = omega arith
 
-array-copy-out-task : tie.Need-array-copy-out-task invariant-loop decreases-loop
+array-copy-out-task : tie.Need-bounds-tasks-i invariant-loop decreases-loop
 array-copy-out-task c = omega arith
 
-add-places : tie.Need-overflow-add-places invariant-loop decreases-loop
+add-places : tie.Need-overflow_add-places invariant-loop decreases-loop
 add-places c = omega arith
 
-mul-places : tie.Need-overflow-mul-places invariant-loop decreases-loop
+mul-places : tie.Need-offset_bounds-places-i invariant-loop decreases-loop
 mul-places c = omega arith
 
-array-write-places : tie.Need-array-write-places invariant-loop decreases-loop
+array-write-places : tie.Need-bounds-places-i invariant-loop decreases-loop
 array-write-places c = omega arith
 
-add-places-2 : tie.Need-overflow-add-places-2 invariant-loop decreases-loop
+add-places-2 : tie.Need-overflow_add-places-in-loop-i invariant-loop decreases-loop
 add-places-2 c = omega arith
 
-mul-places-2 : tie.Need-overflow-mul-places-2 invariant-loop decreases-loop
+mul-places-2 : tie.Need-offset_bounds-places-i-in-loop-i invariant-loop decreases-loop
 mul-places-2 c = omega arith
 
-array-write-places-2 : tie.Need-array-write-places-2 invariant-loop decreases-loop
+array-write-places-2 : tie.Need-bounds-places-i-in-loop-i invariant-loop decreases-loop
 array-write-places-2 c = omega arith
 
-add-i : tie.Need-overflow-add-i invariant-loop decreases-loop
+add-i : tie.Need-overflow_add-i invariant-loop decreases-loop
 add-i c = omega arith
 
-loop-less : tie.Need-loop-smaller invariant-loop decreases-loop
+loop-less : tie.Need-loop-i-smaller invariant-loop decreases-loop
 loop-less c = omega arith
 
-loop-again : tie.Need-loop-preserved invariant-loop decreases-loop
+loop-again : tie.Need-loop-i-preserved invariant-loop decreases-loop
 loop-again c =
     let s = entry-from-task c in
-    let l = c.before.before.loop in
+    let l = c.loop-i in
     let ts = s.args.table.tasks in
     let inside : l.i < 32 = omega arith in
     let offset = (list.get_or ts l.i no_task).offset in
@@ -93,13 +93,13 @@ loop-again c =
       list.length-set (list.set l.places (32 + l.i) offset) (64 + l.i) offset ∙ (list.length-set l.places (32 + l.i) offset ∙ l.invariant.4),
     )
 
-paired-in-requires : tie.Need-paired-in-requires invariant-loop decreases-loop
+paired-in-requires : tie.Need-paired_in-requires invariant-loop decreases-loop
 paired-in-requires c κs = search rules
 
 returns : tie.Need-returns invariant-loop decreases-loop
 returns c =
     let s = entry-from-past-loop c.before in
-    let l = c.before.before.loop in
+    let l = c.loop-i in
     let ts = s.args.table.tasks in
     let e : l.i ≡ 32 = omega arith in
     let whole : (xs : List ℕ) → Filled (λ t. t.offset) ts l.i xs → xs ≡ map (λ t. t.offset) ts =
@@ -110,7 +110,7 @@ returns c =
         event = 0;
         chosen = 0;
         granted = 0;
-        even = c.paired-in.ensures j;
+        even = c.paired_in.ensures j;
       },
       l.invariant.4,
     )

@@ -25,70 +25,70 @@ state s = tick_state_of s.args.registers s.args.places.now
 
 -- after the due events
 after-of :
-    (c : tie.Joined1)
-    → (machine_of c.if1.places c.if1.claiming ≡ after_events (nums c.before) (state c.before))
-    × (c.if1.event ≡ next_event_after (nums c.before) (state c.before))
-    × (c.if1.even ≡ even_at_tick (nums c.before) (state c.before))
+    (c : tie.Joined-event-tick)
+    → (machine_of c.if-event-tick.places c.if-event-tick.claiming ≡ after_events (nums c.before) (state c.before))
+    × (c.if-event-tick.event ≡ next_event_after (nums c.before) (state c.before))
+    × (c.if-event-tick.even ≡ even_at_tick (nums c.before) (state c.before))
 after-of c =
     let n = nums c.before in
     let s = state c.before in
     ⊎_elim
     (λ w.
-    let d = due-handled n s _ _ w.0.taken w.2.ensures in
-    (ap₂ machine_of w.5 w.6 ∙ d.0, w.7 ∙ d.1, w.8 ∙ even-handled n s _ (ap (λ (m : Machine). m.claiming) d.0)))
+    let d = due-handled n s _ _ w.if-event-tick.true w.release_due-due.ensures in
+    (ap₂ machine_of w.places-is w.claiming-is ∙ d.0, w.event-is ∙ d.1, w.even-is ∙ even-handled n s _ (ap (λ (m : Machine). m.claiming) d.0)))
     (λ w.
-    let d = due-skipped n s w.0.left in
-    (ap₂ machine_of w.1 w.2 ∙ d.0, w.3 ∙ d.1, w.4 ∙ even-skipped n s w.0.left))
-    c.if1.branch
+    let d = due-skipped n s w.if-event-tick.false in
+    (ap₂ machine_of w.places-is w.claiming-is ∙ d.0, w.event-is ∙ d.1, w.even-is ∙ even-skipped n s w.if-event-tick.false))
+    c.if-event-tick.branch-raw
 
 -- the claimants, and the places at their second width
-claims-of : (c : tie.Joined1) → c.if1.claiming ≡ (after_events (nums c.before) (state c.before)).claiming
+claims-of : (c : tie.Joined-event-tick) → c.if-event-tick.claiming ≡ (after_events (nums c.before) (state c.before)).claiming
 claims-of c = ap (λ (m : Machine). m.claiming) (after-of c).0
 
-even-of : (c : tie.Joined1) → c.if1.even ≡ even_at_tick (nums c.before) (state c.before)
+even-of : (c : tie.Joined-event-tick) → c.if-event-tick.even ≡ even_at_tick (nums c.before) (state c.before)
 even-of c = (after-of c).2
 
 -- the places that are granted cores: kept, or chosen anew
-granted-of : (c : tie.Joined2) → c.if2.granted ≡ granted_at (nums c.before.before.before) (state c.before.before.before)
+granted-of : (c : tie.Joined-claiming-chosen) → c.if-claiming-chosen.granted ≡ granted_at (nums c.before.before.before) (state c.before.before.before)
 granted-of c =
     let j = c.before.before in
     let n = nums j.before in
     let s = state j.before in
     ⊎_elim
-    (λ w. w.4 ∙ chosen-anew n s j.if1.claiming j.if1.even _ (claims-of j) (even-of j)
-    (unchanged-by n s j.if1.claiming j.if1.even true (claims-of j) (even-of j) w.0.taken) w.2.ok
-    (λ q. w.2.ensures q ∙ granted-unfenced (rule_of n.rule) (claimants (widths_in j.if1.even n.widths) (bit j.if1.claiming)) _ n.fence n.cores
-    j.before.requires.narrow w.1.ensures q))
-    (λ w. w.2 ∙ chosen-kept n s (unchanged-by n s j.if1.claiming j.if1.even false (claims-of j) (even-of j) w.0.left))
-    c.if2.branch
+    (λ w. w.granted-is ∙ chosen-anew n s j.if-event-tick.claiming j.if-event-tick.even _ (claims-of j) (even-of j)
+    (unchanged-by n s j.if-event-tick.claiming j.if-event-tick.even true (claims-of j) (even-of j) w.if-claiming-chosen.true) w.choose-granted.type_inv
+    (λ q. w.choose-granted.ensures q ∙ granted-unfenced (rule_of n.rule) (claimants (widths_in j.if-event-tick.even n.widths) (bit j.if-event-tick.claiming)) _ n.fence n.cores
+    j.requires.narrow w.unfenced_cores-free.ensures q))
+    (λ w. w.granted-is ∙ chosen-kept n s (unchanged-by n s j.if-event-tick.claiming j.if-event-tick.even false (claims-of j) (even-of j) w.if-claiming-chosen.false))
+    c.if-claiming-chosen.branch-raw
 
 -- and the claimants that they were chosen from
-chosen_of : (c : tie.Joined2) → c.if2.chosen ≡ (after_events (nums c.before.before.before) (state c.before.before.before)).claiming
+chosen_of : (c : tie.Joined-claiming-chosen) → c.if-claiming-chosen.chosen ≡ (after_events (nums c.before.before.before) (state c.before.before.before)).claiming
 chosen_of c =
     let j = c.before.before in
     ⊎_elim
-    (λ w. w.3 ∙ claims-of j)
-    (λ w. w.1 ∙ sym (unchanged-claims (nums j.before) (state j.before)
-    (unchanged-by (nums j.before) (state j.before) j.if1.claiming j.if1.even false (claims-of j) (even-of j) w.0.left)))
-    c.if2.branch
+    (λ w. w.chosen-is ∙ claims-of j)
+    (λ w. w.chosen-is ∙ sym (unchanged-claims (nums j.before) (state j.before)
+    (unchanged-by (nums j.before) (state j.before) j.if-event-tick.claiming j.if-event-tick.even false (claims-of j) (even-of j) w.if-claiming-chosen.false)))
+    c.if-claiming-chosen.branch-raw
 
-release-due-requires : tie.Need-release-due-requires
+release-due-requires : tie.Need-release_due-due-requires
 release-due-requires c κs = search rules
 
-unfenced-cores-requires : tie.Need-unfenced-cores-requires
+unfenced-cores-requires : tie.Need-unfenced_cores-free-requires
 unfenced-cores-requires c κs = search rules
 
-choose-requires : tie.Need-choose-requires
+choose-requires : tie.Need-choose-granted-requires
 choose-requires c κs = search rules
 
-work-requires : tie.Need-work-requires
+work-requires : tie.Need-work-after-requires
 work-requires c κs =
     let k = c.before in
     let j = k.before.before in
     let s = j.before in
     subst₂ (λ (g : ℕ) (m : Machine). GrantedOwed (bit g) m) (sym (granted-of k)) (sym (after-of j).0) s.requires.owed
 
-add-t22 : tie.Need-overflow-add-t22
+add-t22 : tie.Need-overflow_add-result
 add-t22 c = search rules
 
 returns : tie.Need-returns
@@ -96,8 +96,8 @@ returns c =
     let k = c.before.before in
     let j = k.before.before in
     let s = j.before in
-    step-taken (nums s) (state s) (machine_of j.if1.places j.if1.claiming) _ j.if1.event k.if2.chosen k.if2.granted j.if1.even
-    (after-of j).0 (after-of j).1 (chosen_of k) (granted-of k) (even-of j) c.work.ensures
+    step-taken (nums s) (state s) (machine_of j.if-event-tick.places j.if-event-tick.claiming) _ j.if-event-tick.event k.if-claiming-chosen.chosen k.if-claiming-chosen.granted j.if-event-tick.even
+    (after-of j).0 (after-of j).1 (chosen_of k) (granted-of k) (even-of j) c.work-after.ensures
 
 pub step_spec : {M : Type 1} → statement M
 step_spec = tie.close (tie.spec release-due-requires unfenced-cores-requires choose-requires work-requires add-t22 returns)

@@ -8,14 +8,14 @@ use Rattle.table.proofs.checks.refused.Statement.{statement}
 use Rattle.table.proofs.checks.refused.Tie as tie
 use Rattle.model.specs.Sizes.{most_tasks}
 
-no-task-requires : tie.Need-no-task-requires
+no-task-requires : tie.Need-no_task-none-requires
 no-task-requires c κs = search rules
 
 returns : tie.Need-returns
 returns c =
     ap (λ (t : Task). record {
-      answer = Refused c.before.args.number
-          c.before.args.position;
+      answer = Refused c.args.number
+          c.args.position;
       count = 0;
       cores = 0;
       fence = 0;
@@ -24,7 +24,7 @@ returns c =
       start = 0;
       period = 0;
       horizon = 0;
-    }) c.no-task.ensures
+    }) c.no_task-none.ensures
 
-pub refused-spec : {M : Type 1} → statement M
-refused-spec = tie.close (tie.spec no-task-requires returns)
+pub refused_spec : {M : Type 1} → statement M
+refused_spec = tie.close (tie.spec no-task-requires returns)

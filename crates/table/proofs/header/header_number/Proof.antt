@@ -13,124 +13,124 @@ use Rattle.table.proofs.header.header_number.Statement.{statement}
 use Rattle.table.proofs.header.header_number.Tie as tie
 
 -- the state where the test `if5` fails
-abbrev else5 : tie.After-fence-out → tie.Else5
+abbrev else5 : tie.After-fence_out → tie.Else-rule_out
 else5 c = c.before.before.before
 
 -- the state where the test `if3` fails
-abbrev else3-from-else4 : tie.Else4 → tie.Else3
+abbrev else3-from-else4 : tie.Else-cores_out → tie.Else-rest-gt-MOST_TASKS
 else3-from-else4 c = c.before.before.before
 
-abbrev else3-from-then4 : tie.Then4 → tie.Else3
+abbrev else3-from-then4 : tie.Then-cores_out → tie.Else-rest-gt-MOST_TASKS
 else3-from-then4 c = c.before.before.before
 
 -- the state where the test `if4` fails
-abbrev else4-from-else5 : tie.Else5 → tie.Else4
+abbrev else4-from-else5 : tie.Else-rule_out → tie.Else-cores_out
 else4-from-else5 c = c.before.before.before
 
-abbrev else4-from-then5 : tie.Then5 → tie.Else4
+abbrev else4-from-then5 : tie.Then-rule_out → tie.Else-cores_out
 else4-from-then5 c = c.before.before.before
 
 -- the state at the call
-abbrev entry-from-else3 : tie.Else3 → tie.Start
+abbrev entry-from-else3 : tie.Else-rest-gt-MOST_TASKS → tie.Start
 entry-from-else3 c = c.before.before.before.before
 
-abbrev entry-from-else5 : tie.Else5 → tie.Start
+abbrev entry-from-else5 : tie.Else-rule_out → tie.Start
 entry-from-else5 c = entry-from-else3 (else3-from-else4 (else4-from-else5 c))
 
 -- what the first three tests leave
-words-fine : (c : tie.Else3) → words_out (entry-from-else3 c).args.words.now ≡ false
-words-fine c = simp (le-ltb _ _ c.before.before.if1.false, eq-eqb _ _ c.before.if2.false, le-ltb _ _ c.if3.false)
+words-fine : (c : tie.Else-rest-gt-MOST_TASKS) → words_out (entry-from-else3 c).args.words.now ≡ false
+words-fine c = simp (le-ltb _ _ c.if-words-lt-HEADER.false, eq-eqb _ _ c.if-rest-ne0.false, le-ltb _ _ c.if-rest-gt-MOST_TASKS.false)
 
-cores-fine : (c : tie.Else4) → cores_out (core_count (entry-from-else3 (else3-from-else4 c)).args.words.now) ≡ false
-cores-fine c = sym c.before.cores-out.ensures ∙ c.if4.false
+cores-fine : (c : tie.Else-cores_out) → cores_out (core_count (entry-from-else3 (else3-from-else4 c)).args.words.now) ≡ false
+cores-fine c = sym c.cores_out.ensures ∙ c.if-cores_out.false
 
-rule-fine : (c : tie.Else5) → rule_out (rule (entry-from-else5 c).args.words.now) ≡ false
-rule-fine c = sym c.before.rule-out.ensures ∙ c.if5.false
+rule-fine : (c : tie.Else-rule_out) → rule_out (rule (entry-from-else5 c).args.words.now) ≡ false
+rule-fine c = sym c.rule_out.ensures ∙ c.if-rule_out.false
 
 -- the words, and the test of their fence
-abbrev words_of : tie.Else5 → List ℕ
+abbrev words_of : tie.Else-rule_out → List ℕ
 words_of c = (entry-from-else5 c).args.words.now
 
-fenced : (c : tie.After-fence-out) → c.fence-out.result ≡ fence_out (core_count (words_of (else5 c))) (fence (words_of (else5 c)))
-fenced c = c.fence-out.ensures ∙ ap (fence_out (core_count (words_of (else5 c)))) c.before.fence-in.ensures
+fenced : (c : tie.After-fence_out) → c.fence_out.result ≡ fence_out (core_count (words_of (else5 c))) (fence (words_of (else5 c)))
+fenced c = c.fence_out.ensures ∙ ap (fence_out (core_count (words_of (else5 c)))) c.fence_in.ensures
 
-fence-fine : (c : tie.Else6) → fence_out (core_count (words_of (else5 c.before))) (fence (words_of (else5 c.before))) ≡ false
-fence-fine c = sym (fenced c.before) ∙ c.if6.false
+fence-fine : (c : tie.Else-fence_out) → fence_out (core_count (words_of (else5 c.before))) (fence (words_of (else5 c.before))) ≡ false
+fence-fine c = sym (fenced c.before) ∙ c.if-fence_out.false
 
-returns : tie.Need-returns
+returns : tie.Need-returns-then-words-lt-HEADER
 unfolding header_number
-returns c = simp (lt-ltb _ _ c.if1.true)
+returns c = simp (lt-ltb _ _ c.if-words-lt-HEADER.true)
 
-sub-rest : tie.Need-overflow-sub-rest
+sub-rest : tie.Need-overflow_sub-rest
 sub-rest c = search rules
 
-returns-2 : tie.Need-returns-2
+returns-2 : tie.Need-returns-then-rest-ne0
 unfolding header_number
-returns-2 c = simp (le-ltb _ _ c.before.if1.false, ne_eqb _ _ c.if2.true)
+returns-2 c = simp (le-ltb _ _ c.if-words-lt-HEADER.false, ne_eqb _ _ c.if-rest-ne0.true)
 
-returns-3 : tie.Need-returns-3
+returns-3 : tie.Need-returns-then-rest-gt-MOST_TASKS
 unfolding header_number
-returns-3 c = simp (le-ltb _ _ c.before.before.if1.false, eq-eqb _ _ c.before.if2.false, lt-ltb _ _ c.if3.true)
+returns-3 c = simp (le-ltb _ _ c.if-words-lt-HEADER.false, eq-eqb _ _ c.if-rest-ne0.false, lt-ltb _ _ c.if-rest-gt-MOST_TASKS.true)
 
-shared-slice-read-cores-out : tie.Need-shared-slice-read-cores-out
+shared-slice-read-cores-out : tie.Need-bounds-words-1
 shared-slice-read-cores-out c = search rules
 
-cores-out-requires : tie.Need-cores-out-requires
+cores-out-requires : tie.Need-cores_out-requires
 cores-out-requires c κs = search rules
 
-returns-4 : tie.Need-returns-4
+returns-4 : tie.Need-returns-then-cores_out
 unfolding header_number
-returns-4 c = simp (words-fine (else3-from-then4 c), sym c.before.cores-out.ensures ∙ c.if4.true)
+returns-4 c = simp (words-fine (else3-from-then4 c), sym c.cores_out.ensures ∙ c.if-cores_out.true)
 
-shared-slice-read-rule-out : tie.Need-shared-slice-read-rule-out
+shared-slice-read-rule-out : tie.Need-bounds-words-2
 shared-slice-read-rule-out c = search rules
 
-rule-out-requires : tie.Need-rule-out-requires
+rule-out-requires : tie.Need-rule_out-requires
 rule-out-requires c κs = search rules
 
-returns-5 : tie.Need-returns-5
+returns-5 : tie.Need-returns-then-rule_out
 unfolding header_number
 returns-5 c =
     let e = else4-from-then5 c in
-    simp (words-fine (else3-from-else4 e), cores-fine e, sym c.before.rule-out.ensures ∙ c.if5.true)
+    simp (words-fine (else3-from-else4 e), cores-fine e, sym c.rule_out.ensures ∙ c.if-rule_out.true)
 
-shared-slice-read-fence-out : tie.Need-shared-slice-read-fence-out
+shared-slice-read-fence-out : tie.Need-bounds-words-1-2
 shared-slice-read-fence-out c = search rules
 
-fence-in-requires : tie.Need-fence-in-requires
+fence-in-requires : tie.Need-fence_in-requires
 fence-in-requires c κs = search rules
 
-fence-out-requires : tie.Need-fence-out-requires
+fence-out-requires : tie.Need-fence_out-requires
 fence-out-requires c κs = search rules
 
-returns-6 : tie.Need-returns-6
+returns-6 : tie.Need-returns-then-fence_out
 unfolding header_number
 returns-6 c =
     let f = else5 c.before in
     let e = else4-from-else5 f in
-    simp (words-fine (else3-from-else4 e), cores-fine e, rule-fine f, sym (fenced c.before) ∙ c.if6.true)
+    simp (words-fine (else3-from-else4 e), cores-fine e, rule-fine f, sym (fenced c.before) ∙ c.if-fence_out.true)
 
-shared-slice-read-if7 : tie.Need-shared-slice-read-if7
+shared-slice-read-if7 : tie.Need-bounds-words-0
 shared-slice-read-if7 c = search rules
 
-returns-7 : tie.Need-returns-7
+returns-7 : tie.Need-returns-then-words-eq0
 unfolding header_number
 returns-7 c =
     let g = c.before.before in
     let f = else5 g.before in
     let e = else4-from-else5 f in
-    simp (words-fine (else3-from-else4 e), cores-fine e, rule-fine f, fence-fine g, eq-eqb _ _ c.if7.true)
+    simp (words-fine (else3-from-else4 e), cores-fine e, rule-fine f, fence-fine g, eq-eqb _ _ c.if-words-eq0.true)
 
-returns-8 : tie.Need-returns-8
+returns-8 : tie.Need-returns
 unfolding header_number
 returns-8 c =
     let g = c.before.before in
     let f = else5 g.before in
     let e = else4-from-else5 f in
-    simp (words-fine (else3-from-else4 e), cores-fine e, rule-fine f, fence-fine g, ne_eqb _ _ c.if7.false)
+    simp (words-fine (else3-from-else4 e), cores-fine e, rule-fine f, fence-fine g, ne_eqb _ _ c.if-words-eq0.false)
 
-pub header-number-spec : {M : Type 1} → statement M
-header-number-spec =
+pub header_number_spec : {M : Type 1} → statement M
+header_number_spec =
     tie.close
     (tie.spec
     returns

@@ -1,13 +1,13 @@
 -- `table::limits::fence_out` meets its contract: the first cores are the number 2^m − 1; where there are more than 64, no fence of 64 digits reaches it.
 -- Assumes nothing.
 use borrow.Author.Rules.{rules}
-use borrow.Author.Tests.{le-leb, lt-leb, leb-true, leb-false}
-use mathlib.Core.Path.{◌≡◌, refl, sym, ap, ◌∙◌}
+use borrow.Author.Tests.{lt-leb, leb-true, leb-false}
+use mathlib.Core.Path.{◌≡◌, refl, sym, ap}
 use mathlib.Core.Bool.{Bool, true, false, ◌&&◌}
 use Prim.Native.Nat.{ℕ, ◌-◌, ◌^◌, ◌≤◌, ◌<◌, min}
 use native.Mathlib.Omega.{arith}
 use lib.Dec.{leb}
-use lib.Pow.{pow_mono, pow_pos}
+use lib.Pow.{pow_mono}
 use Rattle.model.specs.Search.{up_from}
 use Rattle.cores.specs.Cores.{cores}
 use Rattle.cores.proofs.Runs.{first-set}
@@ -24,11 +24,11 @@ exact m f all h k e = go (leb m 64) refl
         let far : 2 ^ 65 ≤ 2 ^ m = pow_mono (leb-false m 64 l) in
         sym (lt-leb (2 ^ m - 1) f (omega (arith, far)))
 
-first-cores-requires : tie.Need-first-cores-requires
+first-cores-requires : tie.Need-first_cores-requires
 first-cores-requires c κs = search rules
 
 returns : tie.Need-returns
-returns c = exact c.before.args.cores c.before.args.fence c.first-cores.result (omega arith) (omega (arith, c.first-cores.type-inv)) c.first-cores.ensures
+returns c = exact c.args.cores c.args.fence c.first_cores.result (omega arith) (omega (arith, c.first_cores.type_inv)) c.first_cores.ensures
 
-pub fence-out-spec : {M : Type 1} → statement M
-fence-out-spec = tie.close (tie.spec first-cores-requires returns)
+pub fence_out_spec : {M : Type 1} → statement M
+fence_out_spec = tie.close (tie.spec first-cores-requires returns)

@@ -9,31 +9,31 @@ use Rattle.table.proofs.Starts.{since, since-difference}
 use Rattle.table.proofs.start.release_from.Statement.{statement}
 use Rattle.table.proofs.start.release_from.Tie as tie
 
-add-ahead : tie.Need-overflow-add-ahead
+add-ahead : tie.Need-overflow_add-ahead
 add-ahead c = search rules
 
-sub-ahead : tie.Need-overflow-sub-ahead
+sub-ahead : tie.Need-overflow_sub-ahead
 sub-ahead c = search rules
 
 since-elapsed : (c : tie.Start) → since c.args.t c.args.task.offset ≡ c.args.t - c.args.task.offset
 since-elapsed c = since-difference c.args.t c.args.task.offset (omega arith) (omega arith)
 
-mul-since : tie.Need-overflow-mul-since
+mul-since : tie.Need-overflow_mul-since
 mul-since c = omega (arith, since-elapsed c)
 
-sub-result : tie.Need-overflow-sub-result
+sub-result : tie.Need-overflow_sub-result
 sub-result c = search rules
 
-add-result : tie.Need-overflow-add-result
+add-result : tie.Need-overflow_add-result
 add-result c = omega (arith, since-elapsed c)
 
-div-result : tie.Need-nonzero-div-result
+div-result : tie.Need-nonzero_div-result
 div-result c = search rules
 
-mul-result : tie.Need-overflow-mul-result
+mul-result : tie.Need-overflow_mul-result
 mul-result c = record { fits = lt_of_le_of_lt (div-mul-le_self _ _) (omega (arith, since-elapsed c)) }
 
-add-result-2 : tie.Need-overflow-add-result-2
+add-result-2 : tie.Need-overflow_add-result-2
 add-result-2 c = record { fits = lt_of_le_of_lt (add-le-add (le_refl c.args.task.offset) (div-mul-le_self _ _)) (omega (arith, since-elapsed c)) }
 
 returns : tie.Need-returns
@@ -41,5 +41,5 @@ returns c =
     let τ = c.args.task in
     ap (λ (ticks : ℕ). τ.offset + (ticks + (τ.period - 1)) / τ.period * τ.period) (since-elapsed c)
 
-pub release-from-spec : {M : Type 1} → statement M
-release-from-spec = tie.close (tie.spec add-ahead sub-ahead mul-since sub-result add-result div-result mul-result add-result-2 returns)
+pub release_from_spec : {M : Type 1} → statement M
+release_from_spec = tie.close (tie.spec add-ahead sub-ahead mul-since sub-result add-result div-result mul-result add-result-2 returns)
