@@ -19,7 +19,7 @@ use Rattle.table.proofs.Fit.{same-table}
 use Rattle.table.specs.Fit.{loaded_table}
 use Rattle.interference.specs.declared.Bounds.{Bounds}
 use Rattle.interference.specs.declared.Tested.{Tested}
-use Rattle.interference.specs.Bounds.{BoundsOf, bounds_by, bounds_of, no_bounds, not_met, tested_of}
+use Rattle.interference.specs.Bounds.{BoundsOf, bounds_by, bounds_of, no_bounds, tested_of}
 use Rattle.interference.proofs.Passing.{tested-promise}
 
 taken_refused : {n p : ℕ} → book.taken ≡ book.refused n p → ⊥

@@ -1,5 +1,5 @@
 -- What the interference test answers, and what is promised of it.
-use Rattle.std.specs.Prelude.{Bool, cond, false, true, List, map, ◌++◌, ◌↔◌, ◌≡◌, ℕ, ◌-◌, ◌≤◌, ◌<◌, get_or, length, replicate}
+use Rattle.std.specs.Prelude.{cond, false, true, List, map, ◌++◌, ◌↔◌, ◌≡◌, ℕ, ◌-◌, ◌≤◌, ◌<◌, get_or, length, replicate}
 use Rattle.model.specs.Refusals as book
 use Rattle.model.specs.Lists.{NeverMissed}
 use Rattle.model.specs.Interference.{EndsWithin, interference_test_passes, need, response_bound}

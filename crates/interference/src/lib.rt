@@ -1,4 +1,6 @@
 // The interference test: a table that passes misses no deadline, and is not simulated. One that does not pass may still be met.
+#![tactic(auto)]
+
 ghost use Rattle.std.specs.Prelude.{cond, ◌≡◌, suc, ◌-◌, ◌≤◌};
 ghost use Rattle.model.specs.Sizes.{most_cores};
 ghost use Rattle.table.specs.Fit.{loaded_table, Fit};
@@ -12,14 +14,14 @@ mod workload; // workload.rt: the interference on a place
 
 // Whether a table passes, and where it does, for each place its response-time bound: every job ends within that many ticks of its release. Zeros past the
 // count, and where it does not pass.
-#[derive(Drop)]
+#[derive(Clone, Copy)]
 pub struct Tested {
     pub met: bool,
     pub bounds: [u32; MOST_TASKS],
 }
 
 // The answer: passed, or Refused with number and position. And the test of the table; a refused one does not pass it.
-#[derive(Drop)]
+#[derive(Clone, Copy)]
 pub struct Bounds {
     pub answer: Answer,
     pub tested: Tested,

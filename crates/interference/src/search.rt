@@ -17,7 +17,7 @@ const MOST_TRIES: u32 = 21;
 const MOST_HALVINGS: u32 = 20;
 
 // A shortest and a longest window.
-#[derive(Drop)]
+#[derive(Clone, Copy)]
 struct Range {
     low: u32,
     high: u32,

@@ -2,14 +2,13 @@
 use mathlib.Core.Bool.{false, true}
 use mathlib.Core.List.{List}
 use mathlib.Core.Logic.{◌⊎◌}
-use mathlib.Core.Path.{◌≡◌, ap, sym, ◌∙◌}
+use mathlib.Core.Path.{◌≡◌, sym, ◌∙◌}
 use Prim.Native.Nat.{ℕ}
 use Rattle.model.specs.Refusals as book
 use Rattle.model.specs.Task.{Table}
 use Rattle.model.specs.Verdict as model
 use Rattle.model.proofs.Bools.{not-true-false}
 use Rattle.table.specs.Load.{load_meaning}
-use Rattle.table.specs.Words.{table_of}
 use Rattle.judge.specs.declared.Verdict.{Verdict}
 use Rattle.judge.specs.declared.Missed.{Missed}
 use Rattle.judge.specs.FirstMiss.{MissedOf}

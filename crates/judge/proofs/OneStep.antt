@@ -1,6 +1,5 @@
 -- A run that goes on to the next tick takes one tick, or one jump.
-use native.Mathlib.Nat.{eq-or-lt_of_le, le_of_suc-le-suc}
-use native.Mathlib.Numerals.{add-one}
+use native.Mathlib.Nat.{eq-or-lt_of_le}
 use native.Mathlib.Omega.{arith}
 use mathlib.Core.Logic.{⊎_elim}
 use mathlib.Core.Path.{◌≡◌, refl, sym, ap, ◌∙◌, subst}
@@ -15,7 +14,7 @@ use Rattle.simulation.specs.Jump.{jumped, JumpStarts, JumpLands, JumpOf}
 use Rattle.simulation.proofs.JumpLands.{jump-lands}
 use Rattle.judge.specs.declared.Missed.{Missed}
 use Rattle.judge.specs.declared.Missed.TheVariants.{Never, At}
-use Rattle.judge.specs.FirstMiss.{MissedOf, miss_meaning, no_miss, first_at}
+use Rattle.judge.specs.FirstMiss.{MissedOf, miss_meaning, no_miss}
 use Rattle.judge.specs.RunOn.{ticks_on, TicksBegin, stop_tick, TicksRun, jumps_on, JumpsBegin, StopsAt, JumpsRun}
 
 -- where no deadline is missed up to and including tick u, none is found before the next

@@ -15,7 +15,7 @@ use simulation::machine::Registers;
 use table::Loaded;
 
 // The run where it has stopped, and the first deadline missed, or none.
-#[derive(Drop)]
+#[derive(Clone, Copy)]
 pub struct Ran {
     pub registers: Registers,
     pub missed: Missed,

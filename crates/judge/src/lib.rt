@@ -1,4 +1,6 @@
 // The verdict on a table's words, from its full-length run: tick by tick, event by event, or by the fastest way.
+#![tactic(auto)]
+
 ghost use Rattle.std.specs.Prelude.{◌≡◌, ◌+◌, suc, ◌≤◌, max, min};
 ghost use Rattle.model.specs.Task.{rule_of};
 ghost use Rattle.model.specs.Firm.{parallelism_monotonic, firm};
@@ -17,7 +19,7 @@ mod cost; // cost.rt: which of the two is the faster one for a table
 pub mod fastest; // fastest.rt: the first miss, by the interference test or by the faster of the two
 
 // The judge's answer: Firm with S and P, Full with S and P, Miss with tick and position, or Refused with number and position.
-#[derive(Drop)]
+#[derive(Clone, Copy)]
 pub enum Verdict {
     Firm(u32, u32),
     Full(u32, u32),
@@ -26,14 +28,14 @@ pub enum Verdict {
 }
 
 // Tick and position of the first deadline missed, or none.
-#[derive(Drop)]
+#[derive(Clone, Copy)]
 pub enum Missed {
     Never,
     At(u32, u32),
 }
 
 // How the first miss of a table is found.
-#[derive(Drop)]
+#[derive(Clone, Copy)]
 pub enum Way {
     Ticks,
     Events,

@@ -1,4 +1,6 @@
 // The rows of the full-length run, into a lent buffer.
+#![tactic(auto)]
+
 ghost use Rattle.std.specs.Prelude.{◌≡◌, ◌≤◌, length};
 ghost use Rattle.table.specs.Fit.{loaded_table, Fit};
 ghost use Rattle.plan.specs.Plan.{by_plan, plan_meaning, buffer_of, PlanOf};
@@ -10,7 +12,7 @@ use table::{Answer, Loaded};
 mod rows; // rows.rt: rows into the buffer
 
 // The plan's answer: the rows are written, or Refused with number and position.
-#[derive(Drop)]
+#[derive(Clone, Copy)]
 pub enum Planned {
     Written,
     Refused(u32, u32),

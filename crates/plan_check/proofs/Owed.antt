@@ -1,5 +1,5 @@
 -- The relation of the stepwise plan book to the rows: the ticks owed are C less those had, and its tests are the conditions of a tick.
-use mathlib.Core.Bool.{◌&&◌, Bool, cond, false, false≢true, not, true, true≢false, ◌||◌}
+use mathlib.Core.Bool.{◌&&◌, Bool, cond, false, false≢true, not, true, true≢false}
 use mathlib.Core.List.{List}
 use mathlib.Core.Logic.{◌↔◌, inl, inr}
 use mathlib.Core.Path.{ap, refl, subst, sym, ◌∙◌, ◌≡◌}

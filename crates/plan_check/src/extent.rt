@@ -7,7 +7,7 @@ use crate::SuppliedPlan;
 use run::Run;
 
 // The number that turns every row down, 14 or 9, with zeros; or 0, with the last S and the horizon.
-#[derive(Drop)]
+#[derive(Clone, Copy)]
 pub struct Extent {
     pub number: u32,
     pub start: u32,

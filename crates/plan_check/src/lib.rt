@@ -1,4 +1,6 @@
 // Plans from the supplier's own planner, taken row by row: a state by value, its beginning, and the answer to each row.
+#![tactic(auto)]
+
 ghost use Rattle.std.specs.Prelude.{◌≡◌, ◌<◌, length};
 ghost use Rattle.plan_check.specs.declared.Answer.TheVariants.{Refused};
 ghost use Rattle.plan_check.specs.Extent.{Ready};
@@ -17,13 +19,13 @@ use phase::Phase;
 use run::Run;
 
 // A phase recorded at the last S.
-#[derive(Drop)]
+#[derive(Clone, Copy)]
 pub struct Note {
     pub phase: Phase,
 }
 
 // A supplied plan between two rows: a run, its tick, and the phases recorded at the last S.
-#[derive(Drop)]
+#[derive(Clone, Copy)]
 pub struct SuppliedPlan {
     pub run: Run,
     pub tick: u32,
@@ -31,14 +33,14 @@ pub struct SuppliedPlan {
 }
 
 // The result of the beginning: the table's answer, and the state at tick 0.
-#[derive(Drop)]
+#[derive(Clone, Copy)]
 pub struct Begun {
     pub answer: table::Answer,
     pub plan: SuppliedPlan,
 }
 
 // The answer to a row: taken; taken as the last, and the plan accepted; or refused with number and tick.
-#[derive(Drop)]
+#[derive(Clone, Copy)]
 pub enum Answer {
     Taken,
     Accepted,
@@ -46,7 +48,7 @@ pub enum Answer {
 }
 
 // The result of a row: the answer, and the next state.
-#[derive(Drop)]
+#[derive(Clone, Copy)]
 pub struct Entered {
     pub answer: Answer,
     pub plan: SuppliedPlan,

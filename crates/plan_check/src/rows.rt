@@ -15,7 +15,7 @@ pub const BYTES: usize = 256;
 const FENCED: u8 = 255;
 
 // Whether the row shows an unknown position; and where it does not, how many cores show each byte.
-#[derive(Drop)]
+#[derive(Clone, Copy)]
 pub struct Shown {
     pub unknown: bool,
     pub cells: [u8; BYTES],

@@ -1,10 +1,10 @@
 -- The answers, case by case.
-use mathlib.Core.Bool.{Bool, ◌&&◌, ◌||◌, cond, false, false≢true, true}
-use mathlib.Core.List.{List, [], ◌++◌, ◌∷◌}
-use mathlib.Core.Path.{◌∙◌, ◌≡◌, ap, ap₂, refl, sym}
-use Prim.Native.Nat.{◌+◌, ◌-◌, ◌<◌, suc, ℕ, ◌≤◌}
+use mathlib.Core.Bool.{Bool, ◌&&◌, ◌||◌, false, false≢true, true}
+use mathlib.Core.List.{List}
+use mathlib.Core.Path.{◌∙◌, ◌≡◌, ap, refl, sym}
+use Prim.Native.Nat.{◌+◌, ◌-◌, ◌<◌, ℕ, ◌≤◌}
 use native.Mathlib.Numerals.{add-one}
-use lib.Dec.{eqb, leb, ltb}
+use lib.Dec.{eqb}
 use native.Mathlib.Omega.{arith}
 use lib.ListN.{length, length-append, replicate, take}
 use lib.Seq.{take-append_seam}
@@ -29,7 +29,7 @@ use Rattle.plan_text.specs.declared.PlanAnswer.TheVariants.{Accepted, Fault, Mor
 use Rattle.plan_text.specs.declared.LineAnswer.{LineAnswer}
 use Rattle.plan_text.specs.declared.line.Line.{Line}
 use Rattle.plan_text.specs.Line.{Read, is_verdict, read_line, long_line, most_cells, no_row, row_read, row_in}
-use Rattle.plan_text.specs.Checked.{end_answer, row_entered, enters, or_else, is_more, next_line, opened_by, opened_of, skipped, refusal_answer, rows_at, rows_answer, step_of, line_answer, no_row_answer}
+use Rattle.plan_text.specs.Checked.{end_answer, row_entered, enters, or_else, is_more, next_line, opened_by, opened_of, skipped, refusal_answer, rows_at, step_of, line_answer}
 
 -- THE COUNT OF LINES
 

@@ -8,7 +8,7 @@ use native.Mathlib.Omega.{arith}
 use lib.ListN.{drop, drop_of_length-le, length, length-drop, take}
 use lib.Seq.{drop-drop, take_all}
 use Rattle.splitter.specs.declared.Part.{Part}
-use Rattle.splitter.specs.Split.{InputEnd, lines_from, nothing, split, too_many, unknown}
+use Rattle.splitter.specs.Split.{InputEnd, lines_from, nothing, split, unknown}
 use Rattle.splitter.specs.Parts.{Comes, OneLine, LineOf, TableOf, ends, goes}
 use Rattle.splitter.proofs.Splits.{lines_none, lines-waits}
 use Rattle.splitter.proofs.Tables.{part-rest}
@@ -18,7 +18,6 @@ use Rattle.plan_text.specs.declared.Fed.{Fed}
 use Rattle.plan_text.specs.declared.KnownExtent.{KnownExtent}
 use Rattle.plan_text.specs.declared.PlanProgress.{PlanProgress}
 use Rattle.plan_text.specs.declared.PlanAnswer.{PlanAnswer}
-use Rattle.plan_text.specs.declared.PlanAnswer.TheVariants.{More}
 use Rattle.plan_text.specs.declared.Stage.{Stage}
 use Rattle.plan_text.specs.declared.Stage.TheVariants.{Over, Plan, Table}
 use Rattle.plan_text.specs.declared.LineAnswer.{LineAnswer}
@@ -154,6 +153,7 @@ module _
       where
         all_of : (more : List ℕ) → Comes true nothing more → plan_answer r nothing (drop at bs ++ more) ≡ end_answer nothing r
         all_of [] ends = ap (λ (y : List ℕ). plan_answer r nothing (y ++ [])) none ∙ ap (rows_answer nothing r) (lines_none nothing) ∙ rows_none nothing r
+        all_of (_ ∷ _) c = elim c [ ]
 
     -- more may come
     pub plan-waits : ended ≡ false → FedBy (plan_answer r₀) from ended bs (plan_with r at)

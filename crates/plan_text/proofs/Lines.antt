@@ -5,12 +5,11 @@ use mathlib.Core.Logic.{inl, inr}
 use mathlib.Core.Path.{◌∙◌, ◌≡◌, ap, refl, sym}
 use Prim.Native.Nat.{◌<◌, ℕ}
 use lib.ListN.{length}
-use Rattle.text.specs.Format.{most_bytes, numbers_in, words_of}
+use Rattle.text.specs.Format.{most_bytes}
 use Rattle.text.proofs.Exact.{long-refused}
 use Rattle.splitter.specs.Split.{InputEnd, Split, TooLong, closed, growing, nothing, split, unknown}
 use Rattle.splitter.specs.Parts.{SplitInto}
 use Rattle.plan_text.specs.declared.PlanProgress.{PlanProgress}
-use Rattle.plan_text.specs.declared.PlanAnswer.{PlanAnswer}
 use Rattle.plan_text.specs.declared.PlanAnswer.TheVariants.{More, Refused}
 use Rattle.plan_text.specs.Checked.{checked_of, answer_so_far, end_answer, is_more, opened_of, opens, rows_answer, split_answer, step_of}
 use Rattle.plan_text.proofs.Answers.{on-end, on-more}

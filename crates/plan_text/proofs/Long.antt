@@ -3,7 +3,7 @@ use mathlib.Core.Bool.{Bool, ◌&&◌, ◌||◌, cond, false, true}
 use mathlib.Core.List.{List, [], ◌++◌, map, ◌∷◌}
 use mathlib.Core.Logic.{◌⊎◌, inl, inr, ⊎_elim}
 use mathlib.Core.Path.{◌∙◌, ◌≡◌, ap, ap₂, refl, subst⁻¹, sym}
-use Prim.Native.Nat.{◌*◌, ◌+◌, ◌<◌, suc, zero, ℕ, ◌≤◌}
+use Prim.Native.Nat.{◌*◌, ◌<◌, suc, zero, ℕ, ◌≤◌}
 use native.Mathlib.Nat.{eq-or-lt_of_le, not-suc-le-zero}
 use native.Mathlib.Omega.{arith}
 use lib.Dec.{eqb, leb}
@@ -19,14 +19,12 @@ use Rattle.text.specs.Output.{space}
 use Rattle.text.proofs.Lines.{mark-within}
 use Rattle.text.proofs.Numbers.{number-exact}
 use Rattle.plan_check.specs.declared.Answer as plan_check
-use Rattle.plan_check.specs.declared.Answer.TheVariants as answer
 use Rattle.plan_check.specs.CheckRow.{check_row_of}
 use Rattle.splitter.specs.Split.{last_line, lines_from, nothing}
 use Rattle.plan_text.specs.declared.PlanProgress.{PlanProgress}
-use Rattle.plan_text.specs.declared.PlanAnswer.{PlanAnswer}
-use Rattle.plan_text.specs.declared.PlanAnswer.TheVariants.{Fault, Refused, Unread}
+use Rattle.plan_text.specs.declared.PlanAnswer.TheVariants.{Fault, Refused}
 use Rattle.plan_text.specs.declared.LineAnswer.{LineAnswer}
-use Rattle.plan_text.specs.Line.{Read, words_after, cells_of, is_byte, is_verdict, long_line, most_cells, no_row, row_read, row_in, row_of_words}
+use Rattle.plan_text.specs.Line.{Read, words_after, cells_of, is_byte, long_line, most_cells, no_row, row_read, row_in}
 use Rattle.plan_text.specs.Checked.{row_entered, enters, is_more, next_line, skipped, refusal_answer, rows_answer, step_of, no_row_answer}
 use Rattle.plan_text.proofs.Lines.{rows_end}
 use Rattle.plan_text.proofs.Reading.{row-split, words-split}

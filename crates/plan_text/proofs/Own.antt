@@ -1,7 +1,7 @@
 -- WHAT THE PROGRAM PRINTS FOR AN ACCEPTED TABLE IS ACCEPTED, as it is printed.
 use mathlib.Core.Bool.{Bool, false, true}
 use mathlib.Core.List.{List, [], ◌++◌, map, ◌∷◌}
-use mathlib.Core.Logic.{◌⊎◌, inl, inr, ⊎_elim}
+use mathlib.Core.Logic.{◌⊎◌, inl, inr}
 use mathlib.Core.Path.{◌∙◌, ◌≡◌, ap, ap₂, refl, subst⁻¹, sym}
 use Prim.Native.Nat.{◌+◌, ◌-◌, ◌<◌, suc, zero, ℕ, ◌≤◌}
 use native.Mathlib.Omega.{arith}
@@ -14,7 +14,7 @@ use Rattle.model.specs.Horizon.{horizon, hyperperiod, last_s}
 use Rattle.model.specs.Search.{bit, up_from}
 use Rattle.model.specs.Sizes.{fenced_byte, most_cores, most_word}
 use Rattle.model.specs.Task.{Table}
-use Rattle.model.specs.Verdict.{Firm, Full, Miss, Verdict, verdict}
+use Rattle.model.specs.Verdict.{Firm, Full, Verdict, verdict}
 use Rattle.model.proofs.Verdict.{verdict-exact}
 use Rattle.table.specs.Answer.{answer_of}
 use Rattle.table.specs.Numbers.{NoneApplies}
@@ -24,14 +24,14 @@ use Rattle.table.specs.declared.Answer.TheVariants.{Passed}
 use Rattle.table.proofs.Exact.{passed-exact}
 use Rattle.table.proofs.Passed.{passed-cores, passed-count, passed-horizon, passed-valid}
 use Rattle.judge.specs.JudgeAnswer.{judged}
-use Rattle.text.specs.Format.{Words, largest, most_numbers, text_of, read_words, words_of}
+use Rattle.text.specs.Format.{largest, most_numbers, text_of}
 use Rattle.text.specs.Output.{first_line, output, output_of, printed, printed_by, row_lines, rows_printed}
 use Rattle.text.proofs.Canonical.{text-read}
 use Rattle.plan_check.specs.Answers.{PlanOutcome, accepts, unfinished}
 use Rattle.plan_check.specs.Begin.{begin_of, begun_by, first_state}
-use Rattle.plan_check.specs.Checked.{row_answers_from, row_answers_of, outcome_from, outcome_of, plan_rows}
+use Rattle.plan_check.specs.Checked.{row_answers_from, outcome_from, outcome_of}
 use Rattle.plan_check.specs.Plan.{Acceptable, ValidRow, row_at}
-use Rattle.plan_check.specs.RowAnswer.{RowAnswer, accepted, taken}
+use Rattle.plan_check.specs.RowAnswer.{accepted, taken}
 use Rattle.plan_check.specs.declared.SuppliedPlan.{SuppliedPlan}
 use Rattle.plan_check.proofs.Checked.{checked, own-plans, own-written}
 use Rattle.splitter.specs.Split.{lines_from, nothing}

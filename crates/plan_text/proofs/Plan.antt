@@ -1,7 +1,7 @@
 -- WHAT THE PROGRAM PRINTS IS A PLAN: its rows are parsed to themselves, and its first line is skipped.
 use mathlib.Core.Bool.{Bool, ◌&&◌, ◌||◌, cond, false, false≢true, true}
 use mathlib.Core.List.{List, [], ◌++◌, append_assoc, append-nil, map, ◌∷◌}
-use mathlib.Core.Path.{◌∙◌, ◌≡◌, ap, ap₂, refl, subst, sym}
+use mathlib.Core.Path.{◌∙◌, ◌≡◌, ap, ap₂, refl, sym}
 use Prim.Native.Nat.{◌+◌, ◌<◌, suc, zero, ℕ, ◌≤◌}
 use native.Mathlib.Nat.{not-suc-le-zero}
 use native.Mathlib.Omega.{arith}
@@ -26,7 +26,7 @@ use Rattle.sentence.specs.Reading.{starts_with}
 use Rattle.splitter.specs.Words.{words_in}
 use Rattle.splitter.specs.Split.{InputEnd, last_line, lines_from, nothing}
 use Rattle.plan_check.specs.Numbers.{after_row}
-use Rattle.plan_check.specs.Answers.{PlanOutcome, accepts, refuses, unfinished}
+use Rattle.plan_check.specs.Answers.{PlanOutcome, accepts, unfinished}
 use Rattle.plan_check.specs.Checked.{row_answers_from, outcome_from}
 use Rattle.plan_check.specs.RowAnswer.{state_by_answer, row_answer_meaning}
 use Rattle.plan_check.specs.CheckRow.{check_row_answer, check_row_of}
@@ -37,12 +37,12 @@ use Rattle.plan_text.specs.declared.PlanProgress.{PlanProgress}
 use Rattle.plan_text.specs.declared.PlanAnswer.{PlanAnswer}
 use Rattle.plan_text.specs.declared.PlanAnswer.TheVariants.{Accepted, More, Unfinished}
 use Rattle.plan_text.specs.declared.LineAnswer.{LineAnswer}
-use Rattle.plan_text.specs.Line.{Read, cells_of, is_byte, is_verdict, long_line, most_cells, no_row, row_read, row_in, row_of_words}
-use Rattle.plan_text.specs.Checked.{end_answer, row_entered, enters, or_else, is_more, next_line, skipped, refusal_answer, rows_at, rows_answer, step_of, line_answer}
+use Rattle.plan_text.specs.Line.{cells_of, is_byte, is_verdict, long_line, most_cells, row_read, row_in, row_of_words}
+use Rattle.plan_text.specs.Checked.{end_answer, row_entered, or_else, is_more, next_line, skipped, refusal_answer, rows_at, rows_answer, step_of, line_answer}
 use Rattle.plan_text.specs.Plan.{WordsOf, ExpressibleRow, plan_text, plan_answer_of}
 use Rattle.plan_text.proofs.Lines.{rows_none}
 use Rattle.plan_text.proofs.Long.{refusal-ends}
-use Rattle.plan_text.proofs.Answers.{entered-plan, on-end, on-more}
+use Rattle.plan_text.proofs.Answers.{entered-plan, on-end}
 use Rattle.splitter.proofs.Words.{words-one}
 use Rattle.text.specs.Input.{length_to}
 

@@ -1,6 +1,6 @@
 -- The line of an answer, as it is written into a buffer.
 use mathlib.Core.List.{List, [], ◌++◌, append_assoc, append-nil, ◌∷◌}
-use mathlib.Core.Path.{◌∙◌, ◌≡◌, ap, refl, subst, sym}
+use mathlib.Core.Path.{◌∙◌, ◌≡◌, ap, subst, sym}
 use Prim.Native.Nat.{◌+◌, ℕ, ◌≤◌}
 use native.Mathlib.Omega.{arith}
 use lib.ListN.{drop, length, set, take}

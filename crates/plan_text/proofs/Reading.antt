@@ -1,5 +1,5 @@
 -- The words of a line one after another: the row of the numbers that were read and of the words that are left.
-use mathlib.Core.Bool.{Bool, ◌&&◌, cond, false, true}
+use mathlib.Core.Bool.{cond, false, true}
 use mathlib.Core.List.{List, [], ◌++◌, append-nil, map, ◌∷◌}
 use mathlib.Core.Logic.{⊎_elim}
 use mathlib.Core.Path.{◌∙◌, ◌≡◌, ap, ap₂, refl, sym}
@@ -7,7 +7,6 @@ use Prim.Native.Nat.{◌+◌, ◌-◌, ◌<◌, suc, ℕ, ◌≤◌}
 use native.Mathlib.Nat.{eq-or-lt_of_le}
 use native.Mathlib.Numerals.{add-one}
 use native.Mathlib.Omega.{arith}
-use lib.Dec.{leb}
 use lib.ListN.{drop, drop_of_length-le, get_or, length, length-append, replicate, set, take}
 use lib.Seq.{append_snoc, drop-cons, drop-drop, set-append_seam, take_all, take-nil}
 use borrow.Author.Tests.{le-leb, lt-leb}

@@ -1,11 +1,11 @@
 -- A table and a plan as one text: the numbers of the table, a line `--`, and the rows, answered as the words and the list of rows are.
-use mathlib.Core.Bool.{false, true}
+use mathlib.Core.Bool.{false}
 use mathlib.Core.List.{List, [], ◌++◌, append_assoc, append-nil, ◌∷◌}
-use mathlib.Core.Path.{◌∙◌, ◌≡◌, ap, refl, subst, sym}
+use mathlib.Core.Path.{◌∙◌, ◌≡◌, ap, refl, sym}
 use Prim.Native.Nat.{◌+◌, ◌<◌, ℕ, ◌≤◌}
 use native.Mathlib.Nat.{zero-add}
 use native.Mathlib.Omega.{arith}
-use lib.ListN.{get_or, length, take}
+use lib.ListN.{get_or, length}
 use lib.Seq.{take-length}
 use borrow.Author.Tests.{ne_eqb}
 use Rattle.model.specs.Sizes.{most_word}
@@ -13,14 +13,13 @@ use Rattle.table.specs.Answer.{answer_of}
 use Rattle.table.specs.declared.Answer.{Answer}
 use Rattle.table.specs.declared.Answer.TheVariants as table
 use Rattle.text.specs.Decimal.{Digits, decimal}
-use Rattle.text.specs.Format.{Words, largest, most_numbers, newline, numbers_in, text_of, read_words, words_of}
+use Rattle.text.specs.Format.{largest, most_numbers, newline, numbers_in, text_of, words_of}
 use Rattle.text.proofs.Canonical.{text-read}
 use Rattle.text.proofs.Decimals.{decimal-digits}
 use Rattle.splitter.specs.Split.{InputEnd, closed, is_dashes, lines_from, nothing, split_from}
 use Rattle.splitter.proofs.Splits.{split-line, split-more}
 use Rattle.plan_check.specs.Begin.{begun_by, begin_of, first_state}
 use Rattle.plan_check.specs.Checked.{outcome_of}
-use Rattle.plan_text.specs.declared.PlanAnswer.{PlanAnswer}
 use Rattle.plan_text.specs.declared.PlanAnswer.TheVariants.{Refused}
 use Rattle.plan_text.specs.Checked.{checked_of, or_else, opens, opened_by, opened_of, rows_at, rows_answer, split_answer}
 use Rattle.plan_text.specs.Plan.{ExpressibleRow, after_dashes, plan_text, plan_answer_of}

@@ -8,7 +8,6 @@ use Rattle.splitter.specs.Split.{nothing, split_from, unclosed, unknown}
 use Rattle.splitter.specs.Parts.{ends, goes}
 use Rattle.plan_text.specs.declared.Check.{Check}
 use Rattle.plan_text.specs.declared.Fed.{Fed}
-use Rattle.plan_text.specs.declared.PlanAnswer.{PlanAnswer}
 use Rattle.plan_text.specs.declared.PlanAnswer.TheVariants.{More}
 use Rattle.plan_text.specs.Checked.{checked_of, answer_so_far, split_answer}
 use Rattle.plan_text.specs.Check.{Feeds, FedOf, NewOf, is_over, more, none, check_answer}

@@ -1,4 +1,6 @@
 // A supplied plan as text, checked as it comes: the table, a line `--`, and the plan's lines, whose rows are taken one after another.
+#![tactic(auto)]
+
 ghost use Rattle.std.specs.Prelude.{◌≡◌, ◌≤◌, length};
 ghost use Rattle.plan_check.specs.CheckRow.{check_row_of};
 ghost use Rattle.splitter.specs.Split.{nothing};
@@ -13,7 +15,7 @@ use plan_check::{Answer, Entered, SuppliedPlan};
 
 // The answer: more lines are needed; the plan is accepted; rows are missing from this tick on; a fault with its number and tick; refused with number
 // and position; or the line with this number is no row.
-#[derive(Drop)]
+#[derive(Clone, Copy)]
 pub enum PlanAnswer {
     More,
     Accepted,
@@ -24,7 +26,7 @@ pub enum PlanAnswer {
 }
 
 // A plan between two lines: its state, the number of lines so far, and whether its last row was taken and it is accepted.
-#[derive(Drop)]
+#[derive(Clone, Copy)]
 pub struct PlanProgress {
     pub plan: SuppliedPlan,
     pub lines: u32,
@@ -32,14 +34,14 @@ pub struct PlanProgress {
 }
 
 // The answer to a line, and the plan after it.
-#[derive(Drop)]
+#[derive(Clone, Copy)]
 pub struct LineAnswer {
     pub rows: PlanProgress,
     pub answer: PlanAnswer,
 }
 
 // The extent of a plan, computed once for all its rows: the last S and the horizon, known where neither 14 nor 9 turns it down.
-#[derive(Drop)]
+#[derive(Clone, Copy)]
 pub struct KnownExtent {
     pub known: bool,
     pub start: u32,
@@ -47,7 +49,7 @@ pub struct KnownExtent {
 }
 
 // What the next bytes are read as: the table, the plan, or nothing any more.
-#[derive(Drop)]
+#[derive(Clone, Copy)]
 pub enum Stage {
     Table,
     Plan,
@@ -55,7 +57,7 @@ pub enum Stage {
 }
 
 // The state of a check: the plan, and the answer where it is over.
-#[derive(Drop)]
+#[derive(Clone, Copy)]
 pub struct Check {
     pub stage: Stage,
     pub rows: PlanProgress,
@@ -63,7 +65,7 @@ pub struct Check {
 }
 
 // How many bytes were taken, and the check after them.
-#[derive(Drop)]
+#[derive(Clone, Copy)]
 pub struct Fed {
     pub check: Check,
     pub taken: usize,

@@ -13,7 +13,7 @@ pub const CELLS: usize = ROW + 1;
 pub const LONG: usize = text::DIGITS + CELLS * (1 + text::DIGITS) + 1;
 
 // What was read: whether it is a row, and its tick and its numbers, zeros past the count; all zeros where it is none.
-#[derive(Drop)]
+#[derive(Clone, Copy)]
 pub struct Line {
     pub found: bool,
     pub tick: u32,

@@ -3,7 +3,7 @@
 use mathlib.Core.Path.{◌≡◌, refl, sym, ap, ap₂, ◌∙◌, subst, subst₂}
 use mathlib.Core.Bool.{Bool, true, false, not, ◌&&◌, ◌||◌}
 use mathlib.Core.List.{List, [], ◌∷◌, map}
-use Prim.Native.Nat.{ℕ, suc, ◌-◌, ◌<◌}
+use Prim.Native.Nat.{ℕ, ◌-◌, ◌<◌}
 use lib.Bits.{bit_or}
 use native.Mathlib.Nat.{le_trans}
 use lib.ListN.{length, replicate, length-map}
@@ -20,7 +20,6 @@ use Rattle.model.proofs.Bools.{same_test}
 use Rattle.model.proofs.Search.{least-lowest, any_same, least-same}
 use Rattle.model.proofs.Faithful.{late-exact}
 use Rattle.model.specs.Sizes.{most_tasks}
-use Rattle.phase.specs.declared.Phase.{Phase}
 use Rattle.phase.specs.declared.Task.{Task}
 use Rattle.run.specs.declared.Run.{Run}
 use Rattle.phase.specs.Phase.{late_in, released, phase_emptied}

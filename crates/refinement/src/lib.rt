@@ -1,4 +1,6 @@
 // A whole list of entries: the run of a table through all of them, and its refinement of the book.
+#![tactic(auto)]
+
 ghost use Rattle.refinement.specs.Replay.{ReplayOf};
 
 pub mod replays; // replays.rt: a run through a whole list of entries
@@ -7,7 +9,7 @@ use run::Answer;
 
 // The answer of a replay: the last row shown, or refused with number and position; the start refused with number and position; or the lent slices
 // do not fit: too short, or the entries' words are no list of entries.
-#[derive(Drop)]
+#[derive(Clone, Copy)]
 pub enum Replayed {
     Shown,
     RowRefused(u32, u32),

@@ -2,7 +2,7 @@
 use mathlib.Core.Path.{◌≡◌, sym, ap, ◌∙◌}
 use mathlib.Core.Bool.{Bool, cond}
 use mathlib.Core.List.{List}
-use Prim.Native.Nat.{ℕ, ◌-◌, ◌<◌, max}
+use Prim.Native.Nat.{ℕ, ◌<◌, max}
 use lib.ListN.{length, get_or, set}
 use Rattle.model.specs.Search.{bit}
 use Rattle.simulation.proofs.Places.{each_none, each-still, each_more, each_same, each-length, each_at}

@@ -13,7 +13,6 @@ use borrow.Author.Tests.{eqb-true, leb-true, leb-false, lt-ltb, ltb-true}
 use Rattle.model.specs.Search.{bit}
 use Rattle.model.specs.Task.{Table, task}
 use Rattle.model.specs.Lists.{full, Missed, NeverMissed}
-use Rattle.model.specs.Horizon.{horizon}
 use Rattle.model.specs.Firm.{firm}
 use Rattle.model.proofs.Bools.{and_both, and_left, and_right}
 use Rattle.model.proofs.Digits.{and-bit}

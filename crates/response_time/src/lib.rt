@@ -1,4 +1,6 @@
 // The worst-case response time of each task's full-length jobs.
+#![tactic(auto)]
+
 ghost use Rattle.std.specs.Prelude.{◌≡◌};
 ghost use Rattle.response_time.specs.ResponseTimes.{no_times, ResponseTimesOf};
 
@@ -10,7 +12,7 @@ mod walk; // walk.rt: the full-length run, jump by jump, and its response times
 
 // The answer: passed, or Refused with number and position. And the worst-case response time of each task in priority order; zeros past the count, and in a
 // refusal.
-#[derive(Drop)]
+#[derive(Clone, Copy)]
 pub struct ResponseTimes {
     pub answer: Answer,
     pub responses: [u32; MOST_TASKS],

@@ -8,14 +8,13 @@ use Prim.Native.Nat.{ℕ, suc, ◌≤◌, ◌<◌}
 use native.Mathlib.Nat.{le_trans}
 use native.Mathlib.Omega.{arith}
 use lib.ListN.{get_or}
-use lib.Dec.{ltb, leb, eqb}
-use borrow.Author.Tests.{ltb-true, ltb-false, le-ltb, leb-true, leb-false, eqb-true, eq-eqb, not-true}
-use Rattle.model.proofs.Digits.{bit_high}
-use Rattle.model.specs.Search.{any, bit}
+use lib.Dec.{ltb, eqb}
+use borrow.Author.Tests.{ltb-true, ltb-false, eqb-true, eq-eqb}
+use Rattle.model.specs.Search.{bit}
 use Rattle.model.specs.Grants.{some}
 use Rattle.model.specs.Refusals as model
-use Rattle.model.proofs.Bools.{and_left, and_right, and_both}
-use Rattle.model.proofs.Search.{any_some, any_of, least-found, least-lowest}
+use Rattle.model.proofs.Bools.{and_left, and_right}
+use Rattle.model.proofs.Search.{least-found, least-lowest}
 use Rattle.table.specs.Numbers.{place, Earlier, FirstOf, NoneOf}
 use Rattle.table.proofs.Decide.{Decides, fails, decides_not}
 use Rattle.table.proofs.Order.{not-before-itself, later}

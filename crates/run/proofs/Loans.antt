@@ -29,7 +29,6 @@ use Rattle.rule.specs.Granted.{GrantedAs}
 use Rattle.rule.proofs.Borrowed.{lent-from, none-some}
 use Rattle.rule.proofs.LentSets.{borrowers, not-both, reserved-owners, shown-sets}
 use Rattle.rule.proofs.Sets.{sets-at}
-use Rattle.run.specs.declared.allocation.Allocation.{Allocation}
 use Rattle.run.specs.Sets.{in32}
 use Rattle.run.specs.Allocation.{AllocationOf, given_to, is_given, lent_to}
 

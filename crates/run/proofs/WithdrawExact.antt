@@ -2,19 +2,16 @@
 -- it returns passes 14 again, and withdrawing again changes nothing.
 use mathlib.Core.Path.{◌≡◌, refl, sym, subst, ap, ◌∙◌}
 use mathlib.Core.Bool.{Bool, true, false, ◌||◌, cond}
-use mathlib.Core.Logic.{◌↔◌, ◌⊎◌, inl, inr}
-use Prim.Native.Nat.{ℕ, ◌-◌, ◌≤◌, ◌<◌}
+use mathlib.Core.Logic.{inl, inr}
+use Prim.Native.Nat.{ℕ, ◌≤◌, ◌<◌}
 use native.Mathlib.Omega.{arith}
 use lib.Bits.{bit_or}
 use lib.ListN.{drop}
-use lib.Dec.{eqb, ltb}
-use borrow.Author.Tests.{eq-eqb, eqb-true}
 use Rattle.model.specs.Search.{bit}
 use Rattle.model.specs.Advance as entries
 use Rattle.model.specs.Refusals as answers
 use Rattle.model.specs.Firm.{FirmRule}
-use Rattle.model.proofs.Bools.{not-true-false}
-use Rattle.model.proofs.Digits.{bit-power, or-bit, same_set}
+use Rattle.model.proofs.Digits.{or-bit, same_set}
 use Rattle.model.proofs.Verdict.{firm-exact}
 use Rattle.table.specs.Numbers.{place, Earlier, FirstOf, NoneOf}
 use Rattle.table.proofs.Decide.{Decides, fails, decides_or, decides_eq, decides-lt}

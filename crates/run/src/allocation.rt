@@ -13,7 +13,7 @@ const LENDING: u32 = 4;
 
 // The set of the positions that are given cores in a tick, and of those that borrow some, bit 0 for position 1; and of each position the set of cores
 // that the row shows.
-#[derive(Drop)]
+#[derive(Clone, Copy)]
 pub struct Allocation {
     pub given: u32,
     pub lent: u32,

@@ -10,7 +10,7 @@ use model::MOST_TASKS;
 // those that claim, the set of those that are Working, the set of those whose job is released in this tick, the set of those whose job is an even one,
 // and both widths: the first of each place, then the second of each. The sets of those that claim and that are Working are of the tasks as seen with their
 // empty jobs.
-#[derive(Drop)]
+#[derive(Clone, Copy)]
 pub struct Claims {
     pub broken: u32,
     pub late: u32,

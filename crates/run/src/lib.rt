@@ -1,5 +1,7 @@
 // The run in the cab: rule, core count, fence, the withdrawn set and the tasks with their phases; start, row, sets, working, advance, and withdrawals
 // of one position or of several together.
+#![tactic(auto)]
+
 ghost use Rattle.std.specs.Prelude.{◌≡◌};
 ghost use Rattle.run.specs.declared.Answer.TheVariants.{Refused};
 ghost use Rattle.run.specs.Row.{RowOf, no_bytes};
@@ -25,7 +27,7 @@ use phase::Task;
 
 // A run: the rule's number, the core count, the set of fenced cores, the set of withdrawn positions (bit 0 for position 1), and the tasks in
 // priority order, of which the first count are used.
-#[derive(Drop)]
+#[derive(Clone, Copy)]
 pub struct Run {
     pub rule: u32,
     pub cores: u32,
@@ -36,42 +38,42 @@ pub struct Run {
 }
 
 // The answer to a call: taken, or refused with number and position.
-#[derive(Drop)]
+#[derive(Clone, Copy)]
 pub enum Answer {
     Taken,
     Refused(u32, u32),
 }
 
 // The result of start: the answer, and the run as it starts.
-#[derive(Drop)]
+#[derive(Clone, Copy)]
 pub struct Started {
     pub answer: Answer,
     pub run: Run,
 }
 
 // The result of an advance or a withdrawal: the answer, and the next run.
-#[derive(Drop)]
+#[derive(Clone, Copy)]
 pub struct Advanced {
     pub answer: Answer,
     pub run: Run,
 }
 
 // The result of a row asked as sets: the answer, and of each position the set of its cores, core 0 the lowest bit; a position past the count has none.
-#[derive(Drop)]
+#[derive(Clone, Copy)]
 pub struct Sets {
     pub answer: Answer,
     pub sets: [u64; MOST_TASKS],
 }
 
 // The result of asking who works: the answer, and the set of the positions that do, bit 0 for position 1.
-#[derive(Drop)]
+#[derive(Clone, Copy)]
 pub struct WorkingPositions {
     pub answer: Answer,
     pub set: u32,
 }
 
 // The result of a row asked: the answer, and one byte a core, the position or 0 for idle, 255 on a fenced core; bytes past the core count are 0.
-#[derive(Drop)]
+#[derive(Clone, Copy)]
 pub struct Row {
     pub answer: Answer,
     pub bytes: [u8; ROW],

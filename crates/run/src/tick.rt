@@ -9,7 +9,7 @@ use model::MOST_TASKS;
 
 // The answer to a row asked; where it is taken, the sets of the positions that are given cores, that borrow some, and whose job has either and is
 // Working, bit 0 for position 1; and of each position the set of cores that the row shows.
-#[derive(Drop)]
+#[derive(Clone, Copy)]
 pub struct Tick {
     pub answer: Answer,
     pub given: u32,

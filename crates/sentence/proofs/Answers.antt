@@ -3,17 +3,17 @@ use native.Mathlib.Omega.{arith}
 use mathlib.Core.Path.{◌≡◌, refl, sym, ap, ◌∙◌}
 use mathlib.Core.Bool.{Bool, true, false, cond, true≢false}
 use mathlib.Core.List.{List}
-use mathlib.Core.Logic.{◌↔◌, ◌⊎◌, inl, inr}
+use mathlib.Core.Logic.{◌↔◌, inl, inr}
 use Prim.Native.Nat.{ℕ, suc, ◌≤◌, ◌<◌}
 use lib.Dec.{ltb}
 use lib.ListN.{length}
 use borrow.Author.Tests.{ltb-true, ltb-false}
-use Rattle.model.specs.Search.{any, least}
+use Rattle.model.specs.Search.{any}
 use Rattle.model.specs.Task.{Table, AllValid}
 use Rattle.model.specs.Lists.{NeverMissed}
 use Rattle.model.specs.Horizon.{horizon, last_s, hyperperiod}
 use Rattle.model.specs.Firm.{firm}
-use Rattle.model.specs.Verdict.{Verdict, Firm, Full, Miss, verdict, first_miss, missed_in, missed_at, FirstMiss}
+use Rattle.model.specs.Verdict.{Firm, Full, Miss, verdict, first_miss, missed_in, FirstMiss}
 use Rattle.model.proofs.Verdict.{verdict-exact}
 use Rattle.model.proofs.Search.{least-below}
 use Rattle.table.specs.declared.Answer.{Answer}

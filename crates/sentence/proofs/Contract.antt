@@ -1,15 +1,15 @@
 -- The contract of `sentence` follows from the exactness of its numbers and from what is done with a table that passed.
 use native.Mathlib.Omega.{arith}
 use mathlib.Core.Path.{◌≡◌, refl, sym, ap, ◌∙◌, subst}
-use mathlib.Core.Bool.{Bool, true, false}
-use mathlib.Core.List.{List, ◌++◌}
+use mathlib.Core.Bool.{true}
+use mathlib.Core.List.{List}
 use Prim.Native.Nat.{ℕ, suc, ◌+◌, ◌-◌, ◌≤◌, ◌<◌}
 use lib.ListN.{length, get_or, take, drop, length-append, length-drop}
 use lib.Seq.{take_at, get_or-append-add, get_or-drop}
 use Rattle.model.specs.Search.{any}
-use Rattle.model.specs.Task.{Table, AllValid, task}
+use Rattle.model.specs.Task.{Table, task}
 use Rattle.model.specs.Horizon.{horizon}
-use Rattle.model.specs.Verdict.{Miss, missed_in, first_miss, FirstMiss}
+use Rattle.model.specs.Verdict.{Miss, missed_in, first_miss}
 use Rattle.model.proofs.Bools.{not-false-true}
 use Rattle.table.specs.declared.Answer.{Answer}
 use Rattle.table.specs.declared.Answer.TheVariants as answer
@@ -26,9 +26,9 @@ use Rattle.judge.specs.JudgeAnswer.{judged, verdict_meaning}
 use Rattle.judge.specs.Judged.{verdict_of}
 use Rattle.judge.proofs.Contract.{judged-exact}
 use Rattle.sentence.specs.Counting.{LengthsWithin}
-use Rattle.sentence.specs.Facts.{Facts, limit, Expressible}
+use Rattle.sentence.specs.Facts.{Expressible}
 use Rattle.sentence.specs.Sentence.{sentence_text}
-use Rattle.sentence.specs.Parsed.{facts, parsed}
+use Rattle.sentence.specs.Parsed.{parsed}
 use Rattle.sentence.specs.Waiting.{miss_place, facts_in, facts_of}
 use Rattle.sentence.specs.Numbers.{NoneApplies, words, seventeen, eighteen}
 use Rattle.sentence.specs.SentenceAnswer.{by_table, sentence_answer_by, sentence_answer_of, SentenceOutcome, of_length, refused_by, sentence_meaning, front, left_in, SentenceOf}

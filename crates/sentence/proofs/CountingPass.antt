@@ -1,14 +1,13 @@
 -- The counting pass over the machine: a run that represents the table's full-length run, with the waiting ticks counted so far, and what is left of
 -- the late job at the end.
-use mathlib.Core.Path.{◌≡◌, refl, sym, ap, ◌∙◌, subst, subst₂}
-use mathlib.Core.Bool.{Bool, true, false, not}
-use mathlib.Core.List.{List, map}
-use Prim.Native.Nat.{ℕ, suc, ◌+◌, ◌-◌, ◌≤◌, ◌<◌}
-use native.Mathlib.Numerals.{add-one}
+use mathlib.Core.Path.{◌≡◌, sym, ap, ◌∙◌, subst, subst₂}
+use mathlib.Core.Bool.{Bool, true, false}
+use mathlib.Core.List.{List}
+use Prim.Native.Nat.{ℕ, suc, ◌-◌, ◌≤◌, ◌<◌}
 use native.Mathlib.Omega.{arith}
 use lib.ListN.{length, get_or, replicate}
-use Rattle.model.specs.Search.{bit, up_from}
-use Rattle.model.specs.Task.{Table, AllValid, Task, task, release, due}
+use Rattle.model.specs.Search.{bit}
+use Rattle.model.specs.Task.{Table, AllValid, task}
 use Rattle.model.specs.Jobs.{Book, Job}
 use Rattle.model.specs.Claims.{in_row}
 use Rattle.model.specs.Lists.{full, Missed}

@@ -4,7 +4,7 @@ use mathlib.Core.List.{List}
 use mathlib.Core.Path.{◌≡◌, refl, ap, sym, subst, ◌∙◌}
 use Prim.Native.Nat.{ℕ}
 use Rattle.sentence.specs.Facts.{Facts, Ascending, Expressible, named, facts_by}
-use Rattle.sentence.specs.Sentence.{parts, sentence_head, sentence_text}
+use Rattle.sentence.specs.Sentence.{sentence_head, sentence_text}
 use Rattle.sentence.specs.Parsed.{parsed_by, no_facts, FactsOf}
 use Rattle.sentence.specs.Reading.{PartsOf, HeadOf, heading}
 use Rattle.sentence.specs.declared.ParsedFacts.{ParsedFacts}

@@ -3,22 +3,21 @@
 use mathlib.Core.Path.{◌≡◌, refl, sym, ap, ◌∙◌, subst}
 use mathlib.Core.Bool.{Bool, true, false, not, ◌&&◌, cond, and-false}
 use mathlib.Core.List.{List, map}
-use Prim.Native.Nat.{ℕ, zero, suc, ◌+◌, ◌-◌, ◌≤◌, ◌<◌}
-use native.Mathlib.Nat.{le_trans}
+use Prim.Native.Nat.{ℕ, zero, suc, ◌+◌, ◌≤◌, ◌<◌}
 use native.Mathlib.Omega.{arith}
 use lib.Dec.{leb}
 use lib.ListN.{length, get_or, length-map, get_or-eq_default}
 use borrow.Author.Tests.{leb-true, leb-false, not-true}
 use Rattle.model.specs.Search.{up_from}
-use Rattle.model.specs.Task.{Table, AllValid, task, release}
+use Rattle.model.specs.Task.{Table, AllValid, task}
 use Rattle.model.specs.Jobs.{Book, Job}
 use Rattle.model.specs.Claims.{served, job_claims, in_row}
 use Rattle.model.specs.Advance.{work}
 use Rattle.model.specs.Lists.{full}
 use Rattle.model.specs.Verdict.{FirstMiss}
-use Rattle.model.proofs.Bools.{and_left, and_right, not-true-false}
+use Rattle.model.proofs.Bools.{and_left, and_right}
 use Rattle.model.proofs.Jobs.{after-release}
-use Rattle.model.proofs.Lists.{up-length, up_at, map_at}
+use Rattle.model.proofs.Lists.{up-length, map_at}
 use Rattle.model.proofs.Runs.{full-next, full-tick, bounds-full}
 use Rattle.table.specs.Limits.{most_horizon}
 use Rattle.text.specs.Decimal.{digit_count, digits_within}
@@ -30,7 +29,7 @@ use Rattle.sentence.specs.Waiting.{tally, book_at, release_of, had_by, waits, ra
 use Rattle.sentence.proofs.Longest.{sentence-short, longest-now}
 use Rattle.sentence.proofs.Naming.{named-ascending, named-together}
 use Rattle.sentence.proofs.Tallies.{tally-most, tally-apart}
-use Rattle.sentence.proofs.Waiting.{missed_here, due-here, released-here, deadline-within, same-book, had-full, ran_in}
+use Rattle.sentence.proofs.Waiting.{missed_here, due-here, released-here, same-book, had-full, ran_in}
 
 -- a job has had at most as many ticks as it was served in
 had-served : (s : Table) (p k n : ℕ) → ((full s n).job p k).had ≤ tally n (λ u. served s (full s u) p k)

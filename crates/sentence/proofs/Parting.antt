@@ -16,7 +16,6 @@ use Rattle.sentence.specs.Sentence.{word_field, parts}
 use Rattle.sentence.specs.Parsed.{same}
 use Rattle.sentence.specs.Reading.{FieldOf, PartsOf}
 use Rattle.sentence.specs.declared.reader.Field.{Field}
-use Rattle.sentence.specs.declared.reader.Parts as code
 use Rattle.sentence.proofs.Numbers.{parts-stop}
 use Rattle.sentence.proofs.Exact.{same-exact}
 use Rattle.sentence.proofs.Fields.{field_found}

@@ -1,10 +1,8 @@
 -- How many numbers below n pass a test: one more or none, at most n, and two tests that are never passed together.
-use mathlib.Core.Path.{◌≡◌, refl, sym, ap, ◌∙◌}
+use mathlib.Core.Path.{◌≡◌, refl, sym, ◌∙◌}
 use mathlib.Core.Bool.{Bool, true, false, cond, true≢false}
 use Prim.Native.Nat.{ℕ, zero, suc, ◌+◌, ◌-◌, ◌≤◌, ◌<◌}
 use native.Mathlib.Omega.{arith}
-use lib.Dec.{leb}
-use borrow.Author.Tests.{leb-true, leb-false}
 use Rattle.sentence.specs.Waiting.{tally}
 
 pub tally-none : (f : ℕ → Bool) → tally 0 f ≡ 0

@@ -1,12 +1,11 @@
 -- What is done with the facts of a miss: the sentence is written into a buffer of its own, measured, and copied to the front of the caller's; and which
 -- facts the search finds.
-use mathlib.Core.Path.{◌≡◌, refl, sym, ap, ◌∙◌, subst}
+use mathlib.Core.Path.{◌≡◌, sym, ap, ◌∙◌}
 use mathlib.Core.Bool.{Bool, true, false, cond}
 use mathlib.Core.List.{List, ◌++◌}
 use Prim.Native.Nat.{ℕ, suc, ◌+◌, ◌-◌, ◌≤◌, ◌<◌}
 use native.Mathlib.Nat.{zero-add}
 use native.Mathlib.Omega.{arith}
-use lib.Dec.{ltb}
 use lib.ListN.{length, take, drop}
 use lib.Seq.{take_at}
 use borrow.Author.Tests.{lt-ltb, le-ltb}
@@ -21,7 +20,6 @@ use Rattle.sentence.specs.Facts.{Facts}
 use Rattle.sentence.specs.Sentence.{sentence_text}
 use Rattle.sentence.specs.Waiting.{facts_at, miss_place, facts_in}
 use Rattle.sentence.specs.SentenceAnswer.{by_buffer, by_table, front}
-use Rattle.sentence.specs.declared.SentenceAnswer.{SentenceAnswer}
 use Rattle.sentence.specs.declared.SentenceAnswer.TheVariants.{Length, Refused}
 
 -- by the buffer's length

@@ -16,7 +16,7 @@ use Rattle.sentence.specs.Sentence.{sentence_text}
 use Rattle.sentence.specs.Waiting.{facts_in, facts_of}
 use Rattle.sentence.specs.Numbers.{First, NoneApplies}
 use Rattle.sentence.specs.Limits.{longest_sentence}
-use Rattle.sentence.specs.Parsed.{ParsedSentence, facts, parsed}
+use Rattle.sentence.specs.Parsed.{facts, parsed}
 use Rattle.sentence.specs.declared.SentenceAnswer.{SentenceAnswer}
 use Rattle.sentence.specs.declared.SentenceAnswer.TheVariants.{Length, Refused}
 

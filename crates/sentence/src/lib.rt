@@ -1,4 +1,6 @@
 // The miss in a sentence: written, and parsed.
+#![tactic(auto)]
+
 ghost use Rattle.std.specs.Prelude.{◌≡◌, suc, ◌≤◌, length};
 ghost use Rattle.model.specs.Verdict.{FirstMiss};
 ghost use Rattle.table.specs.Fit.{loaded_table, Fit};
@@ -19,14 +21,14 @@ pub mod writer; // writer.rt: a sentence written
 pub const LONGEST: usize = 700;
 
 // The answer of `sentence`: the sentence's length, or Refused with number and position.
-#[derive(Drop)]
+#[derive(Clone, Copy)]
 pub enum SentenceAnswer {
     Length(usize),
     Refused(u32, u32),
 }
 
 // The facts of a miss: `ran[q]` is the count of the task at position q + 1, and 0 where it has no part.
-#[derive(Drop)]
+#[derive(Clone, Copy)]
 pub struct Facts {
     pub position: u32,
     pub tick: u64,
@@ -36,7 +38,7 @@ pub struct Facts {
 }
 
 // The result of parsing a text: facts, or none, with zeros for all of them.
-#[derive(Drop)]
+#[derive(Clone, Copy)]
 pub struct ParsedFacts {
     pub found: bool,
     pub facts: Facts,

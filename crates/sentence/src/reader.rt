@@ -9,7 +9,7 @@ ghost use Rattle.model.specs.Sizes.{most_tasks};
 use model::MOST_TASKS;
 
 // A number after a word: whether it is there, and where it ends.
-#[derive(Drop)]
+#[derive(Clone, Copy)]
 pub struct Field {
     pub found: bool,
     pub value: u64,
@@ -17,14 +17,14 @@ pub struct Field {
 }
 
 // The parts of a sentence: whether they are there, and their counts.
-#[derive(Drop)]
+#[derive(Clone, Copy)]
 pub struct Parts {
     pub found: bool,
     pub ran: [u64; MOST_TASKS],
 }
 
 // All of a sentence before its parts: whether it is there, its numbers, and where it ends.
-#[derive(Drop)]
+#[derive(Clone, Copy)]
 pub struct Head {
     pub found: bool,
     pub position: u64,

@@ -10,7 +10,7 @@ use lib.ListN.{length, get_or, take, drop, length-take, length-drop}
 use lib.Seq.{take_all}
 use lib.Dec.{eqb, leb}
 use borrow.Author.Tests.{ne_eqb, leb-true, leb-false}
-use Rattle.text.specs.Format.{most_digits, joined}
+use Rattle.text.specs.Format.{most_digits}
 use Rattle.text.specs.Input.{length_to, parse_number}
 use Rattle.text.specs.Output.{space}
 use Rattle.text.specs.declared.line.ParsedNumber.{ParsedNumber}
@@ -20,8 +20,7 @@ use Rattle.text.proofs.Numbers.{found_nothing}
 use Rattle.splitter.specs.Words.{words_in}
 use Rattle.splitter.proofs.Words.{words-one, words_more}
 use Rattle.session.specs.declared.operations.Numbers.{Numbers}
-use Rattle.session.specs.declared.operations.Numbers.TheVariants.{Bare, One, Two, Other}
-use Rattle.session.specs.declared.operations.Operation.{Operation}
+use Rattle.session.specs.declared.operations.Numbers.TheVariants.{Bare, Other}
 use Rattle.session.specs.declared.operations.Operation.TheVariants.{Nothing}
 use Rattle.session.specs.Operation.{none_long, one_of, two_of, numbers_of, numbers_after, advance_by, row_by, sets_by, working_by, withdraw_by, withdraw_all_by}
 use Rattle.session.specs.Operation.{operation_by, operation_of}

@@ -3,15 +3,14 @@ use mathlib.Core.Bool.{Bool, true, false, cond, true≢false}
 use mathlib.Core.List.{List, [], ◌∷◌, ◌++◌, append-nil}
 use mathlib.Core.Logic.{◌⊎◌, inl, inr}
 use mathlib.Core.Path.{◌≡◌, refl, sym, ap, ap₂, ◌∙◌, subst, subst⁻¹}
-use Prim.Native.Nat.{ℕ, ◌+◌, ◌≤◌, ◌<◌}
+use Prim.Native.Nat.{ℕ, ◌≤◌, ◌<◌}
 use native.Mathlib.Omega.{arith}
 use lib.ListN.{length, take, drop}
 use lib.Seq.{take_all}
 use Rattle.splitter.specs.declared.Part.{Part}
-use Rattle.splitter.specs.Split.{too_many, InputEnd, nothing, unknown, lines_from, split, growing}
+use Rattle.splitter.specs.Split.{too_many, InputEnd, nothing, unknown, lines_from, split}
 use Rattle.splitter.specs.Parts.{Comes, goes, end_of, OneLine, LineOf, TableOf}
 use Rattle.splitter.proofs.Splits.{lines_none, lines-waits}
-use Rattle.splitter.proofs.Lines.{empty_of}
 use Rattle.run.specs.declared.Run.{Run}
 use Rattle.session.specs.declared.Stage.{Stage}
 use Rattle.session.specs.declared.Stage.TheVariants.{Table, Operations, Over}
@@ -22,7 +21,7 @@ use Rattle.session.specs.declared.operations.Operation.{Operation}
 use Rattle.session.specs.declared.operations.Operation.TheVariants.{Nothing}
 use Rattle.session.specs.Operation.{none_long, operation_of, reply, run_after, is_last}
 use Rattle.session.specs.Transcript.{replies, opened, answers_to}
-use Rattle.session.specs.Session.{transcript_in, transcript_of, IsPrefix, FedBy, FedOf, stage_after, TextWritten, OpenedOf, fed_with}
+use Rattle.session.specs.Session.{transcript_in, IsPrefix, FedBy, FedOf, stage_after, TextWritten, OpenedOf, fed_with}
 use Rattle.session.proofs.Asking.{long-none}
 use Rattle.session.proofs.Transcripts.{begins-with, all-opened, due-opened, due-none, no_operation, replies-none, replies-long, replies-due, replies-line, replies-last}
 

@@ -1,4 +1,6 @@
 // A session: the table and the operations of a run, read as they come, and the reply to each.
+#![tactic(auto)]
+
 ghost use Rattle.std.specs.Prelude.{◌≡◌};
 ghost use Rattle.session.specs.declared.Stage.TheVariants.{Table, Operations};
 ghost use Rattle.session.specs.Session.{transcript_in, is_over, stage_after, fed_with, FedBy, FedOf, NewOf};
@@ -17,7 +19,7 @@ const NONE_LONG: usize = 1 + 2 * (1 + text::DIGITS) + 1;
 pub const REPLY: usize = 4 + MOST_TASKS * (1 + 20) + 1;
 
 // What the next bytes are read as: the table, the operations, or nothing any more.
-#[derive(Drop)]
+#[derive(Clone, Copy)]
 pub enum Stage {
     Table,
     Operations,
@@ -25,14 +27,14 @@ pub enum Stage {
 }
 
 // The state of a session: its stage, and the run.
-#[derive(Drop)]
+#[derive(Clone, Copy)]
 pub struct Session {
     pub stage: Stage,
     pub run: Run,
 }
 
 // The number of bytes taken, the number of bytes written, and the session after them.
-#[derive(Drop)]
+#[derive(Clone, Copy)]
 pub struct Fed {
     pub session: Session,
     pub taken: usize,

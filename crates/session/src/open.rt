@@ -8,7 +8,7 @@ use crate::{REPLY, replies};
 use run::{Run, Started};
 
 // The length of the answer to the table, its run, and whether the session is over.
-#[derive(Drop)]
+#[derive(Clone, Copy)]
 pub struct Opened {
     pub run: Run,
     pub length: usize,

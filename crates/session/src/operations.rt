@@ -6,7 +6,7 @@ use text::line::ParsedNumber;
 
 // An advance with its reports and its empties, a position withdrawn, the positions of a set withdrawn together, a row asked with empties, one asked as
 // sets, who works asked, or nothing that a run can do.
-#[derive(Drop)]
+#[derive(Clone, Copy)]
 pub enum Operation {
     Advance(u32, u32),
     Withdraw(u32),
@@ -18,7 +18,7 @@ pub enum Operation {
 }
 
 // What is after the letter of a line: nothing, one or two numbers, or something else.
-#[derive(Drop)]
+#[derive(Clone, Copy)]
 pub enum Numbers {
     Bare,
     One(u32),

@@ -14,7 +14,7 @@ use text::row::CELLS;
 use text::{decimal, first, row};
 
 // The length of the reply, and the run after it; whether that was the last.
-#[derive(Drop)]
+#[derive(Clone, Copy)]
 pub struct Reply {
     pub run: Run,
     pub length: usize,

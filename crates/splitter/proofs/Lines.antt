@@ -1,10 +1,9 @@
 -- The line at the front of some bytes, or from a place on.
 use mathlib.Core.Bool.{Bool, true, false, ◌&&◌, ◌||◌, true≢false, false≢true}
-use mathlib.Core.List.{List, [], ◌∷◌, ◌++◌, append_assoc, append-nil}
+use mathlib.Core.List.{List, [], ◌∷◌, ◌++◌, append_assoc}
 use mathlib.Core.Logic.{◌⊎◌, inl, inr}
 use mathlib.Core.Path.{◌≡◌, refl, sym, ap, ap₂, subst, ◌∙◌}
 use Prim.Native.Nat.{ℕ, suc, ◌+◌, ◌-◌, ◌≤◌, ◌<◌}
-use native.Mathlib.Nat.{not-suc-le-zero}
 use native.Mathlib.Omega.{arith}
 use lib.ListN.{length, take, drop, drop_of_length-le, length-drop, take-append-drop}
 use lib.Seq.{drop-cons, drop-drop, take_all}
@@ -13,8 +12,8 @@ use borrow.Author.Tests.{leb-true, leb-false, ltb-true, ltb-false}
 use Rattle.text.specs.Format.{newline}
 use Rattle.text.specs.Input.{line_length}
 use Rattle.text.proofs.Lines.{line-split, line-stop, line-within}
-use Rattle.splitter.specs.Split.{InputEnd, nothing, lines_from}
-use Rattle.splitter.specs.Parts.{Comes, ends, goes, OneLine, LineOf}
+use Rattle.splitter.specs.Split.{InputEnd, nothing, unknown, lines_from}
+use Rattle.splitter.specs.Parts.{Comes, ends, OneLine, LineOf}
 use Rattle.splitter.proofs.Splits.{lines-last, lines-line, lines_more, lines_none}
 
 pub empty_of : (l : List ℕ) → length l ≡ 0 → l ≡ []
@@ -70,6 +69,8 @@ module _ (bs : List ℕ) (end most : ℕ) (ended : Bool) (q : end ≡ 0 + line_l
       one_line h nothing [] ∙ lines-last bs (omega (arith, h, n))
       ∙ ap₂ (λ (x : List ℕ) (ls : List (List ℕ)). x ∷ ls) (sym (take_all end bs (omega (arith, h))))
       (sym (ap (λ (y : List ℕ). lines_from nothing [] (y ++ [])) (drop_of_length-le bs {i = end} (omega (arith, h))) ∙ lines_none nothing))
+  last_line h n nothing (_ ∷ _) c = elim c [ ]
+  last_line h n unknown more c = elim c [ ]
 
   pub line-left : end ≡ length bs → LineOf bs most ended (record { whole = (ended && ltb 0 end) || leb most end; end = end; next = end })
   line-left h = record {

@@ -8,9 +8,9 @@ use native.Mathlib.Omega.{arith}
 use lib.ListN.{length, get_or, take, length-append}
 use lib.Seq.{append_snoc}
 use lib.Dec.{eqb}
-use Rattle.text.specs.Format.{most_bytes, newline}
+use Rattle.text.specs.Format.{newline}
 use Rattle.text.specs.Input.{length_to, line_length}
-use Rattle.splitter.specs.Split.{too_many, InputEnd, nothing, unknown, last_line, lines_from, is_dashes, Split, closed, growing, unclosed, split_from, TooLong}
+use Rattle.splitter.specs.Split.{too_many, InputEnd, nothing, unknown, last_line, lines_from, is_dashes, closed, unclosed, split_from, TooLong}
 
 -- bytes that are no newlines go on with the line
 pub split-more : (e : InputEnd) (d l chunk : List ℕ) (k : ℕ) (bs : List ℕ) → k ≤ line_length chunk → split_from e d l (take k chunk ++ bs) ≡ split_from e d (l ++ take k chunk) bs

@@ -1,7 +1,7 @@
 -- The table's text, line by line, up to the line `--`.
 use mathlib.Core.Bool.{Bool, cond, false, true, true≢false, false≢true, ◌&&◌, ◌||◌}
 use mathlib.Core.List.{List, [], ◌++◌, append_assoc, append-nil, ◌∷◌}
-use mathlib.Core.Logic.{◌⊎◌, inl, inr}
+use mathlib.Core.Logic.{inl, inr}
 use mathlib.Core.Path.{◌∙◌, ◌≡◌, ap, ap₂, refl, subst, subst⁻¹, sym}
 use Prim.Native.Nat.{◌+◌, ◌-◌, ◌<◌, suc, ℕ, ◌≤◌}
 use native.Mathlib.Omega.{arith}
@@ -9,14 +9,14 @@ use lib.Dec.{leb}
 use lib.ListN.{drop, drop_of_length-le, length, length-drop, take, take-append-drop}
 use lib.Seq.{length-take-le, take-add, take_all, take-length, take-suc}
 use borrow.Author.Tests.{leb-true, leb-false}
-use Rattle.text.specs.Format.{most_bytes, newline}
+use Rattle.text.specs.Format.{newline}
 use Rattle.text.specs.Input.{line_length}
 use Rattle.text.proofs.Lines.{line-stop, line-within, mark-none}
 use Rattle.splitter.specs.declared.Part.{Part}
-use Rattle.splitter.specs.Split.{too_many, InputEnd, nothing, unknown, lines_from, is_dashes, Split, closed, growing, unclosed, split_from, split, TooLong}
-use Rattle.splitter.specs.Parts.{Comes, ends, goes, SplitInto, TableOf, unclosed_part}
+use Rattle.splitter.specs.Split.{too_many, InputEnd, nothing, unknown, lines_from, is_dashes, closed, growing, unclosed, split_from, split, TooLong}
+use Rattle.splitter.specs.Parts.{Comes, ends, SplitInto, TableOf, unclosed_part}
 use Rattle.splitter.proofs.Splits.{split-more, split-dashes, split-line, split-end, split-long, lines_none}
-use Rattle.splitter.proofs.Lines.{line-here, empty_of}
+use Rattle.splitter.proofs.Lines.{line-here}
 
 -- all that states from a place on
 pub part-rest : (bs : List ℕ) (from : ℕ) → take (length bs - from) (drop from bs) ≡ drop from bs
@@ -97,6 +97,8 @@ module _ (bs : List ℕ) (at end : ℕ) (ended : Bool) (w : Whole bs at) (q : en
       inl (line-left h nothing [] ∙ split-end nothing (take at bs) (drop at bs)
       ∙ ap₂ (λ (d : List ℕ) (ls : List (List ℕ)). closed d ls) t
       (sym (ap (λ (y : List ℕ). lines_from nothing [] (y ++ [])) (drop_of_length-le bs {i = length bs} (omega arith)) ∙ lines_none nothing)))
+  table-ends k h t nothing (_ ∷ _) c = elim c [ ]
+  table-ends k h t unknown more c = elim c [ ]
 
   -- where it has too many bytes
   table-long :

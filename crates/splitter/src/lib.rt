@@ -1,4 +1,6 @@
 // An input of a table, a line `--`, then lines: its parts, as its bytes arrive.
+#![tactic(auto)]
+
 ghost use Rattle.std.specs.Prelude.{◌≡◌, ◌≤◌, length};
 ghost use Rattle.splitter.specs.Split.{is_dashes};
 ghost use Rattle.splitter.specs.Parts.{LineOf, TableOf, unclosed_part};
@@ -7,7 +9,7 @@ ghost use Rattle.splitter.specs.Parts.{LineOf, TableOf, unclosed_part};
 pub const TOO_MANY: usize = text::BYTES + 3;
 
 // Whether a part is at the front of the bytes, where it ends, and where what comes after it begins.
-#[derive(Drop)]
+#[derive(Clone, Copy)]
 pub struct Part {
     pub whole: bool,
     pub end: usize,

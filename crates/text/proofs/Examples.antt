@@ -1,7 +1,6 @@
 -- Texts and what they are read as, and the scope's own print of A and of some others, computed from the definitions.
 use mathlib.Core.List.{List, [], ◌∷◌, map}
 use mathlib.Core.Path.{◌≡◌, refl}
-use Prim.Native.Nat.{ℕ}
 use Prim.Native.String.{String}
 use lib.ListN.{replicate}
 use Rattle.model.specs.Task.{Table, greedy, idling, lending, limited}

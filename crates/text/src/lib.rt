@@ -1,4 +1,6 @@
 // The words of a table, parsed from the decimal lines that the program is given. The modules write lines.
+#![tactic(auto)]
+
 ghost use Rattle.std.specs.Prelude.{◌≡◌, min};
 ghost use Rattle.text.specs.Format.{no_text};
 ghost use Rattle.text.specs.Input.{input_of, ReadOf};
@@ -23,7 +25,7 @@ pub const BYTES: usize = (DIGITS + 1) * NUMBERS;
 pub const ENOUGH: usize = BYTES + 1;
 
 // What was read: whether it is a table's text, and its numbers, zeros past the count; all zeros where it is none.
-#[derive(Drop)]
+#[derive(Clone, Copy)]
 pub struct Input {
     pub accepted: bool,
     pub count: usize,

@@ -6,7 +6,7 @@ ghost use Rattle.text.specs.Input.{length_to, parse_number};
 const LARGEST: u64 = u32::MAX as u64;
 
 // The number that a line represents, if there is one.
-#[derive(Drop)]
+#[derive(Clone, Copy)]
 pub enum ParsedNumber {
     Value(u32),
     Nothing,

@@ -5,12 +5,12 @@ use Rattle.table.specs.declared.Answer.TheVariants.{Refused}
 use Rattle.interference.proofs.refused.Statement.{statement}
 use Rattle.interference.proofs.refused.Tie as tie
 
-unmet-requires : tie.Need-unmet-requires
+unmet-requires : tie.Need-unmet-tested-requires
 unmet-requires c κs = search rules
 
 returns : tie.Need-returns
 returns c =
-    ap (λ r. record { answer = Refused c.before.args.number c.before.args.position; tested = r }) c.unmet.ensures
+    ap (λ r. record { answer = Refused c.args.number c.args.position; tested = r }) c.unmet-tested.ensures
 
-pub refused-spec : {M : Type 1} → statement M
-refused-spec = tie.close (tie.spec unmet-requires returns)
+pub refused_spec : {M : Type 1} → statement M
+refused_spec = tie.close (tie.spec unmet-requires returns)

@@ -3,14 +3,14 @@ use borrow.Author.Rules.{rules}
 use Rattle.judge.proofs.accepted.Statement.{statement}
 use Rattle.judge.proofs.accepted.Tie as tie
 
-is-firm-requires : tie.Need-is-firm-requires
+is-firm-requires : tie.Need-is_firm-requires
 is-firm-requires c κs = search rules
 
-returns : tie.Need-returns
-returns c = rw (← c.before.is-firm.ensures, c.if1.true)
+returns : tie.Need-returns-then-is_firm
+returns c = rw (← c.is_firm.ensures, c.if-is_firm.true)
 
-returns-2 : tie.Need-returns-2
-returns-2 c = rw (← c.before.is-firm.ensures, c.if1.false)
+returns-2 : tie.Need-returns
+returns-2 c = rw (← c.is_firm.ensures, c.if-is_firm.false)
 
-pub accepted-spec : {M : Type 1} → statement M
-accepted-spec = tie.close (tie.spec is-firm-requires returns returns-2)
+pub accepted_spec : {M : Type 1} → statement M
+accepted_spec = tie.close (tie.spec is-firm-requires returns returns-2)

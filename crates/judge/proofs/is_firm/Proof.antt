@@ -6,18 +6,18 @@ use Rattle.judge.proofs.Widths.{firm-numbers, firm-others}
 use Rattle.judge.proofs.is_firm.Statement.{statement}
 use Rattle.judge.proofs.is_firm.Tie as tie
 
-returns : tie.Need-returns
+returns : tie.Need-returns-then-rule
 returns c =
-    let a = c.before.args in
-    sym (firm-numbers a.rule (tasks_of a.tasks a.count) c.if1.true)
+    let a = c.args in
+    sym (firm-numbers a.rule (tasks_of a.tasks a.count) c.if-rule.true)
 
-parallelism-monotonic-requires : tie.Need-parallelism-monotonic-requires
+parallelism-monotonic-requires : tie.Need-parallelism_monotonic-requires
 parallelism-monotonic-requires c κs = search rules
 
-returns-2 : tie.Need-returns-2
+returns-2 : tie.Need-returns
 returns-2 c =
-    let a = c.before.before.args in
-    c.parallelism-monotonic.ensures ∙ sym (firm-others a.rule (tasks_of a.tasks a.count) c.before.if1.false)
+    let a = c.args in
+    c.parallelism_monotonic.ensures ∙ sym (firm-others a.rule (tasks_of a.tasks a.count) c.if-rule.false)
 
-pub is-firm-spec : {M : Type 1} → statement M
-is-firm-spec = tie.close (tie.spec returns parallelism-monotonic-requires returns-2)
+pub is_firm_spec : {M : Type 1} → statement M
+is_firm_spec = tie.close (tie.spec returns parallelism-monotonic-requires returns-2)

@@ -22,43 +22,38 @@ up_to : (t : Loaded) (m : Missed) (v : Verdict) → m ≡ missed_before (loaded_
 up_to t m v e f = rw (f, e, add-one)
 
 -- the table that was loaded is fit to be run
-fit_of : (c : tie.After-enum-told) → Fit c.before.before.load.result
+fit_of : (c : tie.In-Passed) → Fit c.load-table.result
 fit_of c =
-    let l = c.before.before in
-    fit l.before.before.args.words.now l.load.result l.load.ensures c.enum_told.given.1
+    fit c.args.words.now c.load-table.result c.load-table.ensures c.in-Passed.is
 
-load-requires : tie.Need-load-requires
+load-requires : tie.Need-load-table-requires
 load-requires c κs = search rules
 
-enum_told : tie.Need-enum-told
+enum_told : tie.Need-enum_told-1
 enum_told c = search rules
 
-add-first-miss-by : tie.Need-overflow-add-first-miss-by
+add-first-miss-by : tie.Need-overflow_add-table
 add-first-miss-by c = omega (arith, (fit_of c.before).limit)
 
-first-miss-by-requires : tie.Need-first-miss-by-requires
+first-miss-by-requires : tie.Need-first_miss_by-missed-requires
 first-miss-by-requires c κs = (fit_of c.before, omega arith)
 
-verdict-by-requires : tie.Need-verdict-by-requires
+verdict-by-requires : tie.Need-verdict_by-requires
 verdict-by-requires c κs = (fit_of c.before.before).few
 
-enum-known-answer : tie.Need-enum-known-answer
+enum-known-answer : tie.Need-enum_known-answer
 enum-known-answer c = search rules
 
-returns : tie.Need-returns
+returns : tie.Need-returns-in-Passed
 returns c =
-    let f = c.before in
-    let t = f.before.before in
-    let l = t.before.before in
-    run_value l.before.before.args.words.now l.load.result l.load.ensures t.enum_told.given.1 c.verdict-by.result
-    (up_to l.load.result f.first-miss-by.result c.verdict-by.result f.first-miss-by.ensures.value c.verdict-by.ensures)
+    run_value c.args.words.now c.load-table.result c.load-table.ensures c.in-Passed.is c.verdict_by.result
+    (up_to c.load-table.result c.first_miss_by-missed.result c.verdict_by.result c.first_miss_by-missed.ensures.value c.verdict_by.ensures)
 
-returns-2 : tie.Need-returns-2
+returns-2 : tie.Need-returns-in-Refused
 returns-2 c =
-    let l = c.before.before.before in
-    refused-value l.before.before.args.words.now l.load.result l.load.ensures _ _ c.before.answer.given.1
+    refused-value c.args.words.now c.load-table.result c.load-table.ensures _ _ c.in-Refused.is
 
-pub judge-by-spec : {M : Type 1} → statement M
-judge-by-spec =
+pub judge_by_spec : {M : Type 1} → statement M
+judge_by_spec =
     tie.close
     (tie.spec load-requires enum_told add-first-miss-by first-miss-by-requires verdict-by-requires enum-known-answer returns returns-2)

@@ -13,68 +13,68 @@ use Rattle.plan.proofs.by_table.Statement.{statement}
 use Rattle.plan.proofs.by_table.Tie as tie
 
 -- the state where the test `if2` fails
-abbrev else2 : tie.After-first-miss → tie.Else2
+abbrev else2 : tie.After-first_miss-missed → tie.Else-table-b
 else2 c = c.before.before.before
 
 -- the state after `first-miss`
-abbrev first-miss : tie.After-write-arg → tie.After-first-miss
-first-miss c = c.before.before.before
+abbrev first-miss : tie.After-write-arg-1 → tie.After-first_miss-missed
+first-miss c = c.before.before
 
 -- the state after `enum_told`
-abbrev enum-told-from-out : tie.After-out → tie.After-enum-told
+abbrev enum-told-from-out : tie.After-out-1 → tie.In-Never
 enum-told-from-out c = c.before.before.before
 
 -- the state at the call
-abbrev entry-from-then2 : tie.Then2 → tie.Start
+abbrev entry-from-then2 : tie.Then-table-b → tie.Start
 entry-from-then2 c = c.before.before.before.before
 
-abbrev entry-from-else2 : tie.Else2 → tie.Start
+abbrev entry-from-else2 : tie.Else-table-b → tie.Start
 entry-from-else2 c = c.before.before.before.before
 
-abbrev entry-from-struct-known2 : tie.After-struct-known2 → tie.Start
+abbrev entry-from-struct-known2 : tie.After-struct_known-2-1 → tie.Start
 entry-from-struct-known2 c = entry-from-else2 c.before
 
-abbrev entry-from-write-arg : tie.After-write-arg → tie.Start
+abbrev entry-from-write-arg : tie.After-write-arg-1 → tie.Start
 entry-from-write-arg c = entry-from-struct-known2 (first-miss c).before.before
 
 -- the state where the test `if1` fails
-abbrev else1 : tie.Then3 → tie.Else1
+abbrev else1 : tie.Then-out-bytes → tie.Else-b-a
 else1 c = c.before.before.before.before
 
-returns : tie.Need-returns
+returns : tie.Need-returns-then-b-a
 returns c =
-    let x = c.before.before.args in
-    (above (loaded_table x.table) x.a x.b (length x.out.now) c.if1.true, refl)
+    let x = c.args in
+    (above (loaded_table x.table) x.a x.b (length x.out.now) c.if-b-a.true, refl)
 
-returns-2 : tie.Need-returns-2
+returns-2 : tie.Need-returns-then-table-b
 returns-2 c =
     let x = (entry-from-then2 c).args in
     let p = (entry-from-then2 c).requires in
-    (beyond (loaded_table x.table) x.a x.b (length x.out.now) c.before.before.if1.false (omega (arith, c.if2.true, p.0.horizon)), refl)
+    (beyond (loaded_table x.table) x.a x.b (length x.out.now) c.if-b-a.false (omega (arith, c.if-table-b.true, p.0.horizon)), refl)
 
-cast-bytes : tie.Need-overflow-cast-bytes
+cast-bytes : tie.Need-overflow_cast-bytes
 cast-bytes c = search rules
 
-cast-bytes-2 : tie.Need-overflow-cast-bytes-2
+cast-bytes-2 : tie.Need-overflow_cast-bytes-2
 cast-bytes-2 c = search rules
 
-mul-bytes : tie.Need-overflow-mul-bytes
+mul-bytes : tie.Need-overflow_mul-bytes
 mul-bytes c =
     let x = (entry-from-struct-known2 c).args in
     let p = (entry-from-struct-known2 c).requires in
-    let short : x.b - x.a ≤ 1000000000 = omega (arith, c.before.if2.false, p.0.limit) in
+    let short : x.b - x.a ≤ 1000000000 = omega (arith, c.if-table-b.false, p.0.limit) in
     omega (arith, mul-le-mul short p.1)
 
-returns-3 : tie.Need-returns-3
+returns-3 : tie.Need-returns-then-out-bytes
 returns-3 c =
     let x = (entry-from-struct-known2 c.before).args in
     let p = (entry-from-struct-known2 c.before).requires in
-    (too_short (loaded_table x.table) x.a x.b (length x.out.now) (else1 c).if1.false (omega (arith, c.before.before.if2.false, p.0.horizon)) c.if3.true, refl)
+    (too_short (loaded_table x.table) x.a x.b (length x.out.now) (else1 c).if-b-a.false (omega (arith, c.if-table-b.false, p.0.horizon)) c.if-out-bytes.true, refl)
 
-first-miss-requires : tie.Need-first-miss-requires
+first-miss-requires : tie.Need-first_miss-missed-requires
 first-miss-requires c κs = search rules
 
-enum_told : tie.Need-enum-told
+enum_told : tie.Need-enum_told-1
 enum_told c = search rules
 
 write-requires : tie.Need-write-requires
@@ -84,40 +84,40 @@ write-requires c κs =
     let p = (entry-from-write-arg c).requires in (
       p.0,
       p.1,
-      (else2 fm).if2.left,
-      never-found (loaded_table x.table) x.b (sym fm.first-miss.ensures.value ∙ c.before.enum_told.given.1),
-      fm.before.if3.left,
+      (else2 fm).if-table-b.false,
+      never-found (loaded_table x.table) x.b (sym fm.first_miss-missed.ensures.value ∙ c.in-Never.is),
+      fm.if-out-bytes.false,
     )
 
-enum-told-2 : tie.Need-enum-told-2
+enum-told-2 : tie.Need-enum_told-in-At
 enum-told-2 c = search rules
 
-same_length : tie.Need-same-length
+same_length : tie.Need-shape_of-out
 same_length c = search rules
 
-returns-4 : tie.Need-returns-4
+returns-4 : tie.Need-returns-in-Never
 returns-4 c =
-    let f = (enum-told-from-out c.before).before.before in
+    let f = (enum-told-from-out c.before).before in
     let x = (entry-from-struct-known2 f.before.before).args in
     let p = (entry-from-struct-known2 f.before.before).requires in
-    let none = never-found (loaded_table x.table) x.b (sym f.first-miss.ensures.value ∙ (enum-told-from-out c.before).enum_told.given.1) in (
-      long-enough (loaded_table x.table) x.a x.b (length x.out.now) (else2 f).before.before.if1.left (omega (arith, (else2 f).if2.left, p.0.horizon)) f.before.if3.left false none,
-      c.before.before.write.ensures,
+    let none = never-found (loaded_table x.table) x.b (sym f.first_miss-missed.ensures.value ∙ (enum-told-from-out c.before).in-Never.is) in (
+      long-enough (loaded_table x.table) x.a x.b (length x.out.now) (else2 f).if-b-a.false (omega (arith, (else2 f).if-table-b.false, p.0.horizon)) f.if-out-bytes.false false none,
+      c.write.ensures,
     )
 
-returns-5 : tie.Need-returns-5
+returns-5 : tie.Need-returns-in-At
 returns-5 c =
-    let f = c.before.before in
+    let f = c.before in
     let x = (entry-from-struct-known2 f.before.before).args in
     let p = (entry-from-struct-known2 f.before.before).requires in
-    let some = one_found (loaded_table x.table) x.b _ _ (sym f.first-miss.ensures.value ∙ c.enum-told2.given.1) in (
-      long-enough (loaded_table x.table) x.a x.b (length x.out.now) (else2 f).before.before.if1.false
-          (omega (arith, (else2 f).if2.false, p.0.horizon)) f.before.if3.false true some,
+    let some = one_found (loaded_table x.table) x.b _ _ (sym f.first_miss-missed.ensures.value ∙ c.in-At.is) in (
+      long-enough (loaded_table x.table) x.a x.b (length x.out.now) (else2 f).if-b-a.false
+          (omega (arith, (else2 f).if-table-b.false, p.0.horizon)) f.if-out-bytes.false true some,
       refl,
     )
 
-pub by-table-spec : {M : Type 1} → statement M
-by-table-spec =
+pub by_table_spec : {M : Type 1} → statement M
+by_table_spec =
     tie.close
     (tie.spec
     returns

@@ -14,42 +14,42 @@ use Rattle.plan_text.proofs.begin.Tie as tie
 
 -- what was begun is the beginning of the text's numbers
 begun :
-    (c : tie.After-begin)
-    → c.begin.result ≡ begin_of (numbers_in (words_of c.before.before.before.before.before.args.table.now))
-begun c = let r = c.before.before.before.read in c.begin.ensures.value ∙ ap begin_of (numbers-read r.result _ r.ensures.value)
+    (c : tie.After-begin-begun)
+    → c.begin-begun.result ≡ begin_of (numbers_in (words_of c.args.table.now))
+begun c = let r = c.read-input in c.begin-begun.ensures.value ∙ ap begin_of (numbers-read r.result _ r.ensures.value)
 
-read-requires : tie.Need-read-requires
+read-requires : tie.Need-read-input-requires
 read-requires c κs = search rules
 
-array-share-prefix-words : tie.Need-array-share-prefix-words
-array-share-prefix-words c = let w : length c.before.read.result.words ≡ most_numbers = search rules in omega (arith, c.before.read.ensures.most, w)
+array-share-prefix-words : tie.Need-slice_bounds-words-end
+array-share-prefix-words c = let w : length c.read-input.result.words ≡ most_numbers = search rules in omega (arith, c.read-input.ensures.most, w)
 
-slice-aggregate-begin : tie.Need-slice-aggregate-begin
+slice-aggregate-begin : tie.Need-slice_bounds-begin-end
 slice-aggregate-begin c =
-    let w : length c.before.before.read.result.words ≡ most_numbers = search rules in
-    sym (length-take-le c.before.before.read.result.count _ (omega (arith, c.before.before.read.ensures.most, w)))
+    let w : length c.read-input.result.words ≡ most_numbers = search rules in
+    sym (length-take-le c.read-input.result.count _ (omega (arith, c.read-input.ensures.most, w)))
 
-begin-requires : tie.Need-begin-requires
+begin-requires : tie.Need-begin-begun-requires
 begin-requires c κs = search rules
 
-enum_told : tie.Need-enum-told
+enum_told : tie.Need-enum_told-1
 enum_told c = search rules
 
-enum-known-answer : tie.Need-enum-known-answer
+enum-known-answer : tie.Need-enum_known-answer
 enum-known-answer c = search rules
 
-returns : tie.Need-returns
+returns : tie.Need-returns-in-Passed
 returns c =
-    let b = c.before.before.before in
-    opened-passed _ c.before.before.before.begin.result (begun b) c.enum_told.given.1
+    let b = c.before.before in
+    opened-passed _ c.begin-begun.result (begun b) c.in-Passed.is
 
-returns-2 : tie.Need-returns-2
+returns-2 : tie.Need-returns-in-Refused
 returns-2 c =
-    let b = c.before.before.before.before in
-    opened-refused _ c.before.before.before.before.begin.result _ _ (begun b) c.before.answer.given.1
+    let b = c.before.before in
+    opened-refused _ c.begin-begun.result _ _ (begun b) c.in-Refused.is
 
-pub begin-spec : {M : Type 1} → statement M
-begin-spec =
+pub begin_spec : {M : Type 1} → statement M
+begin_spec =
     tie.close
     (tie.spec
     read-requires

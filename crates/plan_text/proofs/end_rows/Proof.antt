@@ -4,11 +4,11 @@ use Rattle.plan_text.proofs.Answers.{end-accepted, end-unfinished}
 use Rattle.plan_text.proofs.end_rows.Statement.{statement}
 use Rattle.plan_text.proofs.end_rows.Tie as tie
 
-returns : tie.Need-returns
-returns c = end-accepted c.before.args.rows c.if1.true
+returns : tie.Need-returns-then-rows
+returns c = end-accepted c.args.rows c.if-rows.true
 
-returns-2 : tie.Need-returns-2
-returns-2 c = end-unfinished c.before.before.args.rows c.before.if1.false
+returns-2 : tie.Need-returns
+returns-2 c = end-unfinished c.args.rows c.if-rows.false
 
-pub end-rows-spec : {M : Type 1} → statement M
-end-rows-spec = tie.close (tie.spec returns returns-2)
+pub end_rows_spec : {M : Type 1} → statement M
+end_rows_spec = tie.close (tie.spec returns returns-2)

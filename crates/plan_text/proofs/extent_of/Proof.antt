@@ -5,11 +5,11 @@ use borrow.Author.Tests.{eqb-true}
 use Rattle.plan_text.proofs.extent_of.Statement.{statement}
 use Rattle.plan_text.proofs.extent_of.Tie as tie
 
-extent-requires : tie.Need-extent-requires
+extent-requires : tie.Need-extent-found-requires
 extent-requires c κs = search rules
 
 returns : tie.Need-returns
-returns c = λ e. c.before.extent.ensures.ready (eqb-true _ _ e)
+returns c = λ e. c.extent-found.ensures.ready (eqb-true _ _ e)
 
-pub extent-of-spec : {M : Type 1} → statement M
-extent-of-spec = tie.close (tie.spec extent-requires returns)
+pub extent_of_spec : {M : Type 1} → statement M
+extent_of_spec = tie.close (tie.spec extent-requires returns)

@@ -8,42 +8,40 @@ use Rattle.plan_text.proofs.Feeding.{table-fed, table-over, table-waits}
 use Rattle.plan_text.proofs.feed_table.Statement.{statement}
 use Rattle.plan_text.proofs.feed_table.Tie as tie
 
-table-requires : tie.Need-table-requires
+table-requires : tie.Need-table-part-requires
 table-requires c κs = search rules
 
-slice-aggregate-begin : tie.Need-slice-aggregate-begin
-slice-aggregate-begin c = sym (length-take-le _ _ c.before.before.table.ensures.end)
+slice-aggregate-begin : tie.Need-slice_bounds-begin-end
+slice-aggregate-begin c = sym (length-take-le _ _ c.table-part.ensures.end)
 
-begin-requires : tie.Need-begin-requires
+begin-requires : tie.Need-begin-opened-requires
 begin-requires c κs = search rules
 
-is-more-requires : tie.Need-is-more-requires
+is-more-requires : tie.Need-is_more-requires
 is-more-requires c κs = search rules
 
-feed-plan-requires : tie.Need-feed-plan-requires
-feed-plan-requires c κs = c.before.before.before.before.before.before.table.ensures.next
+feed-plan-requires : tie.Need-feed_plan-requires
+feed-plan-requires c κs = c.table-part.ensures.next
 
-returns : tie.Need-returns
+returns : tie.Need-returns-then-is_more
 returns c =
-    let t = c.before.before.before.before.before.before.before in
-    table-fed t.before.before.args.check _ _ _ t.table.ensures _ c.before.before.before.before.before.before.if1.true c.before.before.before.before.begin.ensures _
-    (sym c.before.before.is-more.ensures ∙ c.before.if2.true) c.feed-plan.ensures
+    table-fed c.args.check _ _ _ c.table-part.ensures _ c.if-part.true c.begin-opened.ensures _
+    (sym c.is_more.ensures ∙ c.if-is_more.true) c.feed_plan.ensures
 
 over-requires : tie.Need-over-requires
 over-requires c κs = search rules
 
-returns-2 : tie.Need-returns-2
+returns-2 : tie.Need-returns-then-part
 returns-2 c =
-    let t = c.before.before.before.before.before.before.before in
     subst⁻¹ (FedBy _ _ _ _) c.over.ensures
-    (table-over t.before.before.args.check _ _ _ t.table.ensures _ c.before.before.before.before.before.before.if1.true c.before.before.before.before.begin.ensures
-    (sym c.before.before.is-more.ensures ∙ c.before.if2.false))
+    (table-over c.args.check _ _ _ c.table-part.ensures _ c.if-part.true c.begin-opened.ensures
+    (sym c.is_more.ensures ∙ c.if-is_more.false))
 
-returns-3 : tie.Need-returns-3
-returns-3 c = table-waits _ _ _ _ c.before.table.ensures c.if1.false c.before.before.before.requires
+returns-3 : tie.Need-returns
+returns-3 c = table-waits _ _ _ _ c.table-part.ensures c.if-part.false c.requires
 
-pub feed-table-spec : {M : Type 1} → statement M
-feed-table-spec =
+pub feed_table_spec : {M : Type 1} → statement M
+feed_table_spec =
     tie.close
     (tie.spec
     table-requires

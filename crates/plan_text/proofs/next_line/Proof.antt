@@ -6,14 +6,14 @@ use Rattle.plan_text.proofs.Answers.{next_more, next-most}
 use Rattle.plan_text.proofs.next_line.Statement.{statement}
 use Rattle.plan_text.proofs.next_line.Tie as tie
 
-add-result : tie.Need-overflow-add-result
+add-result : tie.Need-overflow_add-result
 add-result c = search rules
 
-returns : tie.Need-returns
-returns c = next_more c.before.args.lines c.if1.true
+returns : tie.Need-returns-then-lines-lt4294967295
+returns c = next_more c.args.lines c.if-lines-lt4294967295.true
 
-returns-2 : tie.Need-returns-2
-returns-2 c = next-most c.before.args.lines (omega (arith, c.if1.false))
+returns-2 : tie.Need-returns-else-lines-lt4294967295
+returns-2 c = next-most c.args.lines (omega (arith, c.if-lines-lt4294967295.false))
 
-pub next-line-spec : {M : Type 1} → statement M
-next-line-spec = tie.close (tie.spec add-result returns returns-2)
+pub next_line_spec : {M : Type 1} → statement M
+next_line_spec = tie.close (tie.spec add-result returns returns-2)

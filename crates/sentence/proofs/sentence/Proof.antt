@@ -7,64 +7,40 @@ use Rattle.sentence.proofs.Contract.{short-table, passed-sentence, refused-sente
 use Rattle.sentence.proofs.sentence.Statement.{statement}
 use Rattle.sentence.proofs.sentence.Tie as tie
 
--- the state after `load`
-abbrev load-from-by-table-arg : tie.After-by-table-arg → tie.After-load
-load-from-by-table-arg c = c.before.before.before
-
-abbrev load-from-known-told : tie.After-known-told → tie.After-load
-load-from-known-told c = c.before.before.before
-
--- the state after `enum_told`
-abbrev enum-told-from-buffer : tie.After-buffer → tie.After-enum-told
-enum-told-from-buffer c = c.before.before.before
-
--- the state at the call
-abbrev entry-from-arm2 : tie.At-match-keys2 → tie.Start
-entry-from-arm2 c = c.before.before.before.before
-
-abbrev entry-from-answer : tie.After-answer → tie.Start
-entry-from-answer c = entry-from-arm2 c.before
-
-abbrev entry-from-by-table-arg : tie.After-by-table-arg → tie.Start
-entry-from-by-table-arg c = (load-from-by-table-arg c).before.before.before
-
-abbrev entry-from-buffer : tie.After-buffer → tie.Start
-entry-from-buffer c = entry-from-by-table-arg c.before.before
-
-load-requires : tie.Need-load-requires
+load-requires : tie.Need-load-table-requires
 load-requires c κs = search rules
 
-enum_told : tie.Need-enum-told
+enum_told : tie.Need-enum_told-1
 enum_told c = search rules
 
-by-table-requires : tie.Need-by-table-requires
+by-table-requires : tie.Need-by_table-requires
 by-table-requires c κs =
-    let l = (load-from-by-table-arg c).load in
-    let ws = (entry-from-by-table-arg c).args.words.now in
-    let e = c.before.enum_told.given.1 in
+    let l = c.load-table in
+    let ws = c.args.words.now in
+    let e = c.in-Passed.is in
     (fit ws l.result l.ensures e, short-table ws l.result l.ensures e)
 
-enum-known-answer : tie.Need-enum-known-answer
+enum-known-answer : tie.Need-enum_known-answer
 enum-known-answer c = search rules
 
-same_length : tie.Need-same-length
+same_length : tie.Need-shape_of-buffer
 same_length c = search rules
 
-returns : tie.Need-returns
+returns : tie.Need-returns-in-Passed
 returns c =
-    let l = (enum-told-from-buffer c.before).before.before.load in
-    let x = (entry-from-buffer c.before).args in
-    let t = c.before.before.by-table in
-    passed-sentence x.words.now l.result l.ensures x.buffer.now _ t.result (enum-told-from-buffer c.before).enum_told.given.1 t.ensures
+    let l = c.load-table in
+    let x = c.args in
+    let t = c.by_table in
+    passed-sentence x.words.now l.result l.ensures x.buffer.now _ t.result c.in-Passed.is t.ensures
 
-returns-2 : tie.Need-returns-2
+returns-2 : tie.Need-returns-in-Refused
 returns-2 c =
-    let l = (load-from-known-told c).load in
-    let x = (entry-from-answer c.before).args in
-    refused-sentence x.words.now l.result l.ensures x.buffer.now x.buffer.now _ _ c.before.answer.given.1 refl
+    let l = c.load-table in
+    let x = c.args in
+    refused-sentence x.words.now l.result l.ensures x.buffer.now x.buffer.now _ _ c.in-Refused.is refl
 
-pub sentence-spec : {M : Type 1} → statement M
-sentence-spec =
+pub sentence_spec : {M : Type 1} → statement M
+sentence_spec =
     tie.close
     (tie.spec
     load-requires

@@ -11,66 +11,53 @@ use Rattle.session.proofs.Feeding.{operation-last, operation-next, operation-wai
 use Rattle.session.proofs.feed_operations.Statement.{statement}
 use Rattle.session.proofs.feed_operations.Tie as tie
 
--- the state after `operation_of`
-abbrev asked : tie.After-answer → tie.After-operation-of
-asked c = c.before.before
-
--- the state after `line`
-abbrev line : tie.After-answer → tie.After-line
-line c = (asked c).before.before.before
-
-line-requires : tie.Need-line-requires
+line-requires : tie.Need-line-part-requires
 line-requires c κs = search rules
 
-slice-aggregate-operation-of : tie.Need-slice-aggregate-operation-of
-slice-aggregate-operation-of c = sym (length-take-le _ _ c.before.before.line.ensures.end)
+slice-aggregate-operation-of : tie.Need-slice_bounds-operation_of-end
+slice-aggregate-operation-of c = sym (length-take-le _ _ c.line-part.ensures.end)
 
-operation-of-requires : tie.Need-operation-of-requires
+operation-of-requires : tie.Need-operation_of-requires
 operation-of-requires c κs = search rules
 
-answer-requires : tie.Need-answer-requires
+answer-requires : tie.Need-answer-reply-requires
 answer-requires c κs = search rules
 
-fed-with-requires : tie.Need-fed-with-requires
+fed-with-requires : tie.Need-fed_with-requires
 fed-with-requires c κs = search rules
 
-returns : tie.Need-returns
+returns : tie.Need-returns-then-reply
 returns c =
-    let w = c.before.before.before in
-    let l = line w in
-    let a = l.before.before.args in
-    let o = (asked w).operation-of.ensures in
-    subst⁻¹ (FedBy _ _ _ _ _) c.fed-with.ensures
-    (operation-last a.run a.ended a.bytes.now a.out.now _ _ l.line.ensures _ _ (asked w).before.before.if1.true
-    (sym (ap is_last o) ∙ sym w.answer.ensures.2 ∙ c.before.if2.true)
-    (text_of (ap (λ (x : Operation). reply x a.run) o) w.answer.ensures.0))
+    let a = c.args in
+    let o = c.operation_of.ensures in
+    subst⁻¹ (FedBy _ _ _ _ _) c.fed_with.ensures
+    (operation-last a.run a.ended a.bytes.now a.out.now _ _ c.line-part.ensures _ _ c.if-part.true
+    (sym (ap is_last o) ∙ sym c.answer-reply.ensures.2 ∙ c.if-reply.true)
+    (text_of (ap (λ (x : Operation). reply x a.run) o) c.answer-reply.ensures.0))
 
-fed-with-requires-2 : tie.Need-fed-with-requires-2
+fed-with-requires-2 : tie.Need-fed_with-requires-then-part
 fed-with-requires-2 c κs = search rules
 
-returns-2 : tie.Need-returns-2
+returns-2 : tie.Need-returns-then-part
 returns-2 c =
-    let w = c.before.before.before in
-    let l = line w in
-    let a = l.before.before.args in
-    let o = (asked w).operation-of.ensures in
-    subst⁻¹ (FedBy _ _ _ _ _) c.fed-with2.ensures
-    (operation-next a.run a.ended a.bytes.now a.out.now _ _ l.line.ensures _ _ (asked w).before.before.if1.true
-    (sym (ap is_last o) ∙ sym w.answer.ensures.2 ∙ c.before.if2.false)
-    (text_of (ap (λ (x : Operation). reply x a.run) o) w.answer.ensures.0)
-    (w.answer.ensures.1 ∙ ap (λ (x : Operation). run_after x a.run) o))
+    let a = c.args in
+    let o = c.operation_of.ensures in
+    subst⁻¹ (FedBy _ _ _ _ _) c.fed_with-then-part.ensures
+    (operation-next a.run a.ended a.bytes.now a.out.now _ _ c.line-part.ensures _ _ c.if-part.true
+    (sym (ap is_last o) ∙ sym c.answer-reply.ensures.2 ∙ c.if-reply.false)
+    (text_of (ap (λ (x : Operation). reply x a.run) o) c.answer-reply.ensures.0)
+    (c.answer-reply.ensures.1 ∙ ap (λ (x : Operation). run_after x a.run) o))
 
-fed-with-requires-3 : tie.Need-fed-with-requires-3
+fed-with-requires-3 : tie.Need-fed_with-requires-2
 fed-with-requires-3 c κs = search rules
 
-returns-3 : tie.Need-returns-3
+returns-3 : tie.Need-returns
 returns-3 c =
-    let l = c.before.before in
-    let a = l.before.before.args in
-    subst⁻¹ (FedBy _ _ _ _ _) c.fed-with3.ensures (operation-waits a.run a.ended a.bytes.now a.out.now a.out.now _ l.line.ensures c.before.if1.false)
+    let a = c.args in
+    subst⁻¹ (FedBy _ _ _ _ _) c.fed_with-2.ensures (operation-waits a.run a.ended a.bytes.now a.out.now a.out.now _ c.line-part.ensures c.if-part.false)
 
-pub feed-operations-spec : {M : Type 1} → statement M
-feed-operations-spec =
+pub feed_operations_spec : {M : Type 1} → statement M
+feed_operations_spec =
     tie.close
     (tie.spec
     line-requires

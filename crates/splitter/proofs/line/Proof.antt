@@ -6,19 +6,19 @@ use Rattle.splitter.proofs.Lines.{line-ended, line-left, end-within}
 use Rattle.splitter.proofs.line.Statement.{statement}
 use Rattle.splitter.proofs.line.Tie as tie
 
-end-from-requires : tie.Need-end-from-requires
+end-from-requires : tie.Need-end_from-end-requires
 end-from-requires c κs = search rules
 
-add-t7 : tie.Need-overflow-add-t7
+add-t7 : tie.Need-overflow_add-result
 add-t7 c = search rules
 
-returns : tie.Need-returns
-returns c = line-ended c.before.before.before.args.bytes.now _ _ _ c.before.end-from.ensures c.if1.true
+returns : tie.Need-returns-then-end-bytes
+returns c = line-ended c.args.bytes.now _ _ _ c.end_from-end.ensures c.if-end-bytes.true
 
-returns-2 : tie.Need-returns-2
+returns-2 : tie.Need-returns
 returns-2 c =
-    let a = c.before.before.before.args in
-    line-left a.bytes.now _ a.most a.ended c.before.end-from.ensures (omega (arith, c.if1.false, end-within a.bytes.now _ a.most a.ended c.before.end-from.ensures))
+    let a = c.args in
+    line-left a.bytes.now _ a.most a.ended c.end_from-end.ensures (omega (arith, c.if-end-bytes.false, end-within a.bytes.now _ a.most a.ended c.end_from-end.ensures))
 
-pub line-spec : {M : Type 1} → statement M
-line-spec = tie.close (tie.spec end-from-requires add-t7 returns returns-2)
+pub line_spec : {M : Type 1} → statement M
+line_spec = tie.close (tie.spec end-from-requires add-t7 returns returns-2)

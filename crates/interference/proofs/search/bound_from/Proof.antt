@@ -10,71 +10,71 @@ use Rattle.interference.proofs.Sums.{place-limits}
 use Rattle.interference.proofs.search.bound_from.Statement.{statement}
 use Rattle.interference.proofs.search.bound_from.Tie as tie
 
-abbrev invariant-loop : tie.invariant-loop
+abbrev invariant-loop : tie.invariant-loop-tries
 invariant-loop table ends place wanted low₀ high₀ tries₀ low high tries = Halving (loaded_table table) ends place tries low high
 
-abbrev decreases-loop : tie.decreases-loop
+abbrev decreases-loop : tie.decreases-loop-tries
 decreases-loop table ends place wanted low₀ high₀ tries₀ low high tries = most_halvings - tries
 
 -- the state at the call
-abbrev start-at : tie.At-loop invariant-loop decreases-loop → tie.Start invariant-loop decreases-loop
+abbrev start-at : tie.At-loop-tries invariant-loop decreases-loop → tie.Start invariant-loop decreases-loop
 start-at c = c.before.before.before.before
 
-mul-task : tie.Need-overflow-mul-task invariant-loop decreases-loop
+mul-task : tie.Need-offset_bounds-tasks-place invariant-loop decreases-loop
 mul-task c =
     search rules
 
-array-copy-out-task : tie.Need-array-copy-out-task invariant-loop decreases-loop
+array-copy-out-task : tie.Need-bounds-tasks-place invariant-loop decreases-loop
 array-copy-out-task c =
     search rules
 
-first-window-requires : tie.Need-first-window-requires invariant-loop decreases-loop
+first-window-requires : tie.Need-first_window-high-requires invariant-loop decreases-loop
 first-window-requires c κs =
-    c.before.before.requires
+    c.requires
 
-loop-holds : tie.Need-loop-init invariant-loop decreases-loop
+loop-holds : tie.Need-loop-tries-init invariant-loop decreases-loop
 loop-holds c =
     let s = c.before.before.before in
     let lim = place-limits s.args.table s.requires.fit s.args.place s.requires.inside in
-    subst (λ (x : ℕ). Halving (loaded_table s.args.table) s.args.ends s.args.place 0 x c.first-window.result) lim.0
-    (halving-start (loaded_table s.args.table) s.args.ends s.args.place c.first-window.result c.first-window.ensures)
+    subst (λ (x : ℕ). Halving (loaded_table s.args.table) s.args.ends s.args.place 0 x c.first_window-high.result) lim.0
+    (halving-start (loaded_table s.args.table) s.args.ends s.args.place c.first_window-high.result c.first_window-high.ensures)
 
-returns : tie.Need-returns invariant-loop decreases-loop
+returns : tie.Need-returns-then-high-low invariant-loop decreases-loop
 returns c =
-    let l = c.before.before.loop in
+    let l = c.loop-tries in
     let s = start-at c.before.before in
-    halving-met (loaded_table s.args.table) s.args.ends s.args.place l.tries l.low l.high l.invariant c.if1.true
+    halving-met (loaded_table s.args.table) s.args.ends s.args.place l.tries l.low l.high l.invariant c.if-high-low.true
 
-halve-requires : tie.Need-halve-requires invariant-loop decreases-loop
+halve-requires : tie.Need-halve-next-requires invariant-loop decreases-loop
 halve-requires c κs =
-    let l = c.before.before.loop in
+    let l = c.loop-tries in
     let s = start-at c.before.before in
-    (s.pre, l.invariant.long, omega (arith, c.if1.false), l.invariant.most)
+    (s.requires, l.invariant.long, omega (arith, c.if-high-low.false), l.invariant.most)
 
-add-tries : tie.Need-overflow-add-tries invariant-loop decreases-loop
+add-tries : tie.Need-overflow_add-tries invariant-loop decreases-loop
 add-tries c =
     omega arith
 
-loop-less : tie.Need-loop-smaller invariant-loop decreases-loop
+loop-less : tie.Need-loop-tries-smaller invariant-loop decreases-loop
 loop-less c =
     omega arith
 
-loop-again : tie.Need-loop-preserved invariant-loop decreases-loop
+loop-again : tie.Need-loop-tries-preserved invariant-loop decreases-loop
 loop-again c =
     let h = c.before.before.before in
     let s = start-at h in
-    let l = h.loop in
-    halving-next (loaded_table s.args.table) s.args.ends s.args.place l.tries l.low l.high _ _ l.invariant (omega arith) (omega (arith, c.before.if1.false))
-    c.halve.ensures.0 c.halve.ensures.1
+    let l = h.loop-tries in
+    halving-next (loaded_table s.args.table) s.args.ends s.args.place l.tries l.low l.high _ _ l.invariant (omega arith) (omega (arith, c.if-high-low.false))
+    c.halve-next.ensures.0 c.halve-next.ensures.1
 
-returns-2 : tie.Need-returns-2 invariant-loop decreases-loop
+returns-2 : tie.Need-returns invariant-loop decreases-loop
 returns-2 c =
-    let l = c.before.loop in
+    let l = c.loop-tries in
     let s = start-at c.before in
     halving-done (loaded_table s.args.table) s.args.ends s.args.place l.tries l.low l.high l.invariant (omega arith)
 
-pub bound-from-spec : {M : Type 1} → statement M
-bound-from-spec =
+pub bound_from_spec : {M : Type 1} → statement M
+bound_from_spec =
     tie.close
     (tie.spec
     invariant-loop

@@ -13,11 +13,11 @@ use Rattle.interference.proofs.Sums.{by-one-division, cores-one, cores-two, whol
 use Rattle.interference.proofs.workload.cores_in.Statement.{statement}
 use Rattle.interference.proofs.workload.cores_in.Tie as tie
 
-abbrev start : tie.After-smaller2 → tie.Start
+abbrev start : tie.After-smaller-all → tie.Start
 start c = c.before.before.before.before
 
 -- the state after the workload of all jobs, and before that of every second one
-abbrev joined : tie.After-smaller3 → tie.After-smaller2
+abbrev joined : tie.After-smaller-second → tie.After-smaller-all
 joined c = c.before.before.before
 
 -- whole jobs in the span take few ticks
@@ -36,112 +36,112 @@ both : {a b : ℕ} → a ≤ 4294967296000000 → b ≤ 4294967296000000 → a +
 both h g = omega arith
 
 -- the two widths
-smallest : (c : tie.After-smaller2) → c.before.before.before.smaller.result ≡ narrowest (task_of (start c).args.task)
-smallest c = c.before.before.before.smaller.ensures
+smallest : (c : tie.After-smaller-all) → c.smaller-narrow.result ≡ narrowest (task_of (start c).args.task)
+smallest c = c.smaller-narrow.ensures
 
-widest_of : (c : tie.After-smaller2) → c.before.before.larger.result ≡ widest (task_of (start c).args.task)
-widest_of c = c.before.before.larger.ensures
+widest_of : (c : tie.After-smaller-all) → c.larger-wide.result ≡ widest (task_of (start c).args.task)
+widest_of c = c.larger-wide.ensures
 
 -- the ticks of all jobs
 ticks :
-    (c : tie.After-smaller2)
-    → c.smaller2.result ≡ min (start c).args.waits (workload_in (task_of (start c).args.task) (start c).args.task.period (start c).args.end (start c).args.window)
-ticks c = c.smaller2.ensures ∙ ap (min (start c).args.waits) c.before.ticks-of.ensures
+    (c : tie.After-smaller-all)
+    → c.smaller-all.result ≡ min (start c).args.waits (workload_in (task_of (start c).args.task) (start c).args.task.period (start c).args.end (start c).args.window)
+ticks c = c.smaller-all.ensures ∙ ap (min (start c).args.waits) c.ticks_of.ensures
 
 -- the two products
-first : (c : tie.After-smaller2) → c.before.before.before.smaller.result * c.smaller2.result ≤ 4294967296000000
+first : (c : tie.After-smaller-all) → c.smaller-narrow.result * c.smaller-all.result ≤ 4294967296000000
 first c =
-    let n = c.smaller2.ensures in
+    let n = c.smaller-all.ensures in
     mul-le-mul {n₂ = 4294967296} {m₂ = 1000000} (omega arith) (omega (arith, (start c).requires.6))
 
 second :
-    (c : tie.After-smaller3) → ((joined c).before.before.larger.result - (joined c).before.before.before.smaller.result) * c.smaller3.result ≤ 4294967296000000
+    (c : tie.After-smaller-second) → ((joined c).larger-wide.result - (joined c).smaller-narrow.result) * c.smaller-second.result ≤ 4294967296000000
 second c =
-    let n = c.smaller3.ensures in
+    let n = c.smaller-second.ensures in
     mul-le-mul {n₂ = 4294967296} {m₂ = 1000000} (omega arith) (omega (arith, (start (joined c)).requires.6))
 
-smaller-requires : tie.Need-smaller-requires
+smaller-requires : tie.Need-smaller-narrow-requires
 smaller-requires c κs = search rules
 
-larger-requires : tie.Need-larger-requires
+larger-requires : tie.Need-larger-wide-requires
 larger-requires c κs = search rules
 
-add-span : tie.Need-overflow-add-span
+add-span : tie.Need-overflow_add-span
 add-span c = search rules
 
-sub-span : tie.Need-overflow-sub-span
+sub-span : tie.Need-overflow_sub-span
 sub-span c = search rules
 
-div-whole : tie.Need-nonzero-div-whole
+div-whole : tie.Need-nonzero_div-whole
 div-whole c = search rules
 
-rem-rest : tie.Need-nonzero-rem-rest
+rem-rest : tie.Need-nonzero_rem-rest
 rem-rest c = search rules
 
-ticks-of-requires : tie.Need-ticks-of-requires
+ticks-of-requires : tie.Need-ticks_of-requires
 ticks-of-requires c κs = let s = c.before.before in ((spans s).0, omega (arith, s.requires.1, s.requires.2))
 
-smaller-requires-2 : tie.Need-smaller-requires-2
+smaller-requires-2 : tie.Need-smaller-all-requires
 smaller-requires-2 c κs = search rules
 
-cast-sum : tie.Need-overflow-cast-sum
+cast-sum : tie.Need-overflow_cast-sum
 cast-sum c = search rules
 
-cast-sum-2 : tie.Need-overflow-cast-sum-2
+cast-sum-2 : tie.Need-overflow_cast-sum-2
 cast-sum-2 c = search rules
 
-mul-sum : tie.Need-overflow-mul-sum
+mul-sum : tie.Need-overflow_mul-sum
 mul-sum c = record { fits = lt_of_le_of_lt (first c) (lit< tt) }
 
-returns : tie.Need-returns
+returns : tie.Need-returns-then-wide-narrow
 returns c =
     let d = c.before in
     let s = start d in
-    (cores-one (task_of s.args.task) s.args.end s.args.window s.args.waits _ _ _ (smallest d) (widest_of d) c.if1.true (ticks d), omega (arith, first d))
+    (cores-one (task_of s.args.task) s.args.end s.args.window s.args.waits _ _ _ (smallest d) (widest_of d) c.if-wide-narrow.true (ticks d), omega (arith, first d))
 
-mul-ticks-of : tie.Need-overflow-mul-ticks-of
+mul-ticks-of : tie.Need-overflow_mul-whole
 mul-ticks-of c = record { fits = lt_of_le_of_lt (odd-few (start c.before)) (lit< tt) }
 
-add-ticks-of : tie.Need-overflow-add-ticks-of
+add-ticks-of : tie.Need-overflow_add-whole
 add-ticks-of c =
     let s = start c.before in
-    let rest = mod-lt (s.args.window + s.args.end - s.args.task.length) s.pre.0 in
+    let rest = mod-lt (s.args.window + s.args.end - s.args.task.length) s.requires.0 in
     let few : (s.args.window + s.args.end - s.args.task.length) / s.args.task.period % 2 * s.args.task.period + (s.args.window + s.args.end - s.args.task.length) % s.args.task.period ≤ 2000000 =
-    omega (arith, odd-few s, s.pre.1) in
+    omega (arith, odd-few s, s.requires.1) in
     record { fits = lt_of_le_of_lt few (lit< tt) }
 
-ticks-of-requires-2 : tie.Need-ticks-of-requires-2
-ticks-of-requires-2 c κs = let s = start c.before in ((spans s).1, omega (arith, s.pre.1, s.pre.2))
+ticks-of-requires-2 : tie.Need-ticks_of-requires-2
+ticks-of-requires-2 c κs = let s = start c.before in ((spans s).1, omega (arith, s.requires.1, s.requires.2))
 
-smaller-requires-3 : tie.Need-smaller-requires-3
+smaller-requires-3 : tie.Need-smaller-second-requires
 smaller-requires-3 c κs = search rules
 
-sub-result : tie.Need-overflow-sub-result
+sub-result : tie.Need-overflow_sub-result
 sub-result c = search rules
 
-cast-result : tie.Need-overflow-cast-result
+cast-result : tie.Need-overflow_cast-result
 cast-result c = search rules
 
-cast-result-2 : tie.Need-overflow-cast-result-2
+cast-result-2 : tie.Need-overflow_cast-result-2
 cast-result-2 c = search rules
 
-mul-result : tie.Need-overflow-mul-result
+mul-result : tie.Need-overflow_mul-result
 mul-result c = record { fits = lt_of_le_of_lt (second c) (lit< tt) }
 
-add-result : tie.Need-overflow-add-result
+add-result : tie.Need-overflow_add-result
 add-result c = record { fits = lt_of_le_of_lt (both (first (joined c)) (second c)) (lit< tt) }
 
-returns-2 : tie.Need-returns-2
+returns-2 : tie.Need-returns
 returns-2 c =
     let d = joined c in
     let s = start d in (
       cores-two (task_of s.args.task) s.args.end s.args.window s.args.waits _ _ _ _ (smallest d) (widest_of d) (ticks d)
-          (c.smaller3.ensures ∙ ap (min s.args.waits) (c.before.ticks-of2.ensures ∙ by-one-division (task_of s.args.task) s.args.end s.args.window s.pre.0)),
+          (c.smaller-second.ensures ∙ ap (min s.args.waits) (c.ticks_of-2.ensures ∙ by-one-division (task_of s.args.task) s.args.end s.args.window s.requires.0)),
       both (first d) (second c),
     )
 
-pub cores-in-spec : {M : Type 1} → statement M
-cores-in-spec =
+pub cores_in_spec : {M : Type 1} → statement M
+cores_in_spec =
     tie.close
     (tie.spec
     smaller-requires

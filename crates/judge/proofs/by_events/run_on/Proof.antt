@@ -6,9 +6,8 @@ use native.Mathlib.Omega.{arith}
 use mathlib.Core.Logic.{⊎_elim}
 use mathlib.Core.Path.{◌≡◌, refl, sym, ap, ◌∙◌, subst}
 use mathlib.Core.List.{List}
-use Prim.Native.Nat.{ℕ, suc, ◌+◌, ◌-◌, ◌≤◌, ◌<◌}
+use Prim.Native.Nat.{ℕ, suc, ◌+◌, ◌-◌, ◌<◌}
 use lib.ListN.{get_or}
-use Rattle.model.specs.Lists.{Missed}
 use Rattle.table.specs.declared.Loaded.{Loaded}
 use Rattle.table.specs.Fit.{loaded_table}
 use Rattle.simulation.specs.Machine.{machine_of}
@@ -47,10 +46,10 @@ jump-more n s end x y h l e = record {
       (eq-or-lt_of_le (le_of_suc-le-suc b));
 }
 
-abbrev invariant-loop : tie.invariant-loop
+abbrev invariant-loop : tie.invariant-loop-rest
 invariant-loop setting widths times places end registers rest₀ rest = RemainingDue (machine_of places registers.claiming) registers.due rest
 
-abbrev decreases-loop : tie.decreases-loop
+abbrev decreases-loop : tie.decreases-loop-rest
 decreases-loop setting widths times places end registers rest₀ rest = rest
 
 -- some jumps were taken, and of every table whose run begins so
@@ -64,18 +63,18 @@ abbrev decreases-jumps : tie.decreases-jumps
 decreases-jumps setting widths times places₀ end registers₀ places registers = end - registers.tick
 
 -- the state where the test `if1` fails
-abbrev else1-from-past-loop : tie.After-loop invariant-loop decreases-loop invariant-jumps decreases-jumps → tie.Else1 invariant-loop decreases-loop invariant-jumps decreases-jumps
+abbrev else1-from-past-loop : tie.After-loop-rest invariant-loop decreases-loop invariant-jumps decreases-jumps → tie.Else-end-registers invariant-loop decreases-loop invariant-jumps decreases-jumps
 else1-from-past-loop c = c.before.before.before
 
-abbrev else1-from-in-loop : tie.In-loop invariant-loop decreases-loop invariant-jumps decreases-jumps → tie.Else1 invariant-loop decreases-loop invariant-jumps decreases-jumps
+abbrev else1-from-in-loop : tie.In-loop-rest invariant-loop decreases-loop invariant-jumps decreases-jumps → tie.Else-end-registers invariant-loop decreases-loop invariant-jumps decreases-jumps
 else1-from-in-loop c = c.before.before.before
 
 -- the state in the loop
-abbrev in-loop : tie.Then2 invariant-loop decreases-loop invariant-jumps decreases-jumps → tie.In-loop invariant-loop decreases-loop invariant-jumps decreases-jumps
-in-loop c = c.before.before
+abbrev in-loop : tie.Then-places-place-gt0 invariant-loop decreases-loop invariant-jumps decreases-jumps → tie.In-loop-rest invariant-loop decreases-loop invariant-jumps decreases-jumps
+in-loop c = c.before.before.before
 
 -- the state at the head of the loop `jumps`
-abbrev at-jumps-from-loop : tie.At-loop invariant-loop decreases-loop invariant-jumps decreases-jumps → tie.At-jumps invariant-loop decreases-loop invariant-jumps decreases-jumps
+abbrev at-jumps-from-loop : tie.At-loop-rest invariant-loop decreases-loop invariant-jumps decreases-jumps → tie.At-jumps invariant-loop decreases-loop invariant-jumps decreases-jumps
 at-jumps-from-loop c = c.before.before.before.before
 
 -- THE PLACES. The table's numbers, and the run where it begins and at an event
@@ -93,82 +92,82 @@ abbrev Of : tie.Start invariant-loop decreases-loop invariant-jumps decreases-ju
 Of s t = JumpsBegin t (nums s) (first-state s) s.args.end
 
 -- in the walk: the lowest place that is left is one of 32
-inside : (c : tie.In-loop invariant-loop decreases-loop invariant-jumps decreases-jumps) → lowest c.before.loop.rest < 32
-inside c = (at-lowest _ _ c.before.loop.rest c.before.loop.invariant c.loop-test.true).below
+inside : (c : tie.In-loop-rest invariant-loop decreases-loop invariant-jumps decreases-jumps) → lowest c.loop-rest.rest < 32
+inside c = (at-lowest _ _ c.loop-rest.rest c.loop-rest.invariant c.loop-rest-test.true).below
 
-left_at : (c : tie.In-loop invariant-loop decreases-loop invariant-jumps decreases-jumps) (xs : List ℕ) → get_or (segment 0 xs) (lowest c.before.loop.rest) 0 ≡ get_or xs (lowest c.before.loop.rest) 0
-left_at c xs = front_at xs (lowest c.before.loop.rest) (inside c)
+left_at : (c : tie.In-loop-rest invariant-loop decreases-loop invariant-jumps decreases-jumps) (xs : List ℕ) → get_or (segment 0 xs) (lowest c.loop-rest.rest) 0 ≡ get_or xs (lowest c.loop-rest.rest) 0
+left_at c xs = front_at xs (lowest c.loop-rest.rest) (inside c)
 
 -- where the walk has ended no deadline of the tick is missed, so a jump may begin
-begins : (c : tie.After-loop invariant-loop decreases-loop invariant-jumps decreases-jumps) (t : Loaded) → Of (at-jumps-from-loop c.before).before t
+begins : (c : tie.After-loop-rest invariant-loop decreases-loop invariant-jumps decreases-jumps) (t : Loaded) → Of (at-jumps-from-loop c.before).before t
     → JumpStarts t (nums (at-jumps-from-loop c.before).before) (state-of (at-jumps-from-loop c.before))
 begins c t b =
     let k = at-jumps-from-loop c.before in
-    let h = k.jumps.inv.1 t b in
+    let h = k.jumps.invariant.1 t b in
     record {
       fit = b.fit;
       numbers = b.numbers;
       represents = h;
-      met = walk_ends t b.fit (state-of k) h c.before.loop.rest c.before.loop.invariant c.loop-test.false;
-      early = omega (arith, (else1-from-past-loop c).if1.false, b.early);
+      met = walk_ends t b.fit (state-of k) h c.loop-rest.rest c.loop-rest.invariant c.loop-rest-test.false;
+      early = omega (arith, (else1-from-past-loop c).if-end-registers.false, b.early);
     }
 
 -- THE ANSWERS
 jumps-holds : tie.Need-jumps-init invariant-loop decreases-loop invariant-jumps decreases-jumps
 jumps-holds c = (no_jump (nums c) (first-state c) c.args.end, λ t b. b.represents)
 
-loop-holds : tie.Need-loop-init invariant-loop decreases-loop invariant-jumps decreases-jumps
+loop-holds : tie.Need-loop-rest-init invariant-loop decreases-loop invariant-jumps decreases-jumps
 loop-holds c =
     let k = c.before.before.before in
     let s = k.before in
     walk_begins s.requires.0 s.requires.1.fit (state-of k) (k.jumps.invariant.1 s.requires.0 s.requires.1)
 
-cast-if2 : tie.Need-overflow-cast-if2 invariant-loop decreases-loop invariant-jumps decreases-jumps
+cast-if2 : tie.Need-overflow_cast-place invariant-loop decreases-loop invariant-jumps decreases-jumps
 cast-if2 c = omega (arith, inside c)
 
-mul-if2 : tie.Need-overflow-mul-if2 invariant-loop decreases-loop invariant-jumps decreases-jumps
+mul-if2 : tie.Need-offset_bounds-places-place invariant-loop decreases-loop invariant-jumps decreases-jumps
 mul-if2 c = omega (arith, inside c)
 
-element-copy-out-if2 : tie.Need-element-copy-out-if2 invariant-loop decreases-loop invariant-jumps decreases-jumps
-element-copy-out-if2 c = omega (arith, inside c)
+element-copy-out-if2 : tie.Need-bounds-places-place invariant-loop decreases-loop invariant-jumps decreases-jumps
+element-copy-out-if2 c = omega (arith, inside c.before)
 
-add-t19 : tie.Need-overflow-add-t19 invariant-loop decreases-loop invariant-jumps decreases-jumps
+add-t19 : tie.Need-overflow_add-result invariant-loop decreases-loop invariant-jumps decreases-jumps
 add-t19 c = omega (arith, inside (in-loop c))
 
-sub-rest : tie.Need-overflow-sub-rest invariant-loop decreases-loop invariant-jumps decreases-jumps
-sub-rest c = omega (arith, c.before.before.loop-test.true)
+sub-rest : tie.Need-overflow_sub-rest invariant-loop decreases-loop invariant-jumps decreases-jumps
+sub-rest c = omega (arith, c.loop-rest-test.true)
 
-loop-less : tie.Need-loop-smaller invariant-loop decreases-loop invariant-jumps decreases-jumps
-loop-less c = let n = c.before.before in (at-lowest _ _ n.before.loop.rest n.before.loop.invariant n.loop-test.true).falls
+loop-less : tie.Need-loop-rest-smaller invariant-loop decreases-loop invariant-jumps decreases-jumps
+loop-less c = let n = c.before.before in (at-lowest _ _ n.loop-rest.rest n.loop-rest.invariant n.loop-rest-test.true).falls
 
-loop-again : tie.Need-loop-preserved invariant-loop decreases-loop invariant-jumps decreases-jumps
+loop-again : tie.Need-loop-rest-preserved invariant-loop decreases-loop invariant-jumps decreases-jumps
 loop-again c =
-    let n = c.before.before in
+    let n = c.before.before.before in
     let k = at-jumps-from-loop n.before in
-    walk-passes _ _ n.before.loop.rest n.before.loop.invariant n.loop-test.true (omega (arith, left_at n k.jumps.places, c.if2.false))
+    walk-passes _ _ n.loop-rest.rest n.loop-rest.invariant n.loop-rest-test.true (omega (arith, left_at n k.jumps.places, c.if-places-place-gt0.false))
 
-jump-requires : tie.Need-jump-requires invariant-loop decreases-loop invariant-jumps decreases-jumps
+jump-requires : tie.Need-jump-registers-requires invariant-loop decreases-loop invariant-jumps decreases-jumps
 jump-requires c κs =
     let a = c.before in
     let s = (at-jumps-from-loop a.before).before in
-    (s.pre.0, begins a s.pre.0 s.pre.1)
+    (s.requires.0, begins a s.requires.0 s.requires.1)
 
 jumps-less : tie.Need-jumps-smaller invariant-loop decreases-loop invariant-jumps decreases-jumps
 jumps-less c =
     let a = c.before.before in
     let s = (at-jumps-from-loop a.before).before in
-    omega (arith, (else1-from-past-loop a).if1.false, (c.jump.ensures.lands _ (begins a s.pre.0 s.pre.1)).next.after)
+    omega (arith, (else1-from-past-loop a).if-end-registers.false, (c.jump-registers.ensures.lands _ (begins a s.requires.0 s.requires.1)).next.after)
 
 jumps-again : tie.Need-jumps-preserved invariant-loop decreases-loop invariant-jumps decreases-jumps
 jumps-again c =
     let a = c.before.before in
     let k = at-jumps-from-loop a.before in
     let s = k.before in (
-      jump-more (nums s) (first-state s) s.args.end (state-of k) _ k.jumps.inv.0 (else1-from-past-loop a).if1.false c.jump.ensures.value,
-      λ t b. (c.jump.ensures.lands t (begins a t b)).represents,
+      jump-more (nums s) (first-state s) s.args.end (state-of k) _ k.jumps.invariant.0 (else1-from-past-loop a).if-end-registers.false c.jump-registers.ensures.value,
+      λ t b. (c.jump-registers.ensures.lands t (begins a t b)).represents,
     )
 
-returns : tie.Need-returns invariant-loop decreases-loop invariant-jumps decreases-jumps
+returns : tie.Need-returns-then-end-registers invariant-loop decreases-loop invariant-jumps decreases-jumps
 returns c =
     let k = c.before.before in
     let h = k.jumps.invariant.0 in
@@ -176,29 +175,29 @@ returns c =
       count = h.count;
       run = h.run;
       before = h.before;
-      stops = c.if1.true;
-      missed = λ t b. by-none (loaded_table t) b.fit.valid _ (λ q u l. (k.jumps.invariant.1 t b).met q u (omega (arith, c.if1.true)));
+      stops = c.if-end-registers.true;
+      missed = λ t b. by-none (loaded_table t) b.fit.valid _ (λ q u l. (k.jumps.invariant.1 t b).met q u (omega (arith, c.if-end-registers.true)));
     }
 
-returns-2 : tie.Need-returns-2 invariant-loop decreases-loop invariant-jumps decreases-jumps
+returns-2 : tie.Need-returns-then-places-place-gt0 invariant-loop decreases-loop invariant-jumps decreases-jumps
 returns-2 c =
     let n = in-loop c in
     let e = else1-from-in-loop n in
     let k = e.before.before in
-    let h = k.jumps.inv.0 in
+    let h = k.jumps.invariant.0 in
     record {
       count = h.count;
       run = h.run;
       before = h.before;
       stops = refl;
       missed = λ t b.
-          by_first (loaded_table t) b.fit.valid _ k.jumps.registers.tick (lowest n.before.loop.rest + 1) e.if1.left
-          (walk-misses t b.fit (state-of k) (k.jumps.inv.1 t b) n.before.loop.rest n.before.loop.inv n.loop-test.taken
-          (omega (arith, left_at n k.jumps.places, c.if2.true)));
+          by_first (loaded_table t) b.fit.valid _ k.jumps.registers.tick (lowest n.loop-rest.rest + 1) e.if-end-registers.false
+          (walk-misses t b.fit (state-of k) (k.jumps.invariant.1 t b) n.loop-rest.rest n.loop-rest.invariant n.loop-rest-test.true
+          (omega (arith, left_at n k.jumps.places, c.if-places-place-gt0.true)));
     }
 
-pub run-on-spec : {M : Type 1} → statement M
-run-on-spec =
+pub run_on_spec : {M : Type 1} → statement M
+run_on_spec =
     tie.close
     (tie.spec
     invariant-loop

@@ -2,7 +2,7 @@
 use borrow.Author.Rules.{rules}
 use borrow.Author.Tests.{eq-eqb, ne_eqb}
 use mathlib.Core.Path.{◌≡◌}
-use Prim.Native.Nat.{ℕ, ◌/◌}
+use Prim.Native.Nat.{◌/◌}
 use native.Mathlib.Nat.{div-le_self}
 use native.Mathlib.Omega.{arith}
 use Rattle.table.specs.declared.Task.{Task}
@@ -18,14 +18,14 @@ some : (t : Task) → (t.period ≡ 0 → ⊥) → sample / t.period ≡ jobs_of
 unfolding jobs_of
 some t n = simp (ne_eqb t.period 0 n)
 
-returns : tie.Need-returns
-returns c = (none c.before.args.task c.if1.true, omega arith)
+returns : tie.Need-returns-then-period-eq0
+returns c = (none c.args.task c.if-period-eq0.true, omega arith)
 
-div-result : tie.Need-nonzero-div-result
+div-result : tie.Need-nonzero_div-result
 div-result c = search rules
 
-returns-2 : tie.Need-returns-2
-returns-2 c = let t = c.before.args.task in (some t c.if1.false, div-le_self sample t.period)
+returns-2 : tie.Need-returns
+returns-2 c = let t = c.args.task in (some t c.if-period-eq0.false, div-le_self sample t.period)
 
-pub jobs-of-spec : {M : Type 1} → statement M
-jobs-of-spec = tie.close (tie.spec returns div-result returns-2)
+pub jobs_of_spec : {M : Type 1} → statement M
+jobs_of_spec = tie.close (tie.spec returns div-result returns-2)

@@ -1,7 +1,7 @@
 -- `judge::cost::tick_cost` meets its contract: the product of two numbers of 32 digits at most. Assumes nothing.
 use borrow.Author.Rules.{rules}
-use mathlib.Core.Path.{◌≡◌, ap, ◌∙◌}
-use Prim.Native.Nat.{ℕ, ◌*◌, ◌≤◌, ◌<◌, ◌^◌}
+use mathlib.Core.Path.{◌≡◌, ap}
+use Prim.Native.Nat.{ℕ, ◌*◌, ◌≤◌}
 use native.Mathlib.Nat.{mul-le-mul, lt_of_le_of_lt}
 use native.Mathlib.Omega.{arith}
 use lib.Dec.{lit<}
@@ -17,23 +17,23 @@ product t n j = ap (λ (k : ℕ). k * t.length) j
 small : (n l : ℕ) → n ≤ 1000000 → l ≤ 4294967296 → n * l ≤ 4294967296000000
 small n l a b = mul-le-mul a b
 
-jobs-of-requires : tie.Need-jobs-of-requires
+jobs-of-requires : tie.Need-jobs_of-jobs-requires
 jobs-of-requires c κs = search rules
 
-cast-result : tie.Need-overflow-cast-result
+cast-result : tie.Need-overflow_cast-result
 cast-result c = search rules
 
-cast-result-2 : tie.Need-overflow-cast-result-2
+cast-result-2 : tie.Need-overflow_cast-result-2
 cast-result-2 c = search rules
 
-factors : (c : tie.After-struct-known) → c.before.jobs-of.result * c.before.before.args.task.length ≤ 4294967296000000
-factors c = small _ _ c.before.jobs-of.ensures.1 (omega arith)
+factors : (c : tie.After-struct_known-1) → c.jobs_of-jobs.result * c.args.task.length ≤ 4294967296000000
+factors c = small _ _ c.jobs_of-jobs.ensures.1 (omega arith)
 
-mul-result : tie.Need-overflow-mul-result
+mul-result : tie.Need-overflow_mul-result
 mul-result c = record { fits = lt_of_le_of_lt (factors c) (lit< tt) }
 
 returns : tie.Need-returns
-returns c = (product c.before.before.args.task _ c.before.jobs-of.ensures.0, factors c)
+returns c = (product c.args.task _ c.jobs_of-jobs.ensures.0, factors c)
 
-pub tick-cost-spec : {M : Type 1} → statement M
-tick-cost-spec = tie.close (tie.spec jobs-of-requires cast-result cast-result-2 mul-result returns)
+pub tick_cost_spec : {M : Type 1} → statement M
+tick_cost_spec = tie.close (tie.spec jobs-of-requires cast-result cast-result-2 mul-result returns)

@@ -27,69 +27,69 @@ summed-more :
 unfolding sum_to
 summed-more f most ts n i k s x = (omega (arith, s.0, x.1), rw (add-one i) (ap₂ (λ (a b : ℕ). a + b) s.1 x.0))
 
-abbrev invariant-loop : tie.invariant-loop
+abbrev invariant-loop : tie.invariant-loop-i
 invariant-loop tasks work₀ events₀ i₀ work events i = (i ≤ most_tasks) × Summed tick_cost 4294967296000000 tasks work i × Summed event_cost 36000000 tasks events i
 
-abbrev decreases-loop : tie.decreases-loop
+abbrev decreases-loop : tie.decreases-loop-i
 decreases-loop tasks work₀ events₀ i₀ work events i = most_tasks - i
 
 -- the state at the head of the loop
-abbrev loop : tie.After-tick-cost invariant-loop decreases-loop → tie.At-loop invariant-loop decreases-loop
+abbrev loop : tie.After-tick_cost-work invariant-loop decreases-loop → tie.At-loop-i invariant-loop decreases-loop
 loop c = c.before.before.before
 
-loop-holds : tie.Need-loop-init invariant-loop decreases-loop
+loop-holds : tie.Need-loop-i-init invariant-loop decreases-loop
 loop-holds c = (omega arith, summed-none tick_cost 4294967296000000 _, summed-none event_cost 36000000 _)
 
-mul-task : tie.Need-overflow-mul-task invariant-loop decreases-loop
+mul-task : tie.Need-offset_bounds-tasks-i invariant-loop decreases-loop
 mul-task c = omega arith
 
-array-copy-out-task : tie.Need-array-copy-out-task invariant-loop decreases-loop
+array-copy-out-task : tie.Need-bounds-tasks-i invariant-loop decreases-loop
 array-copy-out-task c = omega arith
 
-tick-cost-requires : tie.Need-tick-cost-requires invariant-loop decreases-loop
+tick-cost-requires : tie.Need-tick_cost-work-requires invariant-loop decreases-loop
 tick-cost-requires c κs = search rules
 
-add-work : tie.Need-overflow-add-work invariant-loop decreases-loop
-add-work c = let s = loop c in omega (arith, c.tick-cost.ensures.1, s.loop.inv.1.0)
+add-work : tie.Need-overflow_add-work invariant-loop decreases-loop
+add-work c = let s = loop c in omega (arith, c.tick_cost-work.ensures.1, s.loop-i.invariant.1.0)
 
-event-cost-requires : tie.Need-event-cost-requires invariant-loop decreases-loop
+event-cost-requires : tie.Need-event_cost-requires invariant-loop decreases-loop
 event-cost-requires c κs = search rules
 
-cast-events : tie.Need-overflow-cast-events invariant-loop decreases-loop
+cast-events : tie.Need-overflow_cast-events invariant-loop decreases-loop
 cast-events c = search rules
 
-add-events : tie.Need-overflow-add-events invariant-loop decreases-loop
-add-events c = let s = loop c.before in omega (arith, c.event-cost.ensures.1, s.loop.inv.2.0)
+add-events : tie.Need-overflow_add-events invariant-loop decreases-loop
+add-events c = let s = loop c.before in omega (arith, c.event_cost.ensures.1, s.loop-i.invariant.2.0)
 
-add-i : tie.Need-overflow-add-i invariant-loop decreases-loop
+add-i : tie.Need-overflow_add-i invariant-loop decreases-loop
 add-i c = omega arith
 
-loop-less : tie.Need-loop-smaller invariant-loop decreases-loop
+loop-less : tie.Need-loop-i-smaller invariant-loop decreases-loop
 loop-less c = omega arith
 
-loop-again : tie.Need-loop-preserved invariant-loop decreases-loop
+loop-again : tie.Need-loop-i-preserved invariant-loop decreases-loop
 loop-again c =
     let w = c.before in
     let s = loop w in (
       omega arith,
-      summed-more tick_cost 4294967296000000 _ s.loop.work s.loop.i _ s.loop.inv.1 w.tick-cost.ensures,
-      summed-more event_cost 36000000 _ s.loop.events s.loop.i _ s.loop.inv.2 c.event-cost.ensures,
+      summed-more tick_cost 4294967296000000 _ s.loop-i.work s.loop-i.i _ s.loop-i.invariant.1 w.tick_cost-work.ensures,
+      summed-more event_cost 36000000 _ s.loop-i.events s.loop-i.i _ s.loop-i.invariant.2 c.event_cost.ensures,
     )
 
-add-result : tie.Need-overflow-add-result invariant-loop decreases-loop
-add-result c = let s = c.before in omega (arith, s.loop.invariant.1.0, s.loop.invariant.0)
+add-result : tie.Need-overflow_add-result invariant-loop decreases-loop
+add-result c = let s = c.before in omega (arith, s.loop-i.invariant.1.0, s.loop-i.invariant.0)
 
 returns : tie.Need-returns invariant-loop decreases-loop
 returns c =
     let s = c.before in
-    let ts = s.before.before.args.table.tasks in
-    let e : s.loop.i ≡ most_tasks = omega arith in
+    let ts = s.args.table.tasks in
+    let e : s.loop-i.i ≡ most_tasks = omega arith in
     ap₂ (λ (w m : ℕ). leb (sample + w) m)
-    (s.loop.invariant.1.1 ∙ ap (λ (n : ℕ). sum_to tick_cost n ts) e)
-    (s.loop.invariant.2.1 ∙ ap (λ (n : ℕ). sum_to event_cost n ts) e)
+    (s.loop-i.invariant.1.1 ∙ ap (λ (n : ℕ). sum_to tick_cost n ts) e)
+    (s.loop-i.invariant.2.1 ∙ ap (λ (n : ℕ). sum_to event_cost n ts) e)
 
-pub ticks-cheaper-spec : {M : Type 1} → statement M
-ticks-cheaper-spec =
+pub ticks_cheaper_spec : {M : Type 1} → statement M
+ticks_cheaper_spec =
     tie.close
     (tie.spec
     invariant-loop

@@ -10,22 +10,22 @@ use Rattle.plan_check.proofs.Working.{counted-count, counted-tasks}
 use Rattle.plan_check.proofs.SuppliedPlan.after.Statement.{statement}
 use Rattle.plan_check.proofs.SuppliedPlan.after.Tie as tie
 
-worked-requires : tie.Need-worked-requires
+worked-requires : tie.Need-worked-next-requires
 worked-requires c κs = search rules
 
-add-state-at : tie.Need-overflow-add-state-at
+add-state-at : tie.Need-overflow_add-self
 add-state-at c = search rules
 
-state-at-requires : tie.Need-state-at-requires
+state-at-requires : tie.Need-state_at-requires
 state-at-requires c κs =
     let w = c.before in
     let s = w.before.before.before in
     let a = s.args in
-    let same = ap tasks_in w.worked.ensures ∙ counted-tasks a.self.run a.cells.now in
-    (simp (w.worked.ensures, counted-count) (few a.self.run s.requires.0), s.requires.1.0 ∙ sym (ap last_s same))
+    let same = ap tasks_in w.worked-next.ensures ∙ counted-tasks a.self.run a.cells.now in
+    (simp (w.worked-next.ensures, counted-count) (few a.self.run s.requires.0), s.requires.1.0 ∙ sym (ap last_s same))
 
 returns : tie.Need-returns
-returns c = simp (c.state-at.ensures, c.before.before.worked.ensures, add-one)
+returns c = simp (c.state_at.ensures, c.worked-next.ensures, add-one)
 
-pub after-spec : {M : Type 1} → statement M
-after-spec = tie.close (tie.spec worked-requires add-state-at state-at-requires returns)
+pub after_spec : {M : Type 1} → statement M
+after_spec = tie.close (tie.spec worked-requires add-state-at state-at-requires returns)

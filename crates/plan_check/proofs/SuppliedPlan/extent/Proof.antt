@@ -11,22 +11,22 @@ use Rattle.plan_check.proofs.SuppliedPlan.extent.Tie as tie
 out-requires : tie.Need-out-requires
 out-requires c κs = search rules
 
-no-extent-requires : tie.Need-no-extent-requires
+no-extent-requires : tie.Need-no_extent-requires
 no-extent-requires c κs = search rules
 
-returns : tie.Need-returns
+returns : tie.Need-returns-then-out
 returns c =
     let o = c.before.before in
-    let r = o.before.before.args.self.run in
-    let n = number-14 r (sym o.out.ensures ∙ c.before.if1.true) in
-    subst⁻¹ (ExtentOf r) c.no-extent.ensures
+    let r = o.args.self.run in
+    let n = number-14 r (sym o.out.ensures ∙ c.if-out.true) in
+    subst⁻¹ (ExtentOf r) c.no_extent.ensures
     record { value = extent-refused r 14 n (omega arith); number = sym n; ready = λ e. absurd (omega arith) }
 
-by-tasks-requires : tie.Need-by-tasks-requires
-by-tasks-requires c κs = sym c.before.out.ensures ∙ c.if1.false
+by-tasks-requires : tie.Need-by_tasks-requires
+by-tasks-requires c κs = sym c.out.ensures ∙ c.if-out.false
 
-returns-2 : tie.Need-returns-2
+returns-2 : tie.Need-returns
 returns-2 c = search rules
 
-pub extent-spec : {M : Type 1} → statement M
-extent-spec = tie.close (tie.spec out-requires no-extent-requires returns by-tasks-requires returns-2)
+pub extent_spec : {M : Type 1} → statement M
+extent_spec = tie.close (tie.spec out-requires no-extent-requires returns by-tasks-requires returns-2)

@@ -12,52 +12,52 @@ use Rattle.plan_check.specs.Numbers.{unreachable_phase}
 use Rattle.plan_check.proofs.bounds.any_unreachable.Statement.{statement}
 use Rattle.plan_check.proofs.bounds.any_unreachable.Tie as tie
 
-abbrev invariant-loop : tie.invariant-loop
+abbrev invariant-loop : tie.invariant-loop-i
 invariant-loop run count i₀ i = (i ≤ count) × ((k : ℕ) → k < i → unreachable_phase (phase_at run k) ≡ false)
 
-abbrev decreases-loop : tie.decreases-loop
+abbrev decreases-loop : tie.decreases-loop-i
 decreases-loop run count i₀ i = count - i
 
 -- the state at the head of the loop
-abbrev loop : tie.After-unreachable invariant-loop decreases-loop → tie.At-loop invariant-loop decreases-loop
+abbrev loop : tie.After-unreachable invariant-loop decreases-loop → tie.At-loop-i invariant-loop decreases-loop
 loop c = c.before.before.before
 
-loop-holds : tie.Need-loop-init invariant-loop decreases-loop
+loop-holds : tie.Need-loop-i-init invariant-loop decreases-loop
 loop-holds c = (search rules, λ (k : ℕ) h. absurd (omega arith))
 
-mul-task : tie.Need-overflow-mul-task invariant-loop decreases-loop
+mul-task : tie.Need-offset_bounds-run-i invariant-loop decreases-loop
 mul-task c = omega arith
 
-element-copy-out-task : tie.Need-element-copy-out-task invariant-loop decreases-loop
+element-copy-out-task : tie.Need-bounds-run-i invariant-loop decreases-loop
 element-copy-out-task c = omega arith
 
 unreachable-requires : tie.Need-unreachable-requires invariant-loop decreases-loop
 unreachable-requires c κs = search rules
 
-returns : tie.Need-returns invariant-loop decreases-loop
+returns : tie.Need-returns-then-unreachable invariant-loop decreases-loop
 returns c =
     let s = loop c.before in
-    let r = s.before.args.t1 in
-    sym (any_of r.count (λ p. unreachable_phase (phase_at r p)) s.loop.i (omega arith) (sym c.before.unreachable.ensures ∙ c.if1.true))
+    let r = s.args.run in
+    sym (any_of r.count (λ p. unreachable_phase (phase_at r p)) s.loop-i.i (omega arith) (sym c.unreachable.ensures ∙ c.if-unreachable.true))
 
-add-i : tie.Need-overflow-add-i invariant-loop decreases-loop
+add-i : tie.Need-overflow_add-i invariant-loop decreases-loop
 add-i c = omega arith
 
-loop-less : tie.Need-loop-smaller invariant-loop decreases-loop
+loop-less : tie.Need-loop-i-smaller invariant-loop decreases-loop
 loop-less c = omega arith
 
-loop-again : tie.Need-loop-preserved invariant-loop decreases-loop
-loop-again c = (omega arith, below_more _ _ (loop c.before).loop.inv.1 (sym c.before.unreachable.ensures ∙ c.if1.false))
+loop-again : tie.Need-loop-i-preserved invariant-loop decreases-loop
+loop-again c = (omega arith, below_more _ _ (loop c.before).loop-i.invariant.1 (sym c.unreachable.ensures ∙ c.if-unreachable.false))
 
-returns-2 : tie.Need-returns-2 invariant-loop decreases-loop
+returns-2 : tie.Need-returns invariant-loop decreases-loop
 returns-2 c =
     let s = c.before in
-    let r = s.before.args.t1 in
-    let e : s.loop.i ≡ r.count = omega arith in
-    sym (none_any r.count (λ p. unreachable_phase (phase_at r p)) (rw e at s.loop.invariant.1))
+    let r = s.args.run in
+    let e : s.loop-i.i ≡ r.count = omega arith in
+    sym (none_any r.count (λ p. unreachable_phase (phase_at r p)) (rw e at s.loop-i.invariant.1))
 
-pub any-unreachable-spec : {M : Type 1} → statement M
-any-unreachable-spec =
+pub any_unreachable_spec : {M : Type 1} → statement M
+any_unreachable_spec =
     tie.close
     (tie.spec
     invariant-loop

@@ -18,61 +18,61 @@ use Rattle.plan_check.proofs.extent.by_tasks.Tie as tie
 
 -- the test of the horizon
 far :
-    (c : tie.After-horizon-out)
-    → horizon_out (c.before.before.last-start.result + c.before.hyperperiod.result) ≡ horizon_out (horizon_in c.before.before.before.before.args.run)
+    (c : tie.After-horizon_out)
+    → horizon_out (c.last_start-start.result + c.hyperperiod-period.result) ≡ horizon_out (horizon_in c.args.run)
 far c =
     let s = c.before.before.before in
-    horizon-out s.before.args.run s.parameters.result _ _ s.parameters.ensures.1 c.before.before.last-start.ensures c.before.hyperperiod.ensures
+    horizon-out s.args.run s.parameters-tasks.result _ _ s.parameters-tasks.ensures.1 c.last_start-start.ensures c.hyperperiod-period.ensures
 
 -- the run passes 14
 passed : (s : tie.Start) → run_out s.args.run ≡ false
 passed s = passes-run s.args.run s.requires
 
-parameters-requires : tie.Need-parameters-requires
+parameters-requires : tie.Need-parameters-tasks-requires
 parameters-requires c κs = few c.args.run (passed c)
 
-last-start-requires : tie.Need-last-start-requires
+last-start-requires : tie.Need-last_start-start-requires
 last-start-requires c κs =
     let s = c.before in
     let r = s.args.run in
-    (some-tasks r (passed s), (few r (passed s), plain-within r (passed s) c.parameters.result c.parameters.ensures.1))
+    (some-tasks r (passed s), (few r (passed s), plain-within r (passed s) c.parameters-tasks.result c.parameters-tasks.ensures.1))
 
-hyperperiod-requires : tie.Need-hyperperiod-requires
+hyperperiod-requires : tie.Need-hyperperiod-period-requires
 hyperperiod-requires c κs =
     let s = c.before.before in
     let r = s.args.run in
-    (few r (passed s), plain-within r (passed s) c.before.parameters.result c.before.parameters.ensures.1)
+    (few r (passed s), plain-within r (passed s) c.parameters-tasks.result c.parameters-tasks.ensures.1)
 
-horizon-out-requires : tie.Need-horizon-out-requires
+horizon-out-requires : tie.Need-horizon_out-requires
 horizon-out-requires c κs = search rules
 
-no-extent-requires : tie.Need-no-extent-requires
+no-extent-requires : tie.Need-no_extent-requires
 no-extent-requires c κs = search rules
 
-returns : tie.Need-returns
+returns : tie.Need-returns-then-horizon_out
 returns c =
     let t = c.before.before in
-    let r = t.before.before.before.before.args.run in
-    let f = number-9 r t.before.before.before.before.requires (sym (far t) ∙ (sym t.horizon-out.ensures ∙ c.before.if1.true)) in
-    subst⁻¹ (ExtentOf r) c.no-extent.ensures record { value = extent-refused r 9 f (omega arith); number = sym f; ready = λ e. absurd (omega arith) }
+    let r = t.args.run in
+    let f = number-9 r t.requires (sym (far t) ∙ (sym t.horizon_out.ensures ∙ c.if-horizon_out.true)) in
+    subst⁻¹ (ExtentOf r) c.no_extent.ensures record { value = extent-refused r 9 f (omega arith); number = sym f; ready = λ e. absurd (omega arith) }
 
-add-t7 : tie.Need-overflow-add-t7
+add-t7 : tie.Need-overflow_add-result
 add-t7 c =
     let t = c.before in
-    omega (arith, ltb-false most_horizon (t.before.before.last-start.result + t.before.hyperperiod.result) (sym t.horizon-out.ensures ∙ c.if1.false))
+    omega (arith, ltb-false most_horizon (t.last_start-start.result + t.hyperperiod-period.result) (sym t.horizon_out.ensures ∙ c.if-horizon_out.false))
 
-returns-2 : tie.Need-returns-2
+returns-2 : tie.Need-returns
 returns-2 c =
     let t = c.before in
     let s = t.before.before.before in
-    let r = s.before.args.run in
-    let near = sym t.horizon-out.ensures ∙ c.if1.false in
-    let n = number-none r s.before.requires (sym (far t) ∙ near) in
-    let ready = horizon-near r s.parameters.result _ _ s.parameters.ensures.1 t.before.before.last-start.ensures t.before.hyperperiod.ensures near s.before.requires in
+    let r = s.args.run in
+    let near = sym t.horizon_out.ensures ∙ c.if-horizon_out.false in
+    let n = number-none r s.requires (sym (far t) ∙ near) in
+    let ready = horizon-near r s.parameters-tasks.result _ _ s.parameters-tasks.ensures.1 t.last_start-start.ensures t.hyperperiod-period.ensures near s.requires in
     record { value = extent-near r _ _ n ready; number = sym n; ready = λ _. ready }
 
-pub by-tasks-spec : {M : Type 1} → statement M
-by-tasks-spec =
+pub by_tasks_spec : {M : Type 1} → statement M
+by_tasks_spec =
     tie.close
     (tie.spec
     parameters-requires

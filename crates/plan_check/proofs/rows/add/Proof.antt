@@ -5,13 +5,13 @@ use borrow.Author.Rules.{rules}
 use Rattle.plan_check.proofs.rows.add.Statement.{statement}
 use Rattle.plan_check.proofs.rows.add.Tie as tie
 
-element-copy-out-cells : tie.Need-element-copy-out-cells
+element-copy-out-cells : tie.Need-bounds-cells-byte
 element-copy-out-cells c = search rules
 
-add-cells : tie.Need-overflow-add-cells
-add-cells c = omega (arith, c.before.requires c.before.args.byte c.before.ranges.byte.fits)
+add-cells : tie.Need-overflow_add-cells
+add-cells c = omega (arith, c.requires c.args.byte c.ranges.byte.fits)
 
-element-write-cells : tie.Need-element-write-cells
+element-write-cells : tie.Need-bounds-cells-byte-2
 element-write-cells c = search rules
 
 returns : tie.Need-returns

@@ -4,14 +4,14 @@ use borrow.Author.Rules.{rules}
 use Rattle.plan_check.proofs.rows.wrong.Statement.{statement}
 use Rattle.plan_check.proofs.rows.wrong.Tie as tie
 
-width-of-requires : tie.Need-width-of-requires
+width-of-requires : tie.Need-width_of-requires
 width-of-requires c κs = search rules
 
 works-requires : tie.Need-works-requires
 works-requires c κs = search rules
 
 returns : tie.Need-returns
-returns c = simp (c.before.width_of.ensures, c.works.ensures)
+returns c = simp (c.width_of.ensures, c.works.ensures)
 
-pub wrong-spec : {M : Type 1} → statement M
-wrong-spec = tie.close (tie.spec width-of-requires works-requires returns)
+pub wrong_spec : {M : Type 1} → statement M
+wrong_spec = tie.close (tie.spec width-of-requires works-requires returns)

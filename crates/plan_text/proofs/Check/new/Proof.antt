@@ -5,10 +5,10 @@ use Rattle.plan_text.proofs.Lines.{new-answer}
 use Rattle.plan_text.proofs.Check.new.Statement.{statement}
 use Rattle.plan_text.proofs.Check.new.Tie as tie
 
-slice-aggregate-begin : tie.Need-slice-aggregate-begin
+slice-aggregate-begin : tie.Need-slice_bounds-begin-end
 slice-aggregate-begin c = search rules
 
-begin-requires : tie.Need-begin-requires
+begin-requires : tie.Need-begin-opened-requires
 begin-requires c κs = search rules
 
 returns : tie.Need-returns

@@ -15,46 +15,43 @@ use Rattle.plan_text.proofs.line.read.Statement.{statement}
 use Rattle.plan_text.proofs.line.read.Tie as tie
 
 -- the first word
-first : (c : tie.After-end-from) → length_to space c.before.before.args.line.now ≡ c.end-from.result
-first c = omega (arith, c.end-from.ensures)
+first : (c : tie.After-end_from-end) → length_to space c.args.line.now ≡ c.end_from-end.result
+first c = omega (arith, c.end_from-end.ensures)
 
-end-from-requires : tie.Need-end-from-requires
+end-from-requires : tie.Need-end_from-end-requires
 end-from-requires c κs = search rules
 
-slice-aggregate-number : tie.Need-slice-aggregate-number
-slice-aggregate-number c = sym (length-take-le _ _ (omega (arith, c.before.end-from.ensures, mark-within space c.before.before.before.args.line.now)))
+slice-aggregate-number : tie.Need-slice_bounds-number-end
+slice-aggregate-number c = sym (length-take-le _ _ (omega (arith, c.end_from-end.ensures, mark-within space c.args.line.now)))
 
 number-requires : tie.Need-number-requires
 number-requires c κs = search rules
 
-enum_told : tie.Need-enum-told
+enum_told : tie.Need-enum_told-1
 enum_told c = search rules
 
-no-row-requires : tie.Need-no-row-requires
+no-row-requires : tie.Need-no_row-requires
 no-row-requires c κs = search rules
 
-enum-known-tick : tie.Need-enum-known-tick
+enum-known-tick : tie.Need-enum_known-tick
 enum-known-tick c = search rules
 
-cells-from-requires : tie.Need-cells-from-requires
-cells-from-requires c κs =
-    let e = c.before.before.before.before.before in
-    omega (arith, e.end-from.ensures, mark-within space e.before.before.args.line.now)
+cells-from-requires : tie.Need-cells_from-requires
+cells-from-requires c κs = omega (arith, c.end_from-end.ensures, mark-within space c.args.line.now)
 
-returns : tie.Need-returns
+returns : tie.Need-returns-in-Nothing
 returns c =
-    let e = c.before.before.before.before.before in
-    let line = e.before.before.args.line.now in
-    c.no_row.ensures ∙ ap read_line (sym (row-none line (ap (λ (k : ℕ). parse_number (take k line)) (first e) ∙ sym c.before.before.before.number.ensures ∙ c.before.enum_told.given.1)))
+    let e = c.before.before.before in
+    let line = e.args.line.now in
+    c.no_row.ensures ∙ ap read_line (sym (row-none line (ap (λ (k : ℕ). parse_number (take k line)) (first e) ∙ sym c.number.ensures ∙ c.in-Nothing.is)))
 
-returns-2 : tie.Need-returns-2
+returns-2 : tie.Need-returns-in-Value
 returns-2 c =
-    let e = c.before.before.before.before.before.before in
-    let line = e.before.before.args.line.now in
-    let n = c.before.before.tick.given in
-    c.cells-from.ensures
-    ∙ ap read_line (ap (λ (k : ℕ). cells_of n.0.0 (take most_cells (words_after (drop k line)))) (sym (first e))
-    ∙ sym (row-some line n.0.0 (ap (λ (k : ℕ). parse_number (take k line)) (first e) ∙ sym c.before.before.before.before.number.ensures ∙ n.1)))
+    let e = c.before.before.before in
+    let line = e.args.line.now in
+    c.cells_from.ensures
+    ∙ ap read_line (ap (λ (k : ℕ). cells_of c.in-Value.tick (take most_cells (words_after (drop k line)))) (sym (first e))
+    ∙ sym (row-some line c.in-Value.tick (ap (λ (k : ℕ). parse_number (take k line)) (first e) ∙ sym c.number.ensures ∙ c.in-Value.is)))
 
 pub read_spec : {M : Type 1} → statement M
 read_spec =

@@ -23,28 +23,28 @@ advance-requires c κs = search rules
 withdraw-requires : tie.Need-withdraw-requires
 withdraw-requires c κs = search rules
 
-withdraw-all-requires : tie.Need-withdraw-all-requires
+withdraw-all-requires : tie.Need-withdraw_all-requires
 withdraw-all-requires c κs = search rules
 
-returns : tie.Need-returns
+returns : tie.Need-returns-then-kind-eq0
 returns c =
-    let a = c.before.before.args in
+    let a = c.args in
     c.advance.ensures.value
-    ∙ ap (λ (t : Bool). by a.run a.first a.second t (eqb a.kind 1)) (sym (eq-eqb a.kind 0 c.before.if1.true))
+    ∙ ap (λ (t : Bool). by a.run a.first a.second t (eqb a.kind 1)) (sym (eq-eqb a.kind 0 c.if-kind-eq0.true))
 
-returns-2 : tie.Need-returns-2
+returns-2 : tie.Need-returns-then-kind-eq1
 returns-2 c =
     let e = c.before.before in
-    let a = e.before.args in
+    let a = e.args in
     c.withdraw.ensures.value
-    ∙ ap₂ (by a.run a.first a.second) (sym (ne_eqb a.kind 0 e.if1.false)) (sym (eq-eqb a.kind 1 c.before.if2.true))
+    ∙ ap₂ (by a.run a.first a.second) (sym (ne_eqb a.kind 0 e.if-kind-eq0.false)) (sym (eq-eqb a.kind 1 c.if-kind-eq1.true))
 
-returns-3 : tie.Need-returns-3
+returns-3 : tie.Need-returns
 returns-3 c =
     let e = c.before.before in
-    let a = e.before.args in
-    c.withdraw-all.ensures.value
-    ∙ ap₂ (by a.run a.first a.second) (sym (ne_eqb a.kind 0 e.if1.false)) (sym (ne_eqb a.kind 1 c.before.if2.false))
+    let a = e.args in
+    c.withdraw_all.ensures.value
+    ∙ ap₂ (by a.run a.first a.second) (sym (ne_eqb a.kind 0 e.if-kind-eq0.false)) (sym (ne_eqb a.kind 1 c.if-kind-eq1.false))
 
 pub enter_spec : {M : Type 1} → statement M
 enter_spec = tie.close (tie.spec advance-requires returns withdraw-requires returns-2 withdraw-all-requires returns-3)

@@ -25,131 +25,131 @@ use Rattle.refinement.proofs.replays.enter_all.Tie as tie
 abbrev first : List ℕ → ℕ → List Entry
 first es i = map (entry_at es) (up_from 0 i)
 
-abbrev invariant-loop : tie.invariant-loop
+abbrev invariant-loop : tie.invariant-loop-i
 invariant-loop entries numbers₀ last₀ count i₀ numbers last i =
     (i ≤ count) × ((count ≡ entry_count entries) × ((length numbers ≡ length numbers₀)
     × ((last ≡ run_after_list last₀ (first entries i)) × (numbers ≡ codes last₀ (first entries i) ++ drop i numbers₀))))
 
-abbrev decreases-loop : tie.decreases-loop
+abbrev decreases-loop : tie.decreases-loop-i
 decreases-loop entries numbers₀ last₀ count i₀ numbers last i = count - i
 
 -- the state at the call
-abbrev entry : tie.At-loop invariant-loop decreases-loop → tie.Start invariant-loop decreases-loop
+abbrev entry : tie.At-loop-i invariant-loop decreases-loop → tie.Start invariant-loop decreases-loop
 entry c = c.before.before.before
 
 -- the state in which the first word of an entry is read
-abbrev read : tie.After-enter invariant-loop decreases-loop → tie.After-shared-slice-known2 invariant-loop decreases-loop
+abbrev read : tie.After-enter-entered invariant-loop decreases-loop → tie.After-shared_slice_known-in-loop-i-1 invariant-loop decreases-loop
 read c = c.before.before.before
 
 -- the state at the head of the loop
-abbrev loop : tie.After-shared-slice-known2 invariant-loop decreases-loop → tie.At-loop invariant-loop decreases-loop
+abbrev loop : tie.After-shared_slice_known-in-loop-i-1 invariant-loop decreases-loop → tie.At-loop-i invariant-loop decreases-loop
 loop c = c.before.before
 
 -- the state after the entry
-abbrev entered : tie.After-next invariant-loop decreases-loop → tie.After-enter invariant-loop decreases-loop
+abbrev entered : tie.After-next-1 invariant-loop decreases-loop → tie.After-enter-entered invariant-loop decreases-loop
 entered c = c.before.before
 
-loop-holds : tie.Need-loop-init invariant-loop decreases-loop
+loop-holds : tie.Need-loop-i-init invariant-loop decreases-loop
 unfolding run_after_list answers up_from
 loop-holds c = search rules
 
-mul-enter : tie.Need-overflow-mul-enter invariant-loop decreases-loop
+mul-enter : tie.Need-overflow_mul-i invariant-loop decreases-loop
 mul-enter c = omega arith
 
-mul-enter-2 : tie.Need-overflow-mul-enter-2 invariant-loop decreases-loop
+mul-enter-2 : tie.Need-offset_bounds-entries-i invariant-loop decreases-loop
 mul-enter-2 c = search rules
 
-shared-slice-read-enter : tie.Need-shared-slice-read-enter invariant-loop decreases-loop
+shared-slice-read-enter : tie.Need-bounds-entries-i invariant-loop decreases-loop
 shared-slice-read-enter c = omega arith
 
-mul-enter-3 : tie.Need-overflow-mul-enter-3 invariant-loop decreases-loop
+mul-enter-3 : tie.Need-overflow_mul-i-in-loop-i invariant-loop decreases-loop
 mul-enter-3 c = omega arith
 
-add-enter : tie.Need-overflow-add-enter invariant-loop decreases-loop
+add-enter : tie.Need-overflow_add-i invariant-loop decreases-loop
 add-enter c = omega arith
 
-mul-enter-4 : tie.Need-overflow-mul-enter-4 invariant-loop decreases-loop
+mul-enter-4 : tie.Need-offset_bounds-entries-i-in-loop-i invariant-loop decreases-loop
 mul-enter-4 c = search rules
 
-shared-slice-read-enter-2 : tie.Need-shared-slice-read-enter-2 invariant-loop decreases-loop
+shared-slice-read-enter-2 : tie.Need-bounds-entries-i-in-loop-i invariant-loop decreases-loop
 shared-slice-read-enter-2 c = omega arith
 
-mul-enter-5 : tie.Need-overflow-mul-enter-5 invariant-loop decreases-loop
+mul-enter-5 : tie.Need-overflow_mul-i-in-loop-i-2 invariant-loop decreases-loop
 mul-enter-5 c = omega arith
 
-add-enter-2 : tie.Need-overflow-add-enter-2 invariant-loop decreases-loop
+add-enter-2 : tie.Need-overflow_add-i-in-loop-i invariant-loop decreases-loop
 add-enter-2 c = omega arith
 
-mul-enter-6 : tie.Need-overflow-mul-enter-6 invariant-loop decreases-loop
+mul-enter-6 : tie.Need-offset_bounds-entries-i-in-loop-i-2 invariant-loop decreases-loop
 mul-enter-6 c = search rules
 
-shared-slice-read-enter-3 : tie.Need-shared-slice-read-enter-3 invariant-loop decreases-loop
+shared-slice-read-enter-3 : tie.Need-bounds-entries-i-in-loop-i-2 invariant-loop decreases-loop
 shared-slice-read-enter-3 c = omega arith
 
-enter-requires : tie.Need-enter-requires invariant-loop decreases-loop
+enter-requires : tie.Need-enter-entered-requires invariant-loop decreases-loop
 enter-requires c κs = search rules
 
 code-requires : tie.Need-code-requires invariant-loop decreases-loop
 code-requires c κs =
     let s = loop (read c) in
-    rw c.enter.ensures (small-answer s.loop.last (entry_at (entry s).args.entries.now s.loop.i))
+    rw c.enter-entered.ensures (small-answer s.loop-i.last (entry_at (entry s).args.entries.now s.loop-i.i))
 
-mul-numbers : tie.Need-overflow-mul-numbers invariant-loop decreases-loop
+mul-numbers : tie.Need-offset_bounds-numbers-i invariant-loop decreases-loop
 mul-numbers c = search rules
 
-slice-write-numbers : tie.Need-slice-write-numbers invariant-loop decreases-loop
+slice-write-numbers : tie.Need-bounds-numbers-i invariant-loop decreases-loop
 slice-write-numbers c = omega arith
 
-add-i : tie.Need-overflow-add-i invariant-loop decreases-loop
+add-i : tie.Need-overflow_add-i-in-loop-i-2 invariant-loop decreases-loop
 add-i c = omega arith
 
-loop-less : tie.Need-loop-smaller invariant-loop decreases-loop
+loop-less : tie.Need-loop-i-smaller invariant-loop decreases-loop
 loop-less c = omega arith
 
-loop-again : tie.Need-loop-preserved invariant-loop decreases-loop
+loop-again : tie.Need-loop-i-preserved invariant-loop decreases-loop
 loop-again c =
     let d = entered c in
     let s = loop (read d) in
     let a = (entry s).args in
-    let i = s.loop.i in
+    let i = s.loop-i.i in
     let xs = first a.entries.now i in
     let x = entry_at a.entries.now i in
-    let v : d.enter.result ≡ entry_of (run_after_list a.run xs) x = d.enter.ensures ∙ ap (λ (r : Run). entry_of r x) s.loop.inv.1.1.1.0 in
+    let v : d.enter-entered.result ≡ entry_of (run_after_list a.run xs) x = d.enter-entered.ensures ∙ ap (λ (r : Run). entry_of r x) s.loop-i.invariant.1.1.1.0 in
     let t : first a.entries.now (i + 1) ≡ xs ++ (x ∷ []) = entries-more a.entries.now i in
     let n : length (codes a.run xs) ≡ i = length-codes a.run xs ∙ length-entries a.entries.now i in
-    let w : c.before.code.result ≡ code (answer_meaning (entry_of (run_after_list a.run xs) x).answer) =
-    c.before.code.ensures ∙ ap (λ (b : Advanced). code (answer_meaning b.answer)) v in
-    let more = written-more (codes a.run xs) a.numbers.now i c.before.code.result 0 n (omega arith) in
-    let all : codes a.run (first a.entries.now (i + 1)) ≡ codes a.run xs ++ (c.before.code.result ∷ []) =
+    let w : c.code.result ≡ code (answer_meaning (entry_of (run_after_list a.run xs) x).answer) =
+    c.code.ensures ∙ ap (λ (b : Advanced). code (answer_meaning b.answer)) v in
+    let more = written-more (codes a.run xs) a.numbers.now i c.code.result 0 n (omega arith) in
+    let all : codes a.run (first a.entries.now (i + 1)) ≡ codes a.run xs ++ (c.code.result ∷ []) =
     ap (codes a.run) t ∙ (codes-more a.run xs x ∙ ap (λ (k : ℕ). codes a.run xs ++ (k ∷ [])) (sym w)) in (
       omega arith,
       (
-        s.loop.inv.1.0,
+        s.loop-i.invariant.1.0,
         (
-          simp length-set s.loop.inv.1.1.0,
+          simp length-set s.loop-i.invariant.1.1.0,
           (
             ap (λ (b : Advanced). b.run) v ∙ (sym (after_more a.run xs x) ∙ ap (run_after_list a.run) (sym t)),
-            simp s.loop.inv.1.1.1.1 (more ∙ ap (λ (l : List ℕ). l ++ drop (i + 1) a.numbers.now) (sym all)),
+            simp s.loop-i.invariant.1.1.1.1 (more ∙ ap (λ (l : List ℕ). l ++ drop (i + 1) a.numbers.now) (sym all)),
           ),
         ),
       ),
     )
 
-same_length : tie.Need-same-length invariant-loop decreases-loop
-same_length c = c.before.loop.invariant.1.1.0
+same_length : tie.Need-shape_of-numbers invariant-loop decreases-loop
+same_length c = c.loop-i.invariant.1.1.0
 
 returns : tie.Need-returns invariant-loop decreases-loop
 returns c =
     let s = c.before in
     let a = (entry s).args in
     let es = a.entries.now in
-    let e : s.loop.i ≡ entry_count es = omega arith in (
-      s.loop.invariant.1.1.1.0 ∙ ap (λ (k : ℕ). run_after_list a.run (first es k)) e,
-      s.loop.invariant.1.1.1.1 ∙ ap (λ (k : ℕ). codes a.run (first es k) ++ drop k a.numbers.now) e,
+    let e : s.loop-i.i ≡ entry_count es = omega arith in (
+      s.loop-i.invariant.1.1.1.0 ∙ ap (λ (k : ℕ). run_after_list a.run (first es k)) e,
+      s.loop-i.invariant.1.1.1.1 ∙ ap (λ (k : ℕ). codes a.run (first es k) ++ drop k a.numbers.now) e,
     )
 
-pub enter-all-spec : {M : Type 1} → statement M
-enter-all-spec =
+pub enter_all_spec : {M : Type 1} → statement M
+enter_all_spec =
     tie.close
     (tie.spec
     invariant-loop

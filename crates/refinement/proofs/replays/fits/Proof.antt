@@ -10,5 +10,5 @@ listed-requires c κs = search rules
 returns : tie.Need-returns
 returns c = simp c.listed.ensures
 
-pub fits-spec : {M : Type 1} → statement M
-fits-spec = tie.close (tie.spec listed-requires returns)
+pub fits_spec : {M : Type 1} → statement M
+fits_spec = tie.close (tie.spec listed-requires returns)

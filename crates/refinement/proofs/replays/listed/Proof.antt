@@ -11,78 +11,78 @@ use Rattle.refinement.proofs.Listed.{is-entry-decides, listed-decides, not-liste
 use Rattle.refinement.proofs.replays.listed.Statement.{statement}
 use Rattle.refinement.proofs.replays.listed.Tie as tie
 
-abbrev invariant-loop : tie.invariant-loop
+abbrev invariant-loop : tie.invariant-loop-i
 invariant-loop entries count i₀ i = (i ≤ count) × ((count ≡ entry_count entries) × ((k : ℕ) → k < i → is_entry (entry_kind_at entries k) (entry_second_at entries k) ≡ true))
 
-abbrev decreases-loop : tie.decreases-loop
+abbrev decreases-loop : tie.decreases-loop-i
 decreases-loop entries count i₀ i = count - i
 
 -- the state at the head of the loop
-abbrev loop : tie.After-is-entry invariant-loop decreases-loop → tie.At-loop invariant-loop decreases-loop
+abbrev loop : tie.After-is_entry-good invariant-loop decreases-loop → tie.At-loop-i invariant-loop decreases-loop
 loop c = c.before.before.before.before
 
 -- the state at the call
-abbrev entry : tie.At-loop invariant-loop decreases-loop → tie.Start invariant-loop decreases-loop
+abbrev entry : tie.At-loop-i invariant-loop decreases-loop → tie.Start invariant-loop decreases-loop
 entry c = c.before.before.before
 
-loop-holds : tie.Need-loop-init invariant-loop decreases-loop
+loop-holds : tie.Need-loop-i-init invariant-loop decreases-loop
 loop-holds c = (search rules, (search rules, λ (k : ℕ) h. absurd (omega arith)))
 
-mul-is-entry : tie.Need-overflow-mul-is-entry invariant-loop decreases-loop
+mul-is-entry : tie.Need-overflow_mul-i invariant-loop decreases-loop
 mul-is-entry c = omega arith
 
-mul-is-entry-2 : tie.Need-overflow-mul-is-entry-2 invariant-loop decreases-loop
+mul-is-entry-2 : tie.Need-offset_bounds-entries-i invariant-loop decreases-loop
 mul-is-entry-2 c = search rules
 
-shared-slice-read-is-entry : tie.Need-shared-slice-read-is-entry invariant-loop decreases-loop
+shared-slice-read-is-entry : tie.Need-bounds-entries-i invariant-loop decreases-loop
 shared-slice-read-is-entry c = omega arith
 
-mul-is-entry-3 : tie.Need-overflow-mul-is-entry-3 invariant-loop decreases-loop
+mul-is-entry-3 : tie.Need-overflow_mul-i-in-loop-i invariant-loop decreases-loop
 mul-is-entry-3 c = omega arith
 
-add-is-entry : tie.Need-overflow-add-is-entry invariant-loop decreases-loop
+add-is-entry : tie.Need-overflow_add-i invariant-loop decreases-loop
 add-is-entry c = omega arith
 
-mul-is-entry-4 : tie.Need-overflow-mul-is-entry-4 invariant-loop decreases-loop
+mul-is-entry-4 : tie.Need-offset_bounds-entries-i-in-loop-i invariant-loop decreases-loop
 mul-is-entry-4 c = search rules
 
-shared-slice-read-is-entry-2 : tie.Need-shared-slice-read-is-entry-2 invariant-loop decreases-loop
+shared-slice-read-is-entry-2 : tie.Need-bounds-entries-i-in-loop-i invariant-loop decreases-loop
 shared-slice-read-is-entry-2 c = omega arith
 
-is-entry-requires : tie.Need-is-entry-requires invariant-loop decreases-loop
+is-entry-requires : tie.Need-is_entry-good-requires invariant-loop decreases-loop
 is-entry-requires c κs = search rules
 
-add-i : tie.Need-overflow-add-i invariant-loop decreases-loop
+add-i : tie.Need-overflow_add-i-then-good invariant-loop decreases-loop
 add-i c = omega arith
 
-loop-less : tie.Need-loop-smaller invariant-loop decreases-loop
+loop-less : tie.Need-loop-i-smaller invariant-loop decreases-loop
 loop-less c = omega arith
 
-loop-again : tie.Need-loop-preserved invariant-loop decreases-loop
+loop-again : tie.Need-loop-i-preserved invariant-loop decreases-loop
 loop-again c =
     let l = c.before in
     let s = loop l in
-    (omega arith, (s.loop.inv.1.0, below_more _ _ s.loop.inv.1.1 (sym l.is-entry.ensures ∙ c.if2.true)))
+    (omega arith, (s.loop-i.invariant.1.0, below_more _ _ s.loop-i.invariant.1.1 (sym l.is_entry-good.ensures ∙ c.if-good.true)))
 
-returns : tie.Need-returns invariant-loop decreases-loop
+returns : tie.Need-returns-else-good invariant-loop decreases-loop
 returns c =
     let l = c.before in
     let s = loop l in
-    sym (not-listed-at (entry s).args.entries.now s.loop.i (omega arith) (sym l.is-entry.ensures ∙ c.if2.false))
+    sym (not-listed-at (entry s).args.entries.now s.loop-i.i (omega arith) (sym l.is_entry-good.ensures ∙ c.if-good.false))
 
-returns-2 : tie.Need-returns-2 invariant-loop decreases-loop
+returns-2 : tie.Need-returns-then-entries-eq0 invariant-loop decreases-loop
 returns-2 c =
     let s = c.before in
     let es = (entry s).args.entries.now in
-    let e : s.loop.i ≡ entry_count es = omega arith in
-    let all : (k : ℕ) → k < entry_count es → is_entry (entry_kind_at es k) (entry_second_at es k) ≡ true = rw e at s.loop.invariant.1.1 in
-    sym ((listed-decides es).1 (s.before.if1.true, λ k l. (is-entry-decides (entry_kind_at es k) (entry_second_at es k)).0 (all k l)))
+    let e : s.loop-i.i ≡ entry_count es = omega arith in
+    let all : (k : ℕ) → k < entry_count es → is_entry (entry_kind_at es k) (entry_second_at es k) ≡ true = rw e at s.loop-i.invariant.1.1 in
+    sym ((listed-decides es).1 (s.if-entries-eq0.true, λ k l. (is-entry-decides (entry_kind_at es k) (entry_second_at es k)).0 (all k l)))
 
-returns-3 : tie.Need-returns-3 invariant-loop decreases-loop
-returns-3 c = sym (not-listed-over c.before.before.args.entries.now c.if1.false)
+returns-3 : tie.Need-returns invariant-loop decreases-loop
+returns-3 c = sym (not-listed-over c.args.entries.now c.if-entries-eq0.false)
 
-pub listed-spec : {M : Type 1} → statement M
-listed-spec =
+pub listed_spec : {M : Type 1} → statement M
+listed_spec =
     tie.close
     (tie.spec
     invariant-loop

@@ -18,23 +18,23 @@ use Rattle.refinement.proofs.replays.replay_run.Statement.{statement}
 use Rattle.refinement.proofs.replays.replay_run.Tie as tie
 
 -- the state at the call
-abbrev entry : tie.After-slice-known2 → tie.Start
+abbrev entry : tie.After-slice_known-2-1 → tie.Start
 entry c = c.before.before.before
 
 -- the state after `put`
-abbrev put : tie.After-row-case → tie.After-put
+abbrev put : tie.After-row_case → tie.After-put
 put c = c.before.before.before
 
 -- the state after `row`
-abbrev row-of : tie.After-put-arg → tie.After-row
+abbrev row-of : tie.After-put-arg-1 → tie.After-row-shown
 row-of c = c.before.before
 
 -- the state after `enter_all`
-abbrev gone : tie.After-row → tie.After-enter-all
+abbrev gone : tie.After-row-shown → tie.After-enter_all-last
 gone c = c.before.before.before
 
 -- the state in which the slices fit
-abbrev fit : tie.After-enter-all → tie.Then1
+abbrev fit : tie.After-enter_all-last → tie.Then-fits
 fit c = c.before.before
 
 -- an outcome, part by part
@@ -42,54 +42,54 @@ outcome : {x y : Replayed} {k l m n : List ℕ} → x ≡ y → k ≡ l → m �
     → ◌≡◌ {A = ReplayOutcome} (record { answer = x; numbers = k; bytes = m }) (record { answer = y; numbers = l; bytes = n })
 outcome p q s = λ i. record { answer = p i; numbers = q i; bytes = s i }
 
-fitting : (c : tie.Then1) → (let a = (entry c.before.before).args in SlicesFit a.entries.now a.numbers.now a.bytes.now)
+fitting : (c : tie.Then-fits) → (let a = (entry c.before.before).args in SlicesFit a.entries.now a.numbers.now a.bytes.now)
 fitting c =
     let a = (entry c.before.before).args in
-    (fits-decides a.entries.now a.numbers.now a.bytes.now).0 (sym c.before.fits2.ensures ∙ c.if1.true)
+    (fits-decides a.entries.now a.numbers.now a.bytes.now).0 (sym c.fits.ensures ∙ c.if-fits.true)
 
 fits-requires : tie.Need-fits-requires
 fits-requires c κs = search rules
 
-enter-all-requires : tie.Need-enter-all-requires
+enter-all-requires : tie.Need-enter_all-last-requires
 enter-all-requires c κs = (fitting c.before).1
 
-row-requires : tie.Need-row-requires
+row-requires : tie.Need-row-shown-requires
 row-requires c κs = search rules
 
 put-requires : tie.Need-put-requires
 put-requires c κs = (fitting (fit (gone (row-of c)))).2
 
-row-case-requires : tie.Need-row-case-requires
+row-case-requires : tie.Need-row_case-requires
 row-case-requires c κs = search rules
 
-same_length : tie.Need-same-length
+same_length : tie.Need-shape_of-numbers-then-fits
 same_length c = search rules
 
-same-length-2 : tie.Need-same-length-2
+same-length-2 : tie.Need-shape_of-bytes-then-fits
 same-length-2 c = search rules
 
-returns : tie.Need-returns
+returns : tie.Need-returns-then-fits
 returns c =
     let u = put c in
     let w = row-of u.before in
     let v = gone w in
     let f = fit v in
     let a = (entry f.before.before).args in
-    let row : w.row.result ≡ row_of (run_after_list a.run (entries_in a.entries.now)) 0 =
-    w.row.ensures.value ∙ ap (λ (r : Run). row_of r 0) v.enter-all.ensures.0 in
+    let row : w.row-shown.result ≡ row_of (run_after_list a.run (entries_in a.entries.now)) 0 =
+    w.row-shown.ensures.value ∙ ap (λ (r : Run). row_of r 0) v.enter_all-last.ensures.0 in
     outcome
-    (c.row-case.ensures ∙ ap (λ (q : Row). row_case q.answer) row)
-    v.enter-all.ensures.1
+    (c.row_case.ensures ∙ ap (λ (q : Row). row_case q.answer) row)
+    v.enter_all-last.ensures.1
     (u.put.ensures ∙ ap (λ (q : Row). q.bytes ++ drop most_cores a.bytes.now) row)
-    ∙ sym (replayed-fit a.run a.entries.now a.numbers.now a.bytes.now (sym f.before.fits2.ensures ∙ f.if1.taken))
+    ∙ sym (replayed-fit a.run a.entries.now a.numbers.now a.bytes.now (sym f.fits.ensures ∙ f.if-fits.true))
 
-returns-2 : tie.Need-returns-2
+returns-2 : tie.Need-returns
 returns-2 c =
     let a = (entry c.before.before).args in
-    sym (replayed-unfit a.run a.entries.now a.numbers.now a.bytes.now (sym c.before.fits2.ensures ∙ c.if1.false))
+    sym (replayed-unfit a.run a.entries.now a.numbers.now a.bytes.now (sym c.fits.ensures ∙ c.if-fits.false))
 
-pub replay-run-spec : {M : Type 1} → statement M
-replay-run-spec =
+pub replay_run_spec : {M : Type 1} → statement M
+replay_run_spec =
     tie.close
     (tie.spec
     fits-requires

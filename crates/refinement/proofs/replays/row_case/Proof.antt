@@ -4,17 +4,17 @@ use borrow.Author.Rules.{rules}
 use Rattle.refinement.proofs.replays.row_case.Statement.{statement}
 use Rattle.refinement.proofs.replays.row_case.Tie as tie
 
-enum_told : tie.Need-enum-told
+enum_told : tie.Need-enum_told-1
 enum_told c = search rules
 
-enum-known-answer : tie.Need-enum-known-answer
+enum-known-answer : tie.Need-enum_known-answer
 enum-known-answer c = search rules
 
-returns : tie.Need-returns
+returns : tie.Need-returns-in-Taken
 returns c = search rules
 
-returns-2 : tie.Need-returns-2
-returns-2 c = simp c.before.answer.given.1
+returns-2 : tie.Need-returns-in-Refused
+returns-2 c = simp c.in-Refused.is
 
-pub row-case-spec : {M : Type 1} → statement M
-row-case-spec = tie.close (tie.spec enum_told enum-known-answer returns returns-2)
+pub row_case_spec : {M : Type 1} → statement M
+row_case_spec = tie.close (tie.spec enum_told enum-known-answer returns returns-2)

@@ -3,7 +3,7 @@
 use mathlib.Core.Path.{◌≡◌, sym, ap, subst, ◌∙◌}
 use mathlib.Core.List.{List, ◌++◌, map}
 use Prim.Native.Nat.{ℕ, ◌-◌}
-use lib.ListN.{length, replicate, take, length-map}
+use lib.ListN.{length, replicate, take}
 use borrow.Author.Rules.{rules}
 use Rattle.model.specs.Row.{row}
 use Rattle.model.specs.Sizes.{most_cores, most_tasks}
@@ -22,73 +22,73 @@ use Rattle.run.proofs.Run.row.Statement.{statement}
 use Rattle.run.proofs.Run.row.Tie as tie
 
 -- the state after the tick is read, where its answer is taken
-abbrev looked : tie.After-enum-told → tie.After-tick
-looked c = c.before.before
+abbrev looked : tie.In_default → tie.After-tick-tick
+looked c = c.before
 
 -- a row that is shown
 abbrev shown : List ℕ → Row
 shown bytes = record { answer = Taken; bytes = bytes }
 
 -- the answer is the row's
-answered : (c : tie.After-tick) → (let a = c.before.args in c.tick.result.answer ≡ row_answer a.self a.empties)
-answered c = let a = c.before.args in c.tick.ensures.answered ∙ sets-answer a.self a.empties
+answered : (c : tie.After-tick-tick) → (let a = c.args in c.tick-tick.result.answer ≡ row_answer a.self a.empties)
+answered c = let a = c.args in c.tick-tick.ensures.answered ∙ sets-answer a.self a.empties
 
-taken : (c : tie.After-enum-told) → (let a = (looked c).before.args in row_answer a.self a.empties ≡ Taken)
-taken c = sym (answered (looked c)) ∙ c.enum_told.given.1
+taken : (c : tie.In_default) → (let a = (looked c).args in row_answer a.self a.empties ≡ Taken)
+taken c = sym (answered (looked c)) ∙ c.in_default.is
 
 -- the cores of the first sets are those that the tick shows
-listed : (c : tie.After-enum-told)
-    → (let t = looked c in let a = t.before.args in map cores (take a.self.count t.tick.result.sets) ≡ shown_in a.self a.empties)
+listed : (c : tie.In_default)
+    → (let t = looked c in let a = t.args in map cores (take a.self.count t.tick-tick.result.sets) ≡ shown_in a.self a.empties)
 listed c =
     let t = looked c in
-    let a = t.before.args in
+    let a = t.args in
     let r = a.self in
     let q = taken c in
-    let len : length r.tasks ≡ most_tasks = simp length-map at t.before.good.0.1.1.1.1.1.1.1.0.1.0.1 in
-    ap (λ (sets : List ℕ). map cores (take r.count sets)) (t.tick.ensures.shows ∙ sets-by r a.empties q)
+    let len : length r.tasks ≡ most_tasks = t.well_formed.0.1.1.1.1.1.1.1.0.1.0.1 in
+    ap (λ (sets : List ℕ). map cores (take r.count sets)) (t.tick-tick.ensures.shows ∙ sets-by r a.empties q)
     ∙ front-in r a.empties (few-cores r (row-passes r a.empties q)) len (few r (row-passes r a.empties q))
 
-tick-requires : tie.Need-tick-requires
+tick-requires : tie.Need-tick-tick-requires
 tick-requires c κs = search rules
 
-enum-known-answer : tie.Need-enum-known-answer
+enum-known-answer : tie.Need-enum_known-answer
 enum-known-answer c = search rules
 
-row-refused-requires : tie.Need-row-refused-requires
+row-refused-requires : tie.Need-row_refused-requires
 row-refused-requires c κs = search rules
 
-returns : tie.Need-returns
+returns : tie.Need-returns-in-Refused
 returns c =
     let o = c.before.before in
-    let t = o.before.before in
-    let a = t.before.args in
-    row-of a.self a.empties c.row-refused.result
-    (c.row-refused.ensures ∙ sym (row-refused a.self a.empties _ _ (sym (answered t) ∙ o.answer.given.1)))
+    let t = o in
+    let a = t.args in
+    row-of a.self a.empties c.row_refused.result
+    (c.row_refused.ensures ∙ sym (row-refused a.self a.empties _ _ (sym (answered t) ∙ c.before.in-Refused.is)))
 
-enum_told : tie.Need-enum-told
+enum_told : tie.Need-enum_told-1
 enum_told c = search rules
 
-row-in-requires : tie.Need-row-in-requires
+row-in-requires : tie.Need-row_in-bytes-requires
 row-in-requires c κs =
     let e = c.before.before in
-    let a = (looked e).before.args in
+    let a = (looked e).args in
     let r = a.self in
     let q = row-passes r a.empties (taken e) in
     ((few-cores r q, few r q), subst (Showable r.fence r.cores) (sym (listed e)) (run-showable r a.empties))
 
-returns-2 : tie.Need-returns-2
+returns-2 : tie.Need-returns
 unfolding bytes_in
 returns-2 c =
     let e = c.before.before.before in
-    let a = (looked e).before.args in
+    let a = (looked e).args in
     let r = a.self in
     let bytes = row r.fence r.cores (shown_in r a.empties) in
-    row-of r a.empties (shown c.row_in.result)
+    row-of r a.empties (shown c.row_in-bytes.result)
     (ap shown
-    (c.row_in.ensures
+    (c.row_in-bytes.ensures
     ∙ (ap (λ (gs : List (List ℕ)). row r.fence r.cores gs ++ replicate (most_cores - r.cores) 0) (listed e)
     ∙ ap (λ (n : ℕ). bytes ++ replicate (most_cores - n) 0) (sym (row-length r.fence r.cores (shown_in r a.empties)))))
     ∙ sym (row-shown r a.empties (taken e)))
 
-pub row-spec : {M : Type 1} → statement M
-row-spec = tie.close (tie.spec tick-requires enum-known-answer row-refused-requires returns enum_told row-in-requires returns-2)
+pub row_spec : {M : Type 1} → statement M
+row_spec = tie.close (tie.spec tick-requires enum-known-answer row-refused-requires returns enum_told row-in-requires returns-2)

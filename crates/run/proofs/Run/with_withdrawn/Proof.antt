@@ -8,5 +8,5 @@ returns : tie.Need-returns
 unfolding withdrawn_in
 returns c = refl
 
-pub with-withdrawn-spec : {M : Type 1} → statement M
-with-withdrawn-spec = tie.close (tie.spec returns)
+pub with_withdrawn_spec : {M : Type 1} → statement M
+with_withdrawn_spec = tie.close (tie.spec returns)

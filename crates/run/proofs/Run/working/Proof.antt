@@ -14,14 +14,14 @@ use Rattle.run.proofs.Run.working.Tie as tie
 abbrev both : Answer → ℕ → WorkingPositions
 both a set = record { answer = a; set = set }
 
-tick-requires : tie.Need-tick-requires
+tick-requires : tie.Need-tick-tick-requires
 tick-requires c κs = search rules
 
 returns : tie.Need-returns
 returns c =
-    let a = c.before.args in
-    working-of a.self a.empties (both c.tick.result.answer c.tick.result.working)
-    (ap₂ both (c.tick.ensures.answered ∙ working-answer a.self a.empties) c.tick.ensures.works)
+    let a = c.args in
+    working-of a.self a.empties (both c.tick-tick.result.answer c.tick-tick.result.working)
+    (ap₂ both (c.tick-tick.ensures.answered ∙ working-answer a.self a.empties) c.tick-tick.ensures.works)
 
-pub working-spec : {M : Type 1} → statement M
-working-spec = tie.close (tie.spec tick-requires returns)
+pub working_spec : {M : Type 1} → statement M
+working_spec = tie.close (tie.spec tick-requires returns)

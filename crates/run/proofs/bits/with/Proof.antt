@@ -9,15 +9,15 @@ use Rattle.rule.proofs.Gathered.{with-place}
 use Rattle.run.proofs.bits.with.Statement.{statement}
 use Rattle.run.proofs.bits.with.Tie as tie
 
-shl-result : tie.Need-overflow-shl-result
+shl-result : tie.Need-overflow_shl-result
 shl-result c = search rules
 
-returns : tie.Need-returns
+returns : tie.Need-returns-then-on
 returns c p =
-    with-place c.before.args.set c.before.args.place c.before.requires p ∙ ap (λ (t : Bool). bit c.before.args.set p || (t && eqb p c.before.args.place)) (sym c.if1.true)
+    with-place c.args.set c.args.place c.requires p ∙ ap (λ (t : Bool). bit c.args.set p || (t && eqb p c.args.place)) (sym c.if-on.true)
 
-returns-2 : tie.Need-returns-2
-returns-2 c p = sym (simp (c.if1.false, or-false))
+returns-2 : tie.Need-returns-else-on
+returns-2 c p = sym (simp (c.if-on.false, or-false))
 
-pub with-spec : {M : Type 1} → statement M
-with-spec = tie.close (tie.spec shl-result returns returns-2)
+pub with_spec : {M : Type 1} → statement M
+with_spec = tie.close (tie.spec shl-result returns returns-2)

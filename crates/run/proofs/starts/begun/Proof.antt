@@ -11,23 +11,23 @@ use Rattle.run.proofs.starts.begun.Statement.{statement}
 use Rattle.run.proofs.starts.begun.Tie as tie
 
 -- the table passed, so what was loaded is the table
-held : (c : tie.After-load) → LoadedAs c.before.before.args.words.now c.load.result
-held c = c.load.ensures.holds (c.load.ensures.passed.1 c.before.before.requires)
+held : (c : tie.After-load-loaded) → LoadedAs c.args.words.now c.load-loaded.result
+held c = c.load-loaded.ensures.holds (c.load-loaded.ensures.passed.1 c.requires)
 
 -- a run as it starts
 abbrev taken : Run → Started
 taken r = record { answer = Taken; run = r }
 
-load-requires : tie.Need-load-requires
+load-requires : tie.Need-load-loaded-requires
 load-requires c κs = search rules
 
-started-requires : tie.Need-started-requires
+started-requires : tie.Need-started-run-requires
 started-requires c κs = (held c.before).count-from.1
 
 returns : tie.Need-returns
 returns c =
     let l = c.before.before in
-    ap taken (c.started.ensures ∙ loaded-table l.before.before.args.words.now l.load.result (held l))
+    ap taken (c.started-run.ensures ∙ loaded-table l.args.words.now l.load-loaded.result (held l))
 
-pub begun-spec : {M : Type 1} → statement M
-begun-spec = tie.close (tie.spec load-requires started-requires returns)
+pub begun_spec : {M : Type 1} → statement M
+begun_spec = tie.close (tie.spec load-requires started-requires returns)

@@ -4,11 +4,11 @@ use borrow.Author.Rules.{rules}
 use Rattle.run.proofs.starts.empty.Statement.{statement}
 use Rattle.run.proofs.starts.empty.Tie as tie
 
-unused-requires : tie.Need-unused-requires
+unused-requires : tie.Need-unused-place-requires
 unused-requires c κs = search rules
 
 returns : tie.Need-returns
-returns c = simp c.unused.ensures
+returns c = simp c.unused-place.ensures
 
-pub empty-spec : {M : Type 1} → statement M
-empty-spec = tie.close (tie.spec unused-requires returns)
+pub empty_spec : {M : Type 1} → statement M
+empty_spec = tie.close (tie.spec unused-requires returns)

@@ -4,11 +4,11 @@ use borrow.Author.Rules.{rules}
 use Rattle.run.proofs.starts.refused.Statement.{statement}
 use Rattle.run.proofs.starts.refused.Tie as tie
 
-empty-requires : tie.Need-empty-requires
+empty-requires : tie.Need-empty-run-requires
 empty-requires c κs = search rules
 
 returns : tie.Need-returns
-returns c = simp c.empty.ensures
+returns c = simp c.empty-run.ensures
 
-pub refused-spec : {M : Type 1} → statement M
-refused-spec = tie.close (tie.spec empty-requires returns)
+pub refused_spec : {M : Type 1} → statement M
+refused_spec = tie.close (tie.spec empty-requires returns)

@@ -36,70 +36,70 @@ starting-more tasks i h =
 abbrev made : ℕ → ℕ → ℕ → ℕ → List Task → Run
 made rule cores fence count tasks = record { rule = rule; cores = cores; fence = fence; withdrawn = 0; count = count; tasks = tasks }
 
-abbrev invariant-loop : tie.invariant-loop
+abbrev invariant-loop : tie.invariant-loop-i
 invariant-loop rule cores fence count tasks places₀ i₀ places i =
     (i ≤ count) × (places ≡ starting tasks i ++ drop i (replicate most_tasks unused))
 
-abbrev decreases-loop : tie.decreases-loop
+abbrev decreases-loop : tie.decreases-loop-i
 decreases-loop rule cores fence count tasks places₀ i₀ places i = count - i
 
 -- the state at the head of the loop
-abbrev loop : tie.After-start-task invariant-loop decreases-loop → tie.At-loop invariant-loop decreases-loop
+abbrev loop : tie.After-start_task-next invariant-loop decreases-loop → tie.At-loop-i invariant-loop decreases-loop
 loop c = c.before.before.before
 
-unused-requires : tie.Need-unused-requires invariant-loop decreases-loop
+unused-requires : tie.Need-unused-place-requires invariant-loop decreases-loop
 unused-requires c κs = search rules
 
-loop-holds : tie.Need-loop-init invariant-loop decreases-loop
-loop-holds c = (search rules, simp c.unused.ensures)
+loop-holds : tie.Need-loop-i-init invariant-loop decreases-loop
+loop-holds c = (search rules, simp c.unused-place.ensures)
 
-mul-task : tie.Need-overflow-mul-task invariant-loop decreases-loop
+mul-task : tie.Need-offset_bounds-tasks-i invariant-loop decreases-loop
 mul-task c = omega arith
 
-array-copy-out-task : tie.Need-array-copy-out-task invariant-loop decreases-loop
+array-copy-out-task : tie.Need-bounds-tasks-i invariant-loop decreases-loop
 array-copy-out-task c = omega arith
 
-start-task-requires : tie.Need-start-task-requires invariant-loop decreases-loop
+start-task-requires : tie.Need-start_task-next-requires invariant-loop decreases-loop
 start-task-requires c κs = search rules
 
-mul-places : tie.Need-overflow-mul-places invariant-loop decreases-loop
+mul-places : tie.Need-offset_bounds-places-i invariant-loop decreases-loop
 mul-places c = omega arith
 
-array-set-from-places : tie.Need-array-set-from-places invariant-loop decreases-loop
+array-set-from-places : tie.Need-bounds-places-i invariant-loop decreases-loop
 array-set-from-places c = omega arith
 
-add-i : tie.Need-overflow-add-i invariant-loop decreases-loop
+add-i : tie.Need-overflow_add-i invariant-loop decreases-loop
 add-i c = omega arith
 
-loop-less : tie.Need-loop-smaller invariant-loop decreases-loop
+loop-less : tie.Need-loop-i-smaller invariant-loop decreases-loop
 loop-less c = omega arith
 
-loop-again : tie.Need-loop-preserved invariant-loop decreases-loop
+loop-again : tie.Need-loop-i-preserved invariant-loop decreases-loop
 loop-again c =
     let s = loop c in
-    let tasks = s.before.before.args.t4 in
-    let i = s.loop.i in
+    let tasks = s.args.tasks in
+    let i = s.loop-i.i in
     let len : length tasks ≡ most_tasks = search rules in
     let more = written-more (starting tasks i) (replicate most_tasks unused) i (start_task (task_of (get_or tasks i no_task))) past_end (length-starting tasks i (omega arith)) (omega arith) in
-    (omega arith, simp (s.loop.inv.1, c.start-task.ensures) (more ∙ ap (λ (l : List Task). l ++ drop (i + 1) (replicate most_tasks unused)) (sym (starting-more tasks i (omega arith)))))
+    (omega arith, simp (s.loop-i.invariant.1, c.start_task-next.ensures) (more ∙ ap (λ (l : List Task). l ++ drop (i + 1) (replicate most_tasks unused)) (sym (starting-more tasks i (omega arith)))))
 
 returns : tie.Need-returns invariant-loop decreases-loop
 unfolding started_run
 returns c =
     let s = c.before in
-    let a = s.before.before.args in
-    let e : s.loop.i ≡ a.count = omega arith in
-    let len : length a.t4 ≡ most_tasks = search rules in
-    let few = s.before.before.requires in
-    let n : length (tasks_of a.t4 a.count) ≡ a.count = length-map (take a.count a.t4) task_of ∙ length-take-le a.count a.t4 (omega arith) in
-    let tasks : s.loop.places ≡ starting a.t4 a.count ++ replicate (most_tasks - a.count) unused =
-    s.loop.invariant.1 ∙ (ap (λ (k : ℕ). starting a.t4 k ++ drop k (replicate most_tasks unused)) e
-    ∙ ap (λ (l : List Task). starting a.t4 a.count ++ l) (drop-equal most_tasks a.count unused)) in
+    let a = s.args in
+    let e : s.loop-i.i ≡ a.count = omega arith in
+    let len : length a.tasks ≡ most_tasks = search rules in
+    let few = s.requires in
+    let n : length (tasks_of a.tasks a.count) ≡ a.count = length-map (take a.count a.tasks) task_of ∙ length-take-le a.count a.tasks (omega arith) in
+    let tasks : s.loop-i.places ≡ starting a.tasks a.count ++ replicate (most_tasks - a.count) unused =
+    s.loop-i.invariant.1 ∙ (ap (λ (k : ℕ). starting a.tasks k ++ drop k (replicate most_tasks unused)) e
+    ∙ ap (λ (l : List Task). starting a.tasks a.count ++ l) (drop-equal most_tasks a.count unused)) in
     ap (made a.rule a.cores a.fence a.count) tasks
-    ∙ ap (λ (k : ℕ). made a.rule a.cores a.fence k (starting a.t4 a.count ++ replicate (most_tasks - k) unused)) (sym n)
+    ∙ ap (λ (k : ℕ). made a.rule a.cores a.fence k (starting a.tasks a.count ++ replicate (most_tasks - k) unused)) (sym n)
 
-pub started-spec : {M : Type 1} → statement M
-started-spec =
+pub started_spec : {M : Type 1} → statement M
+started_spec =
     tie.close
     (tie.spec
     invariant-loop

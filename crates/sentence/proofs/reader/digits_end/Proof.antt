@@ -9,48 +9,48 @@ use Rattle.sentence.proofs.Reading.{digits-on, digits_low, digits-high, digits-n
 use Rattle.sentence.proofs.reader.digits_end.Statement.{statement}
 use Rattle.sentence.proofs.reader.digits_end.Tie as tie
 
-abbrev invariant-loop : tie.invariant-loop
+abbrev invariant-loop : tie.invariant-loop-end
 invariant-loop bytes at end₀ end = at + digits_of (drop at bytes) ≡ end + digits_of (drop end bytes)
 
-abbrev decreases-loop : tie.decreases-loop
+abbrev decreases-loop : tie.decreases-loop-end
 decreases-loop bytes at end₀ end = length bytes - end
 
 -- the state at the head of the loop
-abbrev loop-from-else1 : tie.Else1 invariant-loop decreases-loop → tie.At-loop invariant-loop decreases-loop
+abbrev loop-from-else1 : tie.Else-byte-lt48 invariant-loop decreases-loop → tie.At-loop-end invariant-loop decreases-loop
 loop-from-else1 c = c.before.before.before
 
-abbrev loop-from-then1 : tie.Then1 invariant-loop decreases-loop → tie.At-loop invariant-loop decreases-loop
+abbrev loop-from-then1 : tie.Then-byte-lt48 invariant-loop decreases-loop → tie.At-loop-end invariant-loop decreases-loop
 loop-from-then1 c = c.before.before.before
 
-loop-holds : tie.Need-loop-init invariant-loop decreases-loop
+loop-holds : tie.Need-loop-end-init invariant-loop decreases-loop
 loop-holds c = omega arith
 
-shared-slice-read-byte : tie.Need-shared-slice-read-byte invariant-loop decreases-loop
+shared-slice-read-byte : tie.Need-bounds-bytes-end invariant-loop decreases-loop
 shared-slice-read-byte c = omega arith
 
-returns : tie.Need-returns invariant-loop decreases-loop
-returns c = let a = (loop-from-then1 c).before.args in omega (arith, digits_low a.bytes.now (loop-from-then1 c).loop.end (omega arith) c.if1.true)
+returns : tie.Need-returns-then-byte-lt48 invariant-loop decreases-loop
+returns c = let a = (loop-from-then1 c).args in omega (arith, digits_low a.bytes.now (loop-from-then1 c).loop-end.end (omega arith) c.if-byte-lt48.true)
 
-returns-2 : tie.Need-returns-2 invariant-loop decreases-loop
-returns-2 c = let a = (loop-from-else1 c.before).before.args in omega (arith, digits-high a.bytes.now (loop-from-else1 c.before).loop.end (omega arith) c.if2.true)
+returns-2 : tie.Need-returns-then-byte-gt57 invariant-loop decreases-loop
+returns-2 c = let a = (loop-from-else1 c.before).args in omega (arith, digits-high a.bytes.now (loop-from-else1 c.before).loop-end.end (omega arith) c.if-byte-gt57.true)
 
-add-end : tie.Need-overflow-add-end invariant-loop decreases-loop
+add-end : tie.Need-overflow_add-end invariant-loop decreases-loop
 add-end c = omega arith
 
-loop-less : tie.Need-loop-smaller invariant-loop decreases-loop
+loop-less : tie.Need-loop-end-smaller invariant-loop decreases-loop
 loop-less c = omega arith
 
-loop-again : tie.Need-loop-preserved invariant-loop decreases-loop
+loop-again : tie.Need-loop-end-preserved invariant-loop decreases-loop
 loop-again c =
-    let a = (loop-from-else1 c.before).before.args in
-    let e = digits-on a.bytes.now (loop-from-else1 c.before).loop.end (omega arith) (omega arith) in
+    let a = (loop-from-else1 c.before).args in
+    let e = digits-on a.bytes.now (loop-from-else1 c.before).loop-end.end (omega arith) (omega arith) in
     omega arith
 
-returns-3 : tie.Need-returns-3 invariant-loop decreases-loop
-returns-3 c = let a = c.before.before.args in omega (arith, digits-none a.bytes.now c.before.loop.end (omega arith))
+returns-3 : tie.Need-returns invariant-loop decreases-loop
+returns-3 c = let a = c.args in omega (arith, digits-none a.bytes.now c.loop-end.end (omega arith))
 
-pub digits-end-spec : {M : Type 1} → statement M
-digits-end-spec =
+pub digits_end_spec : {M : Type 1} → statement M
+digits_end_spec =
     tie.close
     (tie.spec
     invariant-loop

@@ -8,35 +8,35 @@ use Rattle.session.proofs.Feeding.{fed-in, over-fed}
 use Rattle.session.proofs.Session.feed.Statement.{statement}
 use Rattle.session.proofs.Session.feed.Tie as tie
 
-enum_told : tie.Need-enum-told
+enum_told : tie.Need-enum_told-1
 enum_told c = search rules
 
-feed-table-requires : tie.Need-feed-table-requires
+feed-table-requires : tie.Need-feed_table-requires
 feed-table-requires c κs = search rules
 
-enum-told-2 : tie.Need-enum-told-2
+enum-told-2 : tie.Need-enum_told-in-Operations
 enum-told-2 c = search rules
 
-feed-operations-requires : tie.Need-feed-operations-requires
+feed-operations-requires : tie.Need-feed_operations-requires
 feed-operations-requires c κs = search rules
 
-enum-told-3 : tie.Need-enum-told-3
+enum-told-3 : tie.Need-enum_told-in-Over
 enum-told-3 c = search rules
 
-fed-with-requires : tie.Need-fed-with-requires
+fed-with-requires : tie.Need-fed_with-requires
 fed-with-requires c κs = search rules
 
-returns : tie.Need-returns
-returns c = fed-in _ Table _ _ _ _ _ c.before.before.enum_told.given.1 c.feed-table.ensures
+returns : tie.Need-returns-in-Table
+returns c = fed-in _ Table _ _ _ _ _ c.in-Table.is c.feed_table.ensures
 
-returns-2 : tie.Need-returns-2
-returns-2 c = fed-in _ Operations _ _ _ _ _ c.before.before.enum-told2.given.1 c.feed-operations.ensures
+returns-2 : tie.Need-returns-in-Operations
+returns-2 c = fed-in _ Operations _ _ _ _ _ c.in-Operations.is c.feed_operations.ensures
 
-returns-3 : tie.Need-returns-3
-returns-3 c = fed-in _ Over _ _ _ _ _ c.before.enum-told3.given.1 (subst⁻¹ (FedBy _ _ _ _ _) c.fed-with.ensures (over-fed _ _ _ _))
+returns-3 : tie.Need-returns-in-Over
+returns-3 c = fed-in _ Over _ _ _ _ _ c.in-Over.is (subst⁻¹ (FedBy _ _ _ _ _) c.fed_with.ensures (over-fed _ _ _ _))
 
-pub feed-spec : {M : Type 1} → statement M
-feed-spec =
+pub feed_spec : {M : Type 1} → statement M
+feed_spec =
     tie.close
     (tie.spec
     enum_told

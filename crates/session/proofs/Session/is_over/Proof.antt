@@ -5,25 +5,25 @@ use Rattle.session.specs.Session.{is_over}
 use Rattle.session.proofs.Session.is_over.Statement.{statement}
 use Rattle.session.proofs.Session.is_over.Tie as tie
 
-enum_told : tie.Need-enum-told
+enum_told : tie.Need-enum_told-1
 enum_told c = search rules
 
-enum-told-2 : tie.Need-enum-told-2
+enum-told-2 : tie.Need-enum_told-in-Operations
 enum-told-2 c = search rules
 
-enum-told-3 : tie.Need-enum-told-3
+enum-told-3 : tie.Need-enum_told-in-Over
 enum-told-3 c = search rules
 
-returns : tie.Need-returns
-returns c = sym (ap is_over c.enum_told.given.1)
+returns : tie.Need-returns-in-Table
+returns c = sym (ap is_over c.in-Table.is)
 
-returns-2 : tie.Need-returns-2
-returns-2 c = sym (ap is_over c.enum-told2.given.1)
+returns-2 : tie.Need-returns-in-Operations
+returns-2 c = sym (ap is_over c.in-Operations.is)
 
-returns-3 : tie.Need-returns-3
-returns-3 c = sym (ap is_over c.enum-told3.given.1)
+returns-3 : tie.Need-returns-in-Over
+returns-3 c = sym (ap is_over c.in-Over.is)
 
-pub is-over-spec : {M : Type 1} → statement M
-is-over-spec =
+pub is_over_spec : {M : Type 1} → statement M
+is_over_spec =
     tie.close
     (tie.spec enum_told enum-told-2 enum-told-3 returns returns-2 returns-3)

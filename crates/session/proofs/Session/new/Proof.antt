@@ -6,10 +6,10 @@ use Rattle.session.specs.Transcript.{transcript, transcript_so_far}
 use Rattle.session.proofs.Session.new.Statement.{statement}
 use Rattle.session.proofs.Session.new.Tie as tie
 
-slice-aggregate-start : tie.Need-slice-aggregate-start
+slice-aggregate-start : tie.Need-slice_bounds-start-end
 slice-aggregate-start c = search rules
 
-start-requires : tie.Need-start-requires
+start-requires : tie.Need-start-started-requires
 start-requires c κs = search rules
 
 returns : tie.Need-returns

@@ -11,26 +11,22 @@ use Rattle.text.proofs.ReadOf.{numbers-read}
 use Rattle.session.proofs.open.start.Statement.{statement}
 use Rattle.session.proofs.open.start.Tie as tie
 
--- the state after `read`
-abbrev read : tie.After-start → tie.After-read
-read c = c.before.before.before
-
-read-requires : tie.Need-read-requires
+read-requires : tie.Need-read-input-requires
 read-requires c κs = search rules
 
-array-share-prefix-words : tie.Need-array-share-prefix-words
-array-share-prefix-words c = let w : length c.before.read.result.words ≡ most_numbers = search rules in omega (arith, c.before.read.ensures.most, w)
+array-share-prefix-words : tie.Need-slice_bounds-words-end
+array-share-prefix-words c = let w : length c.read-input.result.words ≡ most_numbers = search rules in omega (arith, c.read-input.ensures.most, w)
 
-slice-aggregate-start : tie.Need-slice-aggregate-start
+slice-aggregate-start : tie.Need-slice_bounds-start-end
 slice-aggregate-start c =
-    let w : length c.before.before.read.result.words ≡ most_numbers = search rules in
-    sym (length-take-le c.before.before.read.result.count _ (omega (arith, c.before.before.read.ensures.most, w)))
+    let w : length c.read-input.result.words ≡ most_numbers = search rules in
+    sym (length-take-le c.read-input.result.count _ (omega (arith, c.read-input.ensures.most, w)))
 
 start-requires : tie.Need-start-requires
 start-requires c κs = search rules
 
 returns : tie.Need-returns
-returns c = let r = (read c).read in c.start.ensures.value ∙ ap start_of (numbers-read r.result (read c).before.before.args.table.now r.ensures.value)
+returns c = let r = c.read-input in c.start.ensures.value ∙ ap start_of (numbers-read r.result c.args.table.now r.ensures.value)
 
 pub start_spec : {M : Type 1} → statement M
 start_spec =

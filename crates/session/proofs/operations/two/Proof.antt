@@ -4,32 +4,28 @@ use borrow.Author.Rules.{rules}
 use Rattle.session.proofs.operations.two.Statement.{statement}
 use Rattle.session.proofs.operations.two.Tie as tie
 
--- the state after `first`
-abbrev first : tie.After-known-told2 → tie.After-first
-first c = c.before.before.before.before
-
-enum-known-first : tie.Need-enum-known-first
+enum-known-first : tie.Need-enum_known-first
 enum-known-first c = search rules
 
-enum-known-second : tie.Need-enum-known-second
+enum-known-second : tie.Need-enum_known-second
 enum-known-second c = search rules
 
-enum_told : tie.Need-enum-told
+enum_told : tie.Need-enum_told-1
 enum_told c = search rules
 
-enum-told-2 : tie.Need-enum-told-2
+enum-told-2 : tie.Need-enum_told-in-Nothing
 enum-told-2 c = search rules
 
-returns : tie.Need-returns
-returns c = simp ((first c).first.given.1, c.before.second.given.1)
+returns : tie.Need-returns-in-Value-second
+returns c = simp (c.in-Value.is, c.in-Value-second.is)
 
-returns-2 : tie.Need-returns-2
+returns-2 : tie.Need-returns-in-Nothing-second
 returns-2 c = search rules
 
-returns-3 : tie.Need-returns-3
+returns-3 : tie.Need-returns-in-Nothing
 returns-3 c = search rules
 
-pub two-spec : {M : Type 1} → statement M
-two-spec =
+pub two_spec : {M : Type 1} → statement M
+two_spec =
     tie.close
     (tie.spec enum-known-first enum-known-second enum_told enum-told-2 returns returns-2 returns-3)

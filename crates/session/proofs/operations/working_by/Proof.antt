@@ -4,32 +4,32 @@ use borrow.Author.Rules.{rules}
 use Rattle.session.proofs.operations.working_by.Statement.{statement}
 use Rattle.session.proofs.operations.working_by.Tie as tie
 
-enum_told : tie.Need-enum-told
+enum_told : tie.Need-enum_told-1
 enum_told c = search rules
 
-enum-known-numbers : tie.Need-enum-known-numbers
+enum-known-numbers : tie.Need-enum_known-numbers
 enum-known-numbers c = search rules
 
-enum-told-2 : tie.Need-enum-told-2
+enum-told-2 : tie.Need-enum_told-in-Two
 enum-told-2 c = search rules
 
-enum-told-3 : tie.Need-enum-told-3
+enum-told-3 : tie.Need-enum_told-in-Other
 enum-told-3 c = search rules
 
-returns : tie.Need-returns
+returns : tie.Need-returns-in-Bare
 returns c = search rules
 
-returns-2 : tie.Need-returns-2
-returns-2 c = simp c.before.numbers.given.1
+returns-2 : tie.Need-returns-in-One
+returns-2 c = simp c.in-One.is
 
-returns-3 : tie.Need-returns-3
+returns-3 : tie.Need-returns-in-Two
 returns-3 c = search rules
 
-returns-4 : tie.Need-returns-4
+returns-4 : tie.Need-returns-in-Other
 returns-4 c = search rules
 
-pub working-by-spec : {M : Type 1} → statement M
-working-by-spec =
+pub working_by_spec : {M : Type 1} → statement M
+working_by_spec =
     tie.close
     (tie.spec
     enum_told

@@ -13,40 +13,33 @@ use borrow.Author.Rules.{rules}
 use Rattle.session.proofs.replies.put_set.Statement.{statement}
 use Rattle.session.proofs.replies.put_set.Tie as tie
 
--- the state at the call
-abbrev entry-from-line : tie.After-line → tie.Start
-entry-from-line c = c.before.before.before.before
-
-abbrev entry-from-slice-known2 : tie.After-slice-known2 → tie.Start
-entry-from-slice-known2 c = entry-from-line c.before
-
-short : (c : tie.After-slice-known2) → c.before.before.put.result ≤ (entry-from-slice-known2 c).args.at + 21
+short : (c : tie.After-slice_known-2-1) → c.put.result ≤ c.args.at + 21
 short c =
-    let a = (entry-from-slice-known2 c).args in
-    omega (arith, c.before.before.put.ensures.ends, decimal-length a.set, count_most 19 a.set (omega arith))
+    let a = c.args in
+    omega (arith, c.put.ensures.ends, decimal-length a.set, count_most 19 a.set (omega arith))
 
 whole :
-    (c : tie.After-slice-known2)
-    → Put (entry-from-slice-known2 c).args.line.now (entry-from-slice-known2 c).args.at
-    (space ∷ decimal (entry-from-slice-known2 c).args.set) c.before.before.put.new.0 c.before.before.put.result
+    (c : tie.After-slice_known-2-1)
+    → Put c.args.line.now c.args.at
+    (space ∷ decimal c.args.set) c.put.new.line c.put.result
 whole c =
-    let a = (entry-from-slice-known2 c).args in
-    put_then (put_one a.line.now a.at 32 (omega arith)) c.before.before.put.ensures (omega (arith, short c))
+    let a = c.args in
+    put_then (put_one a.line.now a.at 32 (omega arith)) c.put.ensures (omega (arith, short c))
 
-slice-write-line : tie.Need-slice-write-line
+slice-write-line : tie.Need-bounds-line-at
 slice-write-line c = search rules
 
-add-put : tie.Need-overflow-add-put
+add-put : tie.Need-overflow_add-at
 add-put c = search rules
 
 put-requires : tie.Need-put-requires
-put-requires c κs = let a = c.before.before.args in simp length-set (omega (arith, count_most 19 a.set (omega arith)))
+put-requires c κs = let a = c.args in simp length-set (omega (arith, count_most 19 a.set (omega arith)))
 
-same_length : tie.Need-same-length
+same_length : tie.Need-shape_of-line
 same_length c = put-length (whole c) (omega (arith, short c))
 
 returns : tie.Need-returns
 returns c = (whole c, short c)
 
-pub put-set-spec : {M : Type 1} → statement M
-put-set-spec = tie.close (tie.spec slice-write-line add-put put-requires same_length returns)
+pub put_set_spec : {M : Type 1} → statement M
+put_set_spec = tie.close (tie.spec slice-write-line add-put put-requires same_length returns)

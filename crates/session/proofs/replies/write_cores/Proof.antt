@@ -4,7 +4,7 @@ use borrow.Author.Rules.{rules}
 use native.Mathlib.Omega.{arith}
 use mathlib.Core.Path.{◌≡◌, refl, sym, ap, ◌∙◌, subst}
 use mathlib.Core.List.{List, [], ◌∷◌, ◌++◌}
-use Prim.Native.Nat.{ℕ, ◌+◌, ◌≤◌, ◌<◌, min}
+use Prim.Native.Nat.{ℕ, ◌≤◌, ◌<◌, min}
 use lib.ListN.{length, take, drop, length-take}
 use Rattle.text.specs.Written.{Put}
 use Rattle.session.specs.Session.{TextWritten}
@@ -20,18 +20,6 @@ use Rattle.text.proofs.Writing.{put_then, put_front}
 use Rattle.session.proofs.replies.write_cores.Statement.{statement}
 use Rattle.session.proofs.replies.write_cores.Tie as tie
 use Rattle.model.specs.Sizes.{most_cores}
-
--- the state after `copy`
-abbrev copy : tie.After-copy2 → tie.After-copy
-copy c = c.before.before.before
-
--- the state after `put-cells`
-abbrev put-cells : tie.After-copy2 → tie.After-put-cells
-put-cells c = (copy c).before.before.before.before
-
--- the state after `smaller`
-abbrev smaller : tie.After-copy2 → tie.After-smaller
-smaller c = (put-cells c).before.before
 
 -- a row has 64 bytes
 take-most : (cores count : ℕ) (bytes : List ℕ) → length bytes ≡ most_cores → count ≡ min cores most_cores → take count bytes ≡ take cores bytes
@@ -55,44 +43,40 @@ cores-text cores bytes before blank text middle after count size start end w v e
     let m : end ≤ longest_reply = omega (arith, q.ends, r.ends, n) in
     subst (λ (l : List ℕ). TextWritten (letters "row" ++ l) before after end) k (text-put (put_then q r (omega (arith, m, w))) (omega (arith, m, w)))
 
-smaller-requires : tie.Need-smaller-requires
+smaller-requires : tie.Need-smaller-count-requires
 smaller-requires c κs = search rules
 
-slice-aggregate-put-cells : tie.Need-slice-aggregate-put-cells
+slice-aggregate-put-cells : tie.Need-slice_bounds-put_cells-end
 slice-aggregate-put-cells c = search rules
 
-put-cells-requires : tie.Need-put-cells-requires
+put-cells-requires : tie.Need-put_cells-size-requires
 put-cells-requires c κs = search rules
 
-slice-aggregate-copy : tie.Need-slice-aggregate-copy
+slice-aggregate-copy : tie.Need-slice_bounds-copy-end-3
 slice-aggregate-copy c = search rules
 
-copy-requires : tie.Need-copy-requires
+copy-requires : tie.Need-copy-start-requires
 copy-requires c κs = search rules
 
-slice-aggregate-copy-2 : tie.Need-slice-aggregate-copy-2
-slice-aggregate-copy-2 c = search rules
-
-copy-requires-2 : tie.Need-copy-requires-2
+copy-requires-2 : tie.Need-copy-requires
 copy-requires-2 c κs = search rules
 
 returns : tie.Need-returns
 returns c =
-    let a = (smaller c).before.args in
+    let a = c.args in
     let w : length a.out.now ≡ longest_reply = search rules in
     let v : length a.bytes ≡ most_cores = search rules in
-    cores-text a.cores a.bytes a.out.now _ _ _ _ _ _ _ _ w v (smaller c).smaller.ensures
-    (put-cells c).put-cells.ensures.0 (put-cells c).put-cells.ensures.1 (copy c).copy.ensures c.copy2.ensures
+    cores-text a.cores a.bytes a.out.now _ _ _ _ _ _ _ _ w v c.smaller-count.ensures
+    c.put_cells-size.ensures.0 c.put_cells-size.ensures.1 c.copy-start.ensures c.copy.ensures
 
-pub write-cores-spec : {M : Type 1} → statement M
-write-cores-spec =
+pub write_cores_spec : {M : Type 1} → statement M
+write_cores_spec =
     tie.close
     (tie.spec
     smaller-requires
     slice-aggregate-put-cells
     put-cells-requires
-    slice-aggregate-copy
     copy-requires
-    slice-aggregate-copy-2
+    slice-aggregate-copy
     copy-requires-2
     returns)

@@ -11,39 +11,31 @@ use Rattle.session.proofs.TextWritten.{line-put}
 use Rattle.session.proofs.replies.write_each.Statement.{statement}
 use Rattle.session.proofs.replies.write_each.Tie as tie
 
--- the state at the call
-abbrev entry : tie.After-copy → tie.Start
-entry c = c.before.before.before
-
--- the word takes four bytes
-four : (c : tie.After-copy) → c.copy.result ≡ 4
-four c = c.copy.ensures.ends
-
-full : (c : tie.After-copy) → length (entry c).args.out.now ≡ longest_reply
-full c = search rules
-
-slice-aggregate-copy : tie.Need-slice-aggregate-copy
-slice-aggregate-copy c = search rules
-
-copy-requires : tie.Need-copy-requires
+copy-requires : tie.Need-copy-start-requires
 copy-requires c κs = search rules
 
-put-sets-requires : tie.Need-put-sets-requires
+put-sets-requires : tie.Need-put_sets-end-requires
 put-sets-requires c κs =
-    let o = c.before in
-    let m = put-length o.copy.ensures (omega (arith, four o, full o)) in
-    omega (arith, four o, full o, m)
+    let four : c.copy-start.result ≡ 4 = c.copy-start.ensures.ends in
+    let full : length c.args.out.now ≡ longest_reply = search rules in
+    let m = put-length c.copy-start.ensures (omega (arith, four, full)) in
+    omega (arith, four, full, m)
 
-element-write-out : tie.Need-element-write-out
-element-write-out c = omega (arith, four c.before.before, c.put-sets.ensures.1)
+element-write-out : tie.Need-bounds-out-end
+element-write-out c =
+    let four : c.copy-start.result ≡ 4 = c.copy-start.ensures.ends in
+    omega (arith, four, c.put_sets-end.ensures.1)
 
-add-result : tie.Need-overflow-add-result
-add-result c = omega (arith, four c.before.before, c.put-sets.ensures.1)
+add-result : tie.Need-overflow_add-result
+add-result c =
+    let four : c.copy-start.result ≡ 4 = c.copy-start.ensures.ends in
+    omega (arith, four, c.put_sets-end.ensures.1)
 
 returns : tie.Need-returns
 returns c =
-    let o = c.before.before in
-    line-put (letters "sets") (entry o).args.sets o.copy.ensures c.put-sets.ensures.0 (omega (arith, four o, full o, c.put-sets.ensures.1))
+    let four : c.copy-start.result ≡ 4 = c.copy-start.ensures.ends in
+    let full : length c.args.out.now ≡ longest_reply = search rules in
+    line-put (letters "sets") c.args.sets c.copy-start.ensures c.put_sets-end.ensures.0 (omega (arith, four, full, c.put_sets-end.ensures.1))
 
-pub write-each-spec : {M : Type 1} → statement M
-write-each-spec = tie.close (tie.spec slice-aggregate-copy copy-requires put-sets-requires element-write-out add-result returns)
+pub write_each_spec : {M : Type 1} → statement M
+write_each_spec = tie.close (tie.spec copy-requires put-sets-requires element-write-out add-result returns)

@@ -12,39 +12,31 @@ use Rattle.session.proofs.TextWritten.{line-put, one_field}
 use Rattle.session.proofs.replies.write_positions.Statement.{statement}
 use Rattle.session.proofs.replies.write_positions.Tie as tie
 
--- the state at the call
-abbrev entry : tie.After-copy → tie.Start
-entry c = c.before.before.before
-
--- the word takes seven bytes
-seven : (c : tie.After-copy) → c.copy.result ≡ 7
-seven c = c.copy.ensures.ends
-
-full : (c : tie.After-copy) → length (entry c).args.out.now ≡ longest_reply
-full c = search rules
-
-slice-aggregate-copy : tie.Need-slice-aggregate-copy
-slice-aggregate-copy c = search rules
-
-copy-requires : tie.Need-copy-requires
+copy-requires : tie.Need-copy-start-requires
 copy-requires c κs = search rules
 
-put-set-requires : tie.Need-put-set-requires
+put-set-requires : tie.Need-put_set-end-requires
 put-set-requires c κs =
-    let o = c.before in
-    let m = put-length o.copy.ensures (omega (arith, seven o, full o)) in
-    omega (arith, seven o, full o, m)
+    let seven : c.copy-start.result ≡ 7 = c.copy-start.ensures.ends in
+    let full : length c.args.out.now ≡ longest_reply = search rules in
+    let m = put-length c.copy-start.ensures (omega (arith, seven, full)) in
+    omega (arith, seven, full, m)
 
-element-write-out : tie.Need-element-write-out
-element-write-out c = omega (arith, seven c.before.before, c.put-set.ensures.1)
+element-write-out : tie.Need-bounds-out-end
+element-write-out c =
+    let seven : c.copy-start.result ≡ 7 = c.copy-start.ensures.ends in
+    omega (arith, seven, c.put_set-end.ensures.1)
 
-add-result : tie.Need-overflow-add-result
-add-result c = omega (arith, seven c.before.before, c.put-set.ensures.1)
+add-result : tie.Need-overflow_add-result
+add-result c =
+    let seven : c.copy-start.result ≡ 7 = c.copy-start.ensures.ends in
+    omega (arith, seven, c.put_set-end.ensures.1)
 
 returns : tie.Need-returns
 returns c =
-    let o = c.before.before in
-    line-put (letters "working") ((entry o).args.set ∷ []) o.copy.ensures (one_field (entry o).args.set c.put-set.ensures.0) (omega (arith, seven o, full o, c.put-set.ensures.1))
+    let seven : c.copy-start.result ≡ 7 = c.copy-start.ensures.ends in
+    let full : length c.args.out.now ≡ longest_reply = search rules in
+    line-put (letters "working") (c.args.set ∷ []) c.copy-start.ensures (one_field c.args.set c.put_set-end.ensures.0) (omega (arith, seven, full, c.put_set-end.ensures.1))
 
-pub write-positions-spec : {M : Type 1} → statement M
-write-positions-spec = tie.close (tie.spec slice-aggregate-copy copy-requires put-set-requires element-write-out add-result returns)
+pub write_positions_spec : {M : Type 1} → statement M
+write_positions_spec = tie.close (tie.spec copy-requires put-set-requires element-write-out add-result returns)

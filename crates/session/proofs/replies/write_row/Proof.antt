@@ -6,40 +6,26 @@ use Rattle.session.proofs.Replying.{shown-taken, shown-refused}
 use Rattle.session.proofs.replies.write_row.Statement.{statement}
 use Rattle.session.proofs.replies.write_row.Tie as tie
 
--- the state after `answer`
-abbrev answer : tie.After-write-refused → tie.After-answer
-answer c = c.before.before.before
-
--- the state at the call
-abbrev entry-from-write-cores-arg : tie.After-write-cores-arg → tie.Start
-entry-from-write-cores-arg c = c.before.before.before.before
-
-abbrev entry-from-write-cores : tie.After-write-cores → tie.Start
-entry-from-write-cores c = entry-from-write-cores-arg c.before
-
-abbrev entry-from-write-refused : tie.After-write-refused → tie.Start
-entry-from-write-refused c = (answer c).before.before.before
-
-enum_told : tie.Need-enum-told
+enum_told : tie.Need-enum_told-1
 enum_told c = search rules
 
-write-cores-requires : tie.Need-write-cores-requires
+write-cores-requires : tie.Need-write_cores-requires
 write-cores-requires c κs = search rules
 
-enum-known-answer : tie.Need-enum-known-answer
+enum-known-answer : tie.Need-enum_known-answer
 enum-known-answer c = search rules
 
-write-refused-requires : tie.Need-write-refused-requires
+write-refused-requires : tie.Need-write_refused-requires
 write-refused-requires c κs = search rules
 
-returns : tie.Need-returns
-returns c = let r = (entry-from-write-cores c).args in text_of (shown-taken r.cores r.row.answer r.row.bytes c.before.before.enum_told.given.1) c.write-cores.ensures
+returns : tie.Need-returns-in-Taken
+returns c = text_of (shown-taken c.args.cores c.args.row.answer c.args.row.bytes c.in-Taken.is) c.write_cores.ensures
 
-returns-2 : tie.Need-returns-2
-returns-2 c = let r = (entry-from-write-refused c).args in text_of (shown-refused r.cores r.row.answer r.row.bytes _ _ (answer c).answer.given.1) c.write-refused.ensures
+returns-2 : tie.Need-returns-in-Refused
+returns-2 c = text_of (shown-refused c.args.cores c.args.row.answer c.args.row.bytes _ _ c.in-Refused.is) c.write_refused.ensures
 
-pub write-row-spec : {M : Type 1} → statement M
-write-row-spec =
+pub write_row_spec : {M : Type 1} → statement M
+write_row_spec =
     tie.close
     (tie.spec
     enum_told

@@ -15,10 +15,6 @@ use Rattle.session.proofs.TextWritten.{text-put}
 use Rattle.session.proofs.replies.write_word.Statement.{statement}
 use Rattle.session.proofs.replies.write_word.Tie as tie
 
--- the state at the call
-abbrev entry : tie.After-copy → tie.Start
-entry c = c.before.before.before
-
 ends : (word before after : List ℕ) (n : ℕ) → Put before 0 (take (length word) (drop 0 word)) after n → n ≡ length word
 ends word before after n p = let q = subst (λ (x : List ℕ). Put before 0 x after n) (take-length word) p in omega (arith, q.ends)
 
@@ -31,19 +27,18 @@ word-text word before after n w h p =
     let k : length after ≡ length before = put-length q (omega (arith, q.ends, w, h)) in
     text-put (put_then q (put_one after n 10 (omega (arith, q.ends, w, h, k))) (omega (arith, q.ends, w, h))) (omega (arith, q.ends, w, h))
 
-copy-requires : tie.Need-copy-requires
+copy-requires : tie.Need-copy-end-requires
 copy-requires c κs = search rules
 
-element-write-out : tie.Need-element-write-out
-element-write-out c = omega (arith, ends (entry c).args.word.now _ _ _ c.copy.ensures, (entry c).requires)
+element-write-out : tie.Need-bounds-out-end
+element-write-out c = omega (arith, ends c.args.word.now _ _ _ c.copy-end.ensures, c.requires)
 
-add-result : tie.Need-overflow-add-result
-add-result c = omega (arith, ends (entry c).args.word.now _ _ _ c.copy.ensures, (entry c).requires)
+add-result : tie.Need-overflow_add-result
+add-result c = omega (arith, ends c.args.word.now _ _ _ c.copy-end.ensures, c.requires)
 
 returns : tie.Need-returns
 returns c =
-    let s = entry c in
-    let w : length s.args.out.now ≡ longest_reply = search rules in word-text s.args.word.now s.args.out.now _ _ w s.pre c.copy.ensures
+    let w : length c.args.out.now ≡ longest_reply = search rules in word-text c.args.word.now c.args.out.now _ _ w c.requires c.copy-end.ensures
 
-pub write-word-spec : {M : Type 1} → statement M
-write-word-spec = tie.close (tie.spec copy-requires element-write-out add-result returns)
+pub write_word_spec : {M : Type 1} → statement M
+write_word_spec = tie.close (tie.spec copy-requires element-write-out add-result returns)

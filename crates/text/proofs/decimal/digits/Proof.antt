@@ -8,26 +8,26 @@ use Rattle.text.proofs.Decimals.{count-one, count-more, count_most}
 use Rattle.text.proofs.decimal.digits.Statement.{statement}
 use Rattle.text.proofs.decimal.digits.Tie as tie
 
-abbrev invariant-loop : tie.invariant-loop
+abbrev invariant-loop : tie.invariant-loop-left
 invariant-loop number left₀ count₀ left count = (digit_count number + 1 ≡ count + digit_count left) × (left ≤ number)
 
-abbrev decreases-loop : tie.decreases-loop
+abbrev decreases-loop : tie.decreases-loop-left
 decreases-loop number left₀ count₀ left count = left
 
-loop-holds : tie.Need-loop-init invariant-loop decreases-loop
+loop-holds : tie.Need-loop-left-init invariant-loop decreases-loop
 loop-holds c = omega arith
 
-add-count : tie.Need-overflow-add-count invariant-loop decreases-loop
-add-count c = let n = c.before.before.args.number in omega (arith, count_most 19 n (omega arith))
+add-count : tie.Need-overflow_add-count invariant-loop decreases-loop
+add-count c = let n = c.args.number in omega (arith, count_most 19 n (omega arith))
 
-loop-less : tie.Need-loop-smaller invariant-loop decreases-loop
+loop-less : tie.Need-loop-left-smaller invariant-loop decreases-loop
 loop-less c = omega arith
 
-loop-again : tie.Need-loop-preserved invariant-loop decreases-loop
-loop-again c = omega (arith, count-more c.before.loop.left (omega arith))
+loop-again : tie.Need-loop-left-preserved invariant-loop decreases-loop
+loop-again c = omega (arith, count-more c.loop-left.left (omega arith))
 
 returns : tie.Need-returns invariant-loop decreases-loop
-returns c = omega (arith, count-one c.before.loop.left (omega arith))
+returns c = omega (arith, count-one c.loop-left.left (omega arith))
 
-pub digits-spec : {M : Type 1} → statement M
-digits-spec = tie.close (tie.spec invariant-loop decreases-loop loop-holds add-count loop-less loop-again returns)
+pub digits_spec : {M : Type 1} → statement M
+digits_spec = tie.close (tie.spec invariant-loop decreases-loop loop-holds add-count loop-less loop-again returns)

@@ -16,21 +16,21 @@ use Rattle.text.proofs.first.put_pair.Statement.{statement}
 use Rattle.text.proofs.first.put_pair.Tie as tie
 
 -- the state after `copy`
-abbrev copy : tie.After-put-field-arg → tie.After-copy
+abbrev copy : tie.After-put_field-arg-1 → tie.After-copy-start
 copy c = c.before.before.before
 
 -- the state after `put-field`
-abbrev put-field-from-put-field-arg2 : tie.After-put-field-arg2 → tie.After-put-field
+abbrev put-field-from-put-field-arg2 : tie.After-put_field-arg-2-1 → tie.After-put_field-middle
 put-field-from-put-field-arg2 c = c.before.before.before
 
-abbrev put-field-from-line3 : tie.After-line3 → tie.After-put-field
+abbrev put-field-from-line3 : tie.After-line-3-1 → tie.After-put_field-middle
 put-field-from-line3 c = put-field-from-put-field-arg2 c.before.before
 
 -- the state at the call
-abbrev entry-from-put-field-arg : tie.After-put-field-arg → tie.Start
+abbrev entry-from-put-field-arg : tie.After-put_field-arg-1 → tie.Start
 entry-from-put-field-arg c = (copy c).before.before.before.before
 
-abbrev entry-from-slice-known4 : tie.After-slice-known4 → tie.Start
+abbrev entry-from-slice-known4 : tie.After-slice_known-4-1 → tie.Start
 entry-from-slice-known4 c = entry-from-put-field-arg (put-field-from-line3 c.before).before
 
 -- the word is put, and then a field after it
@@ -52,57 +52,57 @@ field_put line m n s at end number most k f p q =
     (r, e, put-length r (omega arith))
 
 parts :
-    (c : tie.After-slice-known4)
+    (c : tie.After-slice_known-4-1)
     → (Put (entry-from-slice-known4 c).args.line.now 0
     (((entry-from-slice-known4 c).args.word.now ++ (space ∷ decimal (entry-from-slice-known4 c).args.first)) ++ (space ∷ decimal (entry-from-slice-known4 c).args.second))
-    c.before.before.put-field2.new.0 c.before.before.put-field2.result)
-    × (c.before.before.put-field2.result ≤ 7 + 11 + 11) × (length c.before.before.put-field2.new.0 ≡ length (entry-from-slice-known4 c).args.line.now)
+    c.put_field-end.new.line c.put_field-end.result)
+    × (c.put_field-end.result ≤ 7 + 11 + 11) × (length c.put_field-end.new.line ≡ length (entry-from-slice-known4 c).args.line.now)
 parts c =
     let a = (entry-from-slice-known4 c).args in
     let p = (entry-from-slice-known4 c).requires in
-    let w = word-put a.line.now a.word.now _ _ p.0 p.1 (copy (put-field-from-line3 c.before).before).copy.ensures in
-    let f = field_put a.line.now _ _ a.word.now _ _ a.first 7 p.1 (omega arith) w (put-field-from-line3 c.before).put-field.ensures in
-    field_put a.line.now _ _ (a.word.now ++ (space ∷ decimal a.first)) _ _ a.second (7 + 11) p.1 (omega arith) f c.before.before.put-field2.ensures
+    let w = word-put a.line.now a.word.now _ _ p.0 p.1 (copy (put-field-from-line3 c.before).before).copy-start.ensures in
+    let f = field_put a.line.now _ _ a.word.now _ _ a.first 7 p.1 (omega arith) w (put-field-from-line3 c.before).put_field-middle.ensures in
+    field_put a.line.now _ _ (a.word.now ++ (space ∷ decimal a.first)) _ _ a.second (7 + 11) p.1 (omega arith) f c.put_field-end.ensures
 
-copy-requires : tie.Need-copy-requires
+copy-requires : tie.Need-copy-start-requires
 copy-requires c κs = search rules
 
-put-field-requires : tie.Need-put-field-requires
+put-field-requires : tie.Need-put_field-middle-requires
 put-field-requires c κs =
     let start = entry-from-put-field-arg c in
     let a = start.args in
-    let w = word-put a.line.now a.word.now _ _ start.pre.0 start.pre.1 (copy c).copy.ensures in
+    let w = word-put a.line.now a.word.now _ _ start.requires.0 start.requires.1 (copy c).copy-start.ensures in
     omega (arith, w.1, w.2)
 
-put-field-requires-2 : tie.Need-put-field-requires-2
+put-field-requires-2 : tie.Need-put_field-end-requires
 put-field-requires-2 c κs =
     let pf = put-field-from-put-field-arg2 c in
     let a = (entry-from-put-field-arg pf.before).args in
     let p = (entry-from-put-field-arg pf.before).requires in
-    let w = word-put a.line.now a.word.now _ _ p.0 p.1 (copy pf.before).copy.ensures in
-    let f = field_put a.line.now _ _ a.word.now _ _ a.first 7 p.1 (omega arith) w pf.put-field.ensures in
+    let w = word-put a.line.now a.word.now _ _ p.0 p.1 (copy pf.before).copy-start.ensures in
+    let f = field_put a.line.now _ _ a.word.now _ _ a.first 7 p.1 (omega arith) w pf.put_field-middle.ensures in
     omega (arith, f.1, f.2)
 
-slice-write-line : tie.Need-slice-write-line
+slice-write-line : tie.Need-bounds-line-end
 slice-write-line c = omega (arith, (parts c).1, (parts c).2)
 
-add-result : tie.Need-overflow-add-result
+add-result : tie.Need-overflow_add-result
 add-result c = omega (arith, (parts c).1)
 
-same_length : tie.Need-same-length
-same_length c = length-set c.before.before.put-field2.new.0 c.before.before.put-field2.result 10 ∙ (parts c).2
+same_length : tie.Need-shape_of-line
+same_length c = length-set c.put_field-end.new.line c.put_field-end.result 10 ∙ (parts c).2
 
 returns : tie.Need-returns
 returns c =
     let a = (entry-from-slice-known4 c).args in
-    let f = c.before.before.put-field2 in (
-      subst (λ (s : List ℕ). Put a.line.now 0 s (set f.new.0 f.result 10) (f.result + 1)) (pair-text a.word.now a.first a.second)
-          (put_then (parts c).0 (put_one f.new.0 f.result 10 (omega (arith, (parts c).1, (parts c).2))) (omega (arith, (parts c).1))),
+    let f = c.put_field-end in (
+      subst (λ (s : List ℕ). Put a.line.now 0 s (set f.new.line f.result 10) (f.result + 1)) (pair-text a.word.now a.first a.second)
+          (put_then (parts c).0 (put_one f.new.line f.result 10 (omega (arith, (parts c).1, (parts c).2))) (omega (arith, (parts c).1))),
       omega (arith, (parts c).1),
     )
 
-pub put-pair-spec : {M : Type 1} → statement M
-put-pair-spec =
+pub put_pair_spec : {M : Type 1} → statement M
+put_pair_spec =
     tie.close
     (tie.spec
     copy-requires

@@ -9,45 +9,45 @@ use Rattle.text.proofs.Lines.{mark-here, mark_on, mark-none}
 use Rattle.text.proofs.line.end_from.Statement.{statement}
 use Rattle.text.proofs.line.end_from.Tie as tie
 
-abbrev invariant-loop : tie.invariant-loop
+abbrev invariant-loop : tie.invariant-loop-end
 invariant-loop bytes from mark end₀ end = from + length_to mark (drop from bytes) ≡ end + length_to mark (drop end bytes)
 
-abbrev decreases-loop : tie.decreases-loop
+abbrev decreases-loop : tie.decreases-loop-end
 decreases-loop bytes from mark end₀ end = length bytes - end
 
 -- the state at the head of the loop
-abbrev loop-from-then1 : tie.Then1 invariant-loop decreases-loop → tie.At-loop invariant-loop decreases-loop
+abbrev loop-from-then1 : tie.Then-bytes-end invariant-loop decreases-loop → tie.At-loop-end invariant-loop decreases-loop
 loop-from-then1 c = c.before.before.before
 
-abbrev loop-from-else1 : tie.Else1 invariant-loop decreases-loop → tie.At-loop invariant-loop decreases-loop
+abbrev loop-from-else1 : tie.Else-bytes-end invariant-loop decreases-loop → tie.At-loop-end invariant-loop decreases-loop
 loop-from-else1 c = c.before.before.before
 
-loop-holds : tie.Need-loop-init invariant-loop decreases-loop
+loop-holds : tie.Need-loop-end-init invariant-loop decreases-loop
 loop-holds c = omega arith
 
-shared-slice-read-if1 : tie.Need-shared-slice-read-if1 invariant-loop decreases-loop
+shared-slice-read-if1 : tie.Need-bounds-bytes-end invariant-loop decreases-loop
 shared-slice-read-if1 c = omega arith
 
-returns : tie.Need-returns invariant-loop decreases-loop
-returns c = let a = (loop-from-then1 c).before.args in omega (arith, mark-here a.mark a.bytes.now (loop-from-then1 c).loop.end (omega arith) c.if1.true)
+returns : tie.Need-returns-then-bytes-end invariant-loop decreases-loop
+returns c = let a = (loop-from-then1 c).args in omega (arith, mark-here a.mark a.bytes.now (loop-from-then1 c).loop-end.end (omega arith) c.if-bytes-end.true)
 
-add-end : tie.Need-overflow-add-end invariant-loop decreases-loop
+add-end : tie.Need-overflow_add-end invariant-loop decreases-loop
 add-end c = omega arith
 
-loop-less : tie.Need-loop-smaller invariant-loop decreases-loop
+loop-less : tie.Need-loop-end-smaller invariant-loop decreases-loop
 loop-less c = omega arith
 
-loop-again : tie.Need-loop-preserved invariant-loop decreases-loop
+loop-again : tie.Need-loop-end-preserved invariant-loop decreases-loop
 loop-again c =
-    let a = (loop-from-else1 c).before.args in
-    let e = mark_on a.mark a.bytes.now (loop-from-else1 c).loop.end (omega arith) c.if1.false in
+    let a = (loop-from-else1 c).args in
+    let e = mark_on a.mark a.bytes.now (loop-from-else1 c).loop-end.end (omega arith) c.if-bytes-end.false in
     omega arith
 
-returns-2 : tie.Need-returns-2 invariant-loop decreases-loop
-returns-2 c = let a = c.before.before.args in omega (arith, mark-none a.mark a.bytes.now c.before.loop.end (omega arith))
+returns-2 : tie.Need-returns invariant-loop decreases-loop
+returns-2 c = let a = c.args in omega (arith, mark-none a.mark a.bytes.now c.loop-end.end (omega arith))
 
-pub end-from-spec : {M : Type 1} → statement M
-end-from-spec =
+pub end_from_spec : {M : Type 1} → statement M
+end_from_spec =
     tie.close
     (tie.spec
     invariant-loop

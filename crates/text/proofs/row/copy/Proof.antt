@@ -12,61 +12,61 @@ use Rattle.text.proofs.Writing.{put-none, put_next}
 use Rattle.text.proofs.row.copy.Statement.{statement}
 use Rattle.text.proofs.row.copy.Tie as tie
 
-abbrev invariant-loop : tie.invariant-loop
+abbrev invariant-loop : tie.invariant-loop-k
 invariant-loop from start count to₀ at k₀ to k = Put to₀ at (take k (drop start from)) to (at + k) × (k ≤ count) × (length to ≡ length to₀)
 
-abbrev decreases-loop : tie.decreases-loop
+abbrev decreases-loop : tie.decreases-loop-k
 decreases-loop from start count to₀ at k₀ to k = count - k
 
 -- the state at the call
-abbrev entry : tie.After-shared-slice-known invariant-loop decreases-loop → tie.Start invariant-loop decreases-loop
+abbrev entry : tie.After-shared_slice_known-1 invariant-loop decreases-loop → tie.Start invariant-loop decreases-loop
 entry c = c.before.before.before
 
-loop-holds : tie.Need-loop-init invariant-loop decreases-loop
+loop-holds : tie.Need-loop-k-init invariant-loop decreases-loop
 loop-holds c = (rw add-zero (put-none _ _), omega arith, refl)
 
-add-to : tie.Need-overflow-add-to invariant-loop decreases-loop
+add-to : tie.Need-overflow_add-to invariant-loop decreases-loop
 add-to c = search rules
 
-shared-slice-read-to : tie.Need-shared-slice-read-to invariant-loop decreases-loop
+shared-slice-read-to : tie.Need-bounds-from-start invariant-loop decreases-loop
 shared-slice-read-to c = search rules
 
-add-to-2 : tie.Need-overflow-add-to-2 invariant-loop decreases-loop
+add-to-2 : tie.Need-overflow_add-to-in-loop-k invariant-loop decreases-loop
 add-to-2 c = search rules
 
-slice-write-to : tie.Need-slice-write-to invariant-loop decreases-loop
+slice-write-to : tie.Need-bounds-to-at invariant-loop decreases-loop
 slice-write-to c = search rules
 
-add-k : tie.Need-overflow-add-k invariant-loop decreases-loop
+add-k : tie.Need-overflow_add-k invariant-loop decreases-loop
 add-k c = search rules
 
-loop-less : tie.Need-loop-smaller invariant-loop decreases-loop
+loop-less : tie.Need-loop-k-smaller invariant-loop decreases-loop
 loop-less c = search rules
 
-loop-again : tie.Need-loop-preserved invariant-loop decreases-loop
+loop-again : tie.Need-loop-k-preserved invariant-loop decreases-loop
 loop-again c =
-    let l = c.before.before.loop in
+    let l = c.loop-k in
     let a = (entry c).args in
     let s = drop a.start a.from.now in
-    let inside : l.k < length s = omega (arith, length-drop a.start a.from.now, c.before.loop-test.true) in
+    let inside : l.k < length s = omega (arith, length-drop a.start a.from.now, c.loop-k-test.true) in
     let p : Put a.to.now a.at (take (l.k + 1) s) (set l.to (a.at + l.k) (get_or s l.k 0)) (a.at + (l.k + 1)) =
-    put_next a.to.now l.to a.at l.k s l.invariant.0 inside (omega (arith, c.before.loop-test.true)) l.invariant.2 in (
+    put_next a.to.now l.to a.at l.k s l.invariant.0 inside (omega (arith, c.loop-k-test.true)) l.invariant.2 in (
       subst (λ (x : ℕ). Put a.to.now a.at (take (l.k + 1) s) (set l.to (a.at + l.k) x) (a.at + (l.k + 1))) (get_or-drop a.start a.from.now l.k 0) p,
-      omega (arith, c.before.loop-test.true),
+      omega (arith, c.loop-k-test.true),
       length-set l.to _ _ ∙ l.invariant.2,
     )
 
-add-result : tie.Need-overflow-add-result invariant-loop decreases-loop
+add-result : tie.Need-overflow_add-result invariant-loop decreases-loop
 add-result c = search rules
 
-same_length : tie.Need-same-length invariant-loop decreases-loop
+same_length : tie.Need-shape_of-to invariant-loop decreases-loop
 same_length c = search rules
 
 returns : tie.Need-returns invariant-loop decreases-loop
 returns c =
-    let l = c.before.loop in
-    let a = c.before.before.args in
-    let over : l.k ≡ a.count = omega (arith, c.loop-test.false) in
+    let l = c.loop-k in
+    let a = c.args in
+    let over : l.k ≡ a.count = omega (arith, c.loop-k-test.false) in
     subst (λ (k : ℕ). Put a.to.now a.at (take k (drop a.start a.from.now)) l.to (a.at + k)) over l.invariant.0
 
 pub copy_spec : {M : Type 1} → statement M
