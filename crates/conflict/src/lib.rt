@@ -1,4 +1,6 @@
 // The tasks in conflict: a table that misses, cut down to tasks of which none can be dropped.
+#![tactic(auto)]
+
 ghost use Rattle.std.specs.Prelude.{◌≡◌};
 ghost use Rattle.conflict.specs.Answer.{no_conflict, ConflictOf};
 
@@ -9,7 +11,7 @@ pub mod links; // links.rt: the words of the kept tasks
 mod passes; // passes.rt: the passes that drop the tasks that are not needed
 
 // The answer: passed, or Refused with number and position. And the set of the positions kept, bit 0 for position 1; empty in a refusal.
-#[derive(Drop)]
+#[derive(Clone, Copy)]
 pub struct ConflictAnswer {
     pub answer: Answer,
     pub kept: u32,

@@ -1,5 +1,5 @@
 -- The bytes that a printer has left, and the contract of each piece, for every printer, valid or not.
-use Rattle.std.specs.Prelude.{true, false, cond, List, [], ◌++◌, ◌≡◌, ℕ, ◌+◌, ◌-◌, ◌≤◌, ◌<◌, min, length, take, drop}
+use Rattle.std.specs.Prelude.{true, false, cond, List, [], ◌++◌, ◌≡◌, ℕ, ◌-◌, ◌≤◌, ◌<◌, min, length, take, drop}
 use Rattle.model.specs.Lists.{Missed}
 use Rattle.table.specs.declared.Loaded.{Loaded}
 use Rattle.table.specs.Words.{table_of}

@@ -1,4 +1,6 @@
 // Everything that the program prints for an input, piece by piece.
+#![tactic(auto)]
+
 ghost use Rattle.std.specs.Prelude.{true, ◌≡◌, ◌≤◌, take};
 ghost use Rattle.simulation.specs.TickState.{numbers_by, tick_state_of};
 ghost use Rattle.printer.specs.Valid.{valid};
@@ -18,7 +20,7 @@ use text::row::{CELLS, LINE};
 use text::{first, row};
 
 // The state of the printing: the registers of its run, the length of the row's text, and that of the line.
-#[derive(Drop)]
+#[derive(Clone, Copy)]
 pub struct Stage {
     pub registers: Registers,
     pub text: usize,
@@ -27,7 +29,7 @@ pub struct Stage {
 
 // What is left to print of an input: the table, where its rows end, its run, the text of the row,
 // the line that is being written, and how much of it has been.
-#[derive(Drop)]
+#[derive(Clone, Copy)]
 pub struct Printer {
     pub table: Loaded,
     pub end: u32,
@@ -39,7 +41,7 @@ pub struct Printer {
 }
 
 // The number of bytes written, and the printer of what is left.
-#[derive(Drop)]
+#[derive(Clone, Copy)]
 pub struct Piece {
     pub printer: Printer,
     pub length: usize,

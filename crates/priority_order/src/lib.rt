@@ -1,4 +1,6 @@
 // An order of priorities under which a table is accepted: five sorted orders are tried, then the one with the latest first miss is repaired.
+#![tactic(auto)]
+
 ghost use Rattle.std.specs.Prelude.{◌≡◌, ◌<◌, ◌≤◌, ◌+◌};
 ghost use Rattle.model.specs.Sizes.{most_tasks};
 ghost use Rattle.table.specs.Load.{LoadOf};
@@ -25,7 +27,7 @@ pub const JUDGINGS: u32 = 200;
 const SORTED: u32 = 5;
 
 // Firm or Full with S and P in the order given; none of this number of orders fits; or Refused with number and position.
-#[derive(Drop)]
+#[derive(Clone, Copy)]
 pub enum Outcome {
     Firm(u32, u32),
     Full(u32, u32),
@@ -34,14 +36,14 @@ pub enum Outcome {
 }
 
 // The outcome, and beside it the order: positions of the given table, highest priority first, and zeros past the count. All zero where no order is given.
-#[derive(Drop)]
+#[derive(Clone, Copy)]
 pub struct OrderAnswer {
     pub outcome: Outcome,
     pub order: [u32; MOST_TASKS],
 }
 
 // The first of the five that is accepted, with its verdict.
-#[derive(Drop)]
+#[derive(Clone, Copy)]
 pub struct Accepted {
     pub some: bool,
     pub verdict: Verdict,

@@ -9,7 +9,7 @@ use judge::Verdict;
 use model::MOST_TASKS;
 
 // An order, and where it misses its first miss; else zeros.
-#[derive(Drop)]
+#[derive(Clone, Copy)]
 pub struct Late {
     pub some: bool,
     pub tick: u32,
@@ -18,7 +18,7 @@ pub struct Late {
 }
 
 // The order that follows one, or none.
-#[derive(Drop)]
+#[derive(Clone, Copy)]
 pub struct Next {
     pub some: bool,
     pub order: [u32; MOST_TASKS],

@@ -7,7 +7,6 @@ use Prim.Native.Nat.{ℕ, suc, zero, ◌%◌, ◌+◌, ◌-◌, ◌<◌, ◌≤�
 use native.Mathlib.Nat.{add-suc}
 use native.Mathlib.Omega.{arith}
 use lib.Dec.{eqb, ltb}
-use lib.ListN.{length}
 use borrow.Author.Tests.{ltb-false, ltb-true}
 use Rattle.model.proofs.Bools.{and_both, not-true-false}
 use Rattle.model.proofs.Examples.{on, t}

@@ -1,4 +1,6 @@
 // Slack: by how many ticks each task of a table alone may become longer.
+#![tactic(auto)]
+
 ghost use Rattle.std.specs.Prelude.{◌≡◌};
 ghost use Rattle.table.specs.Fit.{loaded_table, Fit};
 ghost use Rattle.slack.specs.Answer.{slack_in, has_slack, slack_answer, no_slack, SlackOf};
@@ -9,7 +11,7 @@ use table::{Answer, Loaded};
 mod growth; // growth.rt: a table with one task longer, and the slack of a task
 
 // The answer: passed, or Refused with number and position. And the slack of each task in priority order; zeros past the count, and in a refusal.
-#[derive(Drop)]
+#[derive(Clone, Copy)]
 pub struct SlackAnswer {
     pub answer: Answer,
     pub slack: [u32; MOST_TASKS],

@@ -9,32 +9,32 @@ use Rattle.printer.proofs.of_words.Statement.{statement}
 use Rattle.printer.proofs.of_words.Tie as tie
 
 -- the state after `load`
-abbrev load : tie.After-start → tie.After-load
+abbrev load : tie.After-start → tie.After-load-table
 load c = c.before.before.before
 
 -- the state at the call
-abbrev entry : tie.After-rows-end → tie.Start
+abbrev entry : tie.After-rows_end-end → tie.Start
 entry c = c.before.before.before.before
 
-load-requires : tie.Need-load-requires
+load-requires : tie.Need-load-table-requires
 load-requires c κs = search rules
 
-judge-requires : tie.Need-judge-requires
+judge-requires : tie.Need-judge-verdict-requires
 judge-requires c κs = search rules
 
-rows-end-requires : tie.Need-rows-end-requires
+rows-end-requires : tie.Need-rows_end-end-requires
 rows-end-requires c κs = search rules
 
 start-requires : tie.Need-start-requires
-start-requires c κs = load-small (entry c).args.words.now c.before.before.load.result c.before.before.load.ensures
+start-requires c κs = load-small (entry c).args.words.now c.load-table.result c.load-table.ensures
 
 returns : tie.Need-returns
 returns c =
-    let l = (load c).load in
-    let j = c.before.before.judge in
+    let l = (load c).load-table in
+    let j = c.judge-verdict in
     words-made (entry c.before).args.words.now l.result j.result c.start.result l.ensures j.ensures
-    (subst (λ (e : ℕ). PrinterStartOf l.result e j.result c.start.result) c.before.rows_end.ensures c.start.ensures)
+    (subst (λ (e : ℕ). PrinterStartOf l.result e j.result c.start.result) c.rows_end-end.ensures c.start.ensures)
 
-pub of-words-spec : {M : Type 1} → statement M
-of-words-spec =
+pub of_words_spec : {M : Type 1} → statement M
+of_words_spec =
     tie.close (tie.spec load-requires judge-requires rows-end-requires start-requires returns)

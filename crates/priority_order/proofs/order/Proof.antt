@@ -6,37 +6,33 @@ use borrow.Author.Rules.{rules}
 use Rattle.priority_order.proofs.order.Statement.{statement}
 use Rattle.priority_order.proofs.order.Tie as tie
 
-load-requires : tie.Need-load-requires
+load-requires : tie.Need-load-table-requires
 load-requires c κs = search rules
 
-enum_told : tie.Need-enum-told
+enum_told : tie.Need-enum_told-1
 enum_told c = search rules
 
 search-requires : tie.Need-search-requires
-search-requires c κs = let l = c.before.before in (l.load.ensures.passed.0 (ap load_meaning c.enum_told.given.1), l.load.ensures)
+search-requires c κs = (c.load-table.ensures.passed.0 (ap load_meaning c.in-Passed.is), c.load-table.ensures)
 
-enum-known-answer : tie.Need-enum-known-answer
+enum-known-answer : tie.Need-enum_known-answer
 enum-known-answer c = search rules
 
 without-requires : tie.Need-without-requires
 without-requires c κs = search rules
 
-returns : tie.Need-returns
+returns : tie.Need-returns-in-Passed
 returns c =
-    let l = c.before.before.before in
-    let s = l.before.before in
-    passed-order s.args.words.now (l.load.ensures.passed.0 (ap load_meaning c.before.enum_told.given.1)) s.args.judgings
+    passed-order c.args.words.now (c.load-table.ensures.passed.0 (ap load_meaning c.in-Passed.is)) c.args.judgings
     c.search.result c.search.ensures
 
-returns-2 : tie.Need-returns-2
+returns-2 : tie.Need-returns-in-Refused
 returns-2 c =
-    let l = c.before.before.before.before in
-    let s = l.before.before in
-    refused-order s.args.words.now s.args.judgings _ _
-    ((l.load.ensures.refused _ _).0 (ap load_meaning c.before.before.answer.given.1)) c.without.result c.without.ensures
+    refused-order c.args.words.now c.args.judgings _ _
+    ((c.load-table.ensures.refused _ _).0 (ap load_meaning c.in-Refused.is)) c.without.result c.without.ensures
 
-pub order-spec : {M : Type 1} → statement M
-order-spec =
+pub order_spec : {M : Type 1} → statement M
+order_spec =
     tie.close
     (tie.spec
     load-requires

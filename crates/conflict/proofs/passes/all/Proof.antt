@@ -8,15 +8,15 @@ use Rattle.model.proofs.Digits.{shifted_one}
 use Rattle.conflict.proofs.passes.all.Statement.{statement}
 use Rattle.conflict.proofs.passes.all.Tie as tie
 
-shl-result : tie.Need-overflow-shl-result
+shl-result : tie.Need-overflow_shl-result
 shl-result c = search rules
 
-sub-result : tie.Need-overflow-sub-result
+sub-result : tie.Need-overflow_sub-result
 sub-result c =
     let n = c.args.count in
     omega (arith, shifted_one 64 n (omega (arith, c.requires)), pow_pos n)
 
-cast-result : tie.Need-overflow-cast-result
+cast-result : tie.Need-overflow_cast-result-2
 cast-result c =
     let n = c.args.count in
     let most : 2 ^ n ≤ 2 ^ 32 = pow_mono c.requires in
@@ -27,5 +27,5 @@ returns c =
     let n = c.args.count in
     ap (λ (x : ℕ). x - 1) (shifted_one 64 n (omega (arith, c.requires)))
 
-pub all-spec : {M : Type 1} → statement M
-all-spec = tie.close (tie.spec shl-result sub-result cast-result returns)
+pub all_spec : {M : Type 1} → statement M
+all_spec = tie.close (tie.spec shl-result sub-result cast-result returns)

@@ -8,39 +8,39 @@ use Rattle.conflict.proofs.Dropping.{pass-none, pass_step}
 use Rattle.conflict.proofs.passes.pass.Statement.{statement}
 use Rattle.conflict.proofs.passes.pass.Tie as tie
 
-abbrev invariant-loop : tie.invariant-loop
+abbrev invariant-loop : tie.invariant-loop-place
 invariant-loop words count kept left₀ place₀ left place = (place ≤ count) × (pass (table_of words) place left ≡ pass (table_of words) count kept)
 
-abbrev decreases-loop : tie.decreases-loop
+abbrev decreases-loop : tie.decreases-loop-place
 decreases-loop words count kept left₀ place₀ left place = place
 
-loop-holds : tie.Need-loop-init invariant-loop decreases-loop
+loop-holds : tie.Need-loop-place-init invariant-loop decreases-loop
 loop-holds c = (omega arith, refl)
 
-sub-place : tie.Need-overflow-sub-place invariant-loop decreases-loop
-sub-place c = omega (arith, c.loop-test.true)
+sub-place : tie.Need-overflow_sub-place invariant-loop decreases-loop
+sub-place c = omega (arith, c.loop-place-test.true)
 
-dropped-requires : tie.Need-dropped-requires invariant-loop decreases-loop
+dropped-requires : tie.Need-dropped-left-requires invariant-loop decreases-loop
 dropped-requires c κs =
     let s = c.before.before.before in
-    (s.requires.0, omega (arith, s.requires.1, c.before.loop.invariant.0, c.loop-test.true))
+    (s.requires.0, omega (arith, s.requires.1, c.loop-place.invariant.0, c.loop-place-test.true))
 
-loop-less : tie.Need-loop-smaller invariant-loop decreases-loop
-loop-less c = omega (arith, c.before.loop-test.true)
+loop-less : tie.Need-loop-place-smaller invariant-loop decreases-loop
+loop-less c = omega (arith, c.loop-place-test.true)
 
-loop-again : tie.Need-loop-preserved invariant-loop decreases-loop
+loop-again : tie.Need-loop-place-preserved invariant-loop decreases-loop
 loop-again c =
-    let l = c.before.before.loop in
-    let s = table_of c.before.before.before.before.args.words.now in (
+    let l = c.loop-place in
+    let s = table_of c.args.words.now in (
       omega (arith, l.invariant.0),
-      ap (pass s (l.place - 1)) c.dropped.ensures ∙ (pass_step s l.place l.left c.before.loop-test.true ∙ l.invariant.1),
+      ap (pass s (l.place - 1)) c.dropped-left.ensures ∙ (pass_step s l.place l.left c.loop-place-test.true ∙ l.invariant.1),
     )
 
 returns : tie.Need-returns invariant-loop decreases-loop
 returns c =
-    let l = c.before.loop in
-    let s = table_of c.before.before.before.args.words.now in
-    sym (pass-none s l.place l.left (omega (arith, c.loop-test.false))) ∙ l.invariant.1
+    let l = c.loop-place in
+    let s = table_of c.args.words.now in
+    sym (pass-none s l.place l.left (omega (arith, c.loop-place-test.false))) ∙ l.invariant.1
 
 pub pass_spec : {M : Type 1} → statement M
 pass_spec =

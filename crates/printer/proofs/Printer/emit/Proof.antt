@@ -5,7 +5,6 @@ use native.Mathlib.Omega.{arith}
 use mathlib.Core.List.{List}
 use mathlib.Core.Path.{◌≡◌, sym}
 use Prim.Native.Nat.{ℕ, ◌+◌, ◌-◌, ◌<◌}
-use lib.ListN.{length-map}
 use Rattle.simulation.specs.TickState.{Numbers, numbers_by, loaded_numbers}
 use Rattle.simulation.proofs.Parts.{sized_of}
 use Rattle.simulation.proofs.Steps.{tick-on}
@@ -16,186 +15,186 @@ use Rattle.printer.proofs.Limits.{valid-limits}
 use Rattle.printer.proofs.Printer.emit.Statement.{statement}
 use Rattle.printer.proofs.Printer.emit.Tie as tie
 
-abbrev invariant-loop : tie.invariant-loop
+abbrev invariant-loop : tie.invariant-loop-given
 invariant-loop buffer₀ table end setting widths times places₀ stage₀ text₀ line₀ given₀ at₀ buffer places stage text line given at =
     Emitting
     (record { table = table; end = end; places = places₀; stage = stage₀; row = text₀; line = line₀; given = given₀ })
     (record { table = table; end = end; places = places; stage = stage; row = text; line = line; given = given })
     buffer₀ buffer at
 
-abbrev decreases-loop : tie.decreases-loop
+abbrev decreases-loop : tie.decreases-loop-given
 decreases-loop buffer₀ table end setting widths times places₀ stage₀ text₀ line₀ given₀ at₀ buffer places stage text line given at = end - stage.registers.tick
 
 -- the state after `copy`
-abbrev copy : tie.After-struct-known2 invariant-loop decreases-loop → tie.After-copy invariant-loop decreases-loop
+abbrev copy : tie.After-struct_known-in-loop-given-1 invariant-loop decreases-loop → tie.After-copy-at invariant-loop decreases-loop
 copy c = c.before.before.before
 
 -- the state at the head of the loop
-abbrev loop-from-line2 : tie.After-line2 invariant-loop decreases-loop → tie.At-loop invariant-loop decreases-loop
+abbrev loop-from-line2 : tie.After-line-in-loop-given-1 invariant-loop decreases-loop → tie.At-loop-given invariant-loop decreases-loop
 loop-from-line2 c = c.before.before.before
 
 -- the state after `struct-known2`
-abbrev struct-known2-from-else2 : tie.Else2 invariant-loop decreases-loop → tie.After-struct-known2 invariant-loop decreases-loop
+abbrev struct-known2-from-else2 : tie.Else-stage-end invariant-loop decreases-loop → tie.After-struct_known-in-loop-given-1 invariant-loop decreases-loop
 struct-known2-from-else2 c = c.before.before.before
 
-abbrev struct-known2-from-then2 : tie.Then2 invariant-loop decreases-loop → tie.After-struct-known2 invariant-loop decreases-loop
+abbrev struct-known2-from-then2 : tie.Then-stage-end invariant-loop decreases-loop → tie.After-struct_known-in-loop-given-1 invariant-loop decreases-loop
 struct-known2-from-then2 c = c.before.before.before
 
 -- the state after `smaller`
-abbrev smaller-from-buffer : tie.After-buffer invariant-loop decreases-loop → tie.After-smaller invariant-loop decreases-loop
+abbrev smaller-from-buffer : tie.After-buffer-1 invariant-loop decreases-loop → tie.After-smaller-part invariant-loop decreases-loop
 smaller-from-buffer c = c.before.before.before.before
 
-abbrev smaller-from-slice-known2 : tie.After-slice-known2 invariant-loop decreases-loop → tie.After-smaller invariant-loop decreases-loop
+abbrev smaller-from-slice-known2 : tie.After-slice_known-in-loop-given-1 invariant-loop decreases-loop → tie.After-smaller-part invariant-loop decreases-loop
 smaller-from-slice-known2 c = smaller-from-buffer c.before
 
 -- the state where the test `if2` fails
-abbrev else2-from-text2 : tie.After-text2 invariant-loop decreases-loop → tie.Else2 invariant-loop decreases-loop
+abbrev else2-from-text2 : tie.After-text-in-loop-given-1 invariant-loop decreases-loop → tie.Else-stage-end invariant-loop decreases-loop
 else2-from-text2 c = c.before.before.before.before
 
-abbrev else2-from-line3 : tie.After-line3 invariant-loop decreases-loop → tie.Else2 invariant-loop decreases-loop
+abbrev else2-from-line3 : tie.After-line-in-loop-given-2-1 invariant-loop decreases-loop → tie.Else-stage-end invariant-loop decreases-loop
 else2-from-line3 c = else2-from-text2 c.before
 
 -- the state at the head of the loop
-abbrev loop-from-slice-known2 : tie.After-slice-known2 invariant-loop decreases-loop → tie.At-loop invariant-loop decreases-loop
+abbrev loop-from-slice-known2 : tie.After-slice_known-in-loop-given-1 invariant-loop decreases-loop → tie.At-loop-given invariant-loop decreases-loop
 loop-from-slice-known2 c = (smaller-from-slice-known2 c).before.before
 
-abbrev loop-from-else2 : tie.Else2 invariant-loop decreases-loop → tie.At-loop invariant-loop decreases-loop
+abbrev loop-from-else2 : tie.Else-stage-end invariant-loop decreases-loop → tie.At-loop-given invariant-loop decreases-loop
 loop-from-else2 c = loop-from-slice-known2 c.before.before.before.before
 
 -- the state after `columns_of`
-abbrev columns-of-from-places : tie.After-places invariant-loop decreases-loop → tie.After-columns-of invariant-loop decreases-loop
+abbrev columns-of-from-places : tie.After-places-1 invariant-loop decreases-loop → tie.After-columns_of-columns invariant-loop decreases-loop
 columns-of-from-places c = c.before.before.before.before
 
-abbrev columns-of-from-loop : tie.At-loop invariant-loop decreases-loop → tie.After-columns-of invariant-loop decreases-loop
+abbrev columns-of-from-loop : tie.At-loop-given invariant-loop decreases-loop → tie.After-columns_of-columns invariant-loop decreases-loop
 columns-of-from-loop c = columns-of-from-places c.before.before.before.before
 
 -- the state at the call
-abbrev entry : tie.After-line invariant-loop decreases-loop → tie.Start invariant-loop decreases-loop
+abbrev entry : tie.After-line-1 invariant-loop decreases-loop → tie.Start invariant-loop decreases-loop
 entry c = (columns-of-from-places c.before.before.before).before.before.before
 
 -- the printer and the buffer that the function is given, and the printer that the loop has come to
-abbrev given-of : tie.At-loop invariant-loop decreases-loop → Printer
+abbrev given-of : tie.At-loop-given invariant-loop decreases-loop → Printer
 given-of c = (entry c.before).args.self
 
-abbrev buffer-of : tie.At-loop invariant-loop decreases-loop → List ℕ
+abbrev buffer-of : tie.At-loop-given invariant-loop decreases-loop → List ℕ
 buffer-of c = (entry c.before).args.buffer.now
 
-abbrev now_of : tie.At-loop invariant-loop decreases-loop → Printer
+abbrev now_of : tie.At-loop-given invariant-loop decreases-loop → Printer
 now_of c = record {
   table = (given-of c).table;
   end = (given-of c).end;
-  places = c.loop.places;
-  stage = c.loop.stage;
-  row = c.loop.text;
-  line = c.loop.line;
-  given = c.loop.given;
+  places = c.loop-given.places;
+  stage = c.loop-given.stage;
+  row = c.loop-given.text;
+  line = c.loop-given.line;
+  given = c.loop-given.given;
 }
 
 -- the numbers that its run is stepped with
-abbrev numbers_of : tie.At-loop invariant-loop decreases-loop → Numbers
+abbrev numbers_of : tie.At-loop-given invariant-loop decreases-loop → Numbers
 numbers_of c =
     let co = columns-of-from-loop c in
-    numbers_by co.columns_of.result.setting co.columns_of.result.widths co.columns_of.result.times
+    numbers_by co.columns_of-columns.result.setting co.columns_of-columns.result.widths co.columns_of-columns.result.times
 
-numbers : (c : tie.At-loop invariant-loop decreases-loop) → numbers_of c ≡ loaded_numbers (given-of c).table
-numbers c = (columns-of-from-loop c).columns_of.ensures
+numbers : (c : tie.At-loop-given invariant-loop decreases-loop) → numbers_of c ≡ loaded_numbers (given-of c).table
+numbers c = (columns-of-from-loop c).columns_of-columns.ensures
 
 -- .. after a part of its line
-abbrev after-part : tie.After-struct-known2 invariant-loop decreases-loop → Printer
-after-part c = at-given (now_of (loop-from-slice-known2 c.before)) ((loop-from-slice-known2 c.before).loop.given + (smaller-from-slice-known2 c.before).smaller.result)
+abbrev after-part : tie.After-struct_known-in-loop-given-1 invariant-loop decreases-loop → Printer
+after-part c = at-given (now_of (loop-from-slice-known2 c.before)) ((loop-from-slice-known2 c.before).loop-given.given + (smaller-from-slice-known2 c.before).smaller-part.result)
 
 split-at-end :
-    (c : tie.After-struct-known2 invariant-loop decreases-loop)
-    → Emitting (given-of (loop-from-slice-known2 c.before)) (after-part c) (buffer-of (loop-from-slice-known2 c.before)) (copy c).copy.new.1.1.1.0 (copy c).copy.result
+    (c : tie.After-struct_known-in-loop-given-1 invariant-loop decreases-loop)
+    → Emitting (given-of (loop-from-slice-known2 c.before)) (after-part c) (buffer-of (loop-from-slice-known2 c.before)) (copy c).copy-at.new.to (copy c).copy-at.result
 split-at-end c =
     let copy-state = copy c in
     let l = loop-from-slice-known2 c.before in
-    emit-part (given-of l) (now_of l) (buffer-of l) l.loop.buffer copy-state.copy.last.1.1.1.0 l.loop.at copy-state.copy.result
-    (smaller-from-slice-known2 c.before).smaller.result l.loop.inv (smaller-from-slice-known2 c.before).smaller.ensures copy-state.copy.ensures
+    emit-part (given-of l) (now_of l) (buffer-of l) l.loop-given.buffer copy-state.copy-at.new.to l.loop-given.at copy-state.copy-at.result
+    (smaller-from-slice-known2 c.before).smaller-part.result l.loop-given.invariant (smaller-from-slice-known2 c.before).smaller-part.ensures copy-state.copy-at.ensures
 
 -- a row is to come
-early : (c : tie.Else2 invariant-loop decreases-loop) → (loop-from-else2 c).loop.stage.registers.tick < (given-of (loop-from-else2 c)).end
-early c = omega (arith, (split-at-end (struct-known2-from-else2 c)).limits.tick, c.if2.false)
+early : (c : tie.Else-stage-end invariant-loop decreases-loop) → (loop-from-else2 c).loop-given.stage.registers.tick < (given-of (loop-from-else2 c)).end
+early c = omega (arith, (split-at-end (struct-known2-from-else2 c)).limits.tick, c.if-stage-end.false)
 
 stepping :
-    (c : tie.Else2 invariant-loop decreases-loop)
-    → Stepping (numbers_of (loop-from-else2 c)) (loop-from-else2 c).loop.stage (loop-from-else2 c).loop.places (loop-from-else2 c).loop.text (loop-from-else2 c).loop.line
+    (c : tie.Else-stage-end invariant-loop decreases-loop)
+    → Stepping (numbers_of (loop-from-else2 c)) (loop-from-else2 c).loop-given.stage (loop-from-else2 c).loop-given.places (loop-from-else2 c).loop-given.text (loop-from-else2 c).loop-given.line
 stepping c =
     let sk = struct-known2-from-else2 c in
     stepping-of (after-part sk) (numbers_of (loop-from-else2 c)) (numbers (loop-from-else2 c)) (split-at-end sk).limits (split-at-end sk).arrays (early c)
 
-columns-of-requires : tie.Need-columns-of-requires invariant-loop decreases-loop
+columns-of-requires : tie.Need-columns_of-columns-requires invariant-loop decreases-loop
 columns-of-requires c κs = search rules
 
-loop-holds : tie.Need-loop-init invariant-loop decreases-loop
+loop-holds : tie.Need-loop-given-init invariant-loop decreases-loop
 loop-holds c =
     let s = entry c in
-    let g = s.good.0.1.1 in
-    emit-start s.args.self s.args.buffer.now (valid-limits s.args.self s.pre) (record {
-      sized = sized_of s.args.self.places s.args.self.stage.registers.claiming (simp length-map at g.1.1.0.1.0.1);
-      wide = simp length-map at g.1.1.1.1.0.1.0.1;
-      long = simp length-map at g.1.1.1.1.1.0.1.0.1;
+    let g = s.well_formed.0.1.1 in
+    emit-start s.args.self s.args.buffer.now (valid-limits s.args.self s.requires) (record {
+      sized = sized_of s.args.self.places s.args.self.stage.registers.claiming g.1.1.0.1.0.1;
+      wide = g.1.1.1.1.0.1.0.1;
+      long = g.1.1.1.1.1.0.1.0.1;
     })
 
-sub-smaller : tie.Need-overflow-sub-smaller invariant-loop decreases-loop
-sub-smaller c = c.before.loop.invariant.limits.given
+sub-smaller : tie.Need-overflow_sub-stage invariant-loop decreases-loop
+sub-smaller c = c.loop-given.invariant.limits.given
 
-sub-smaller-2 : tie.Need-overflow-sub-smaller-2 invariant-loop decreases-loop
-sub-smaller-2 c = omega (arith, c.before.loop.invariant.room, c.before.loop.invariant.same)
+sub-smaller-2 : tie.Need-overflow_sub-buffer invariant-loop decreases-loop
+sub-smaller-2 c = omega (arith, c.loop-given.invariant.room, c.loop-given.invariant.same)
 
-smaller-requires : tie.Need-smaller-requires invariant-loop decreases-loop
+smaller-requires : tie.Need-smaller-part-requires invariant-loop decreases-loop
 smaller-requires c κs = search rules
 
-slice-aggregate-copy : tie.Need-slice-aggregate-copy invariant-loop decreases-loop
-slice-aggregate-copy c = sym (loop-from-line2 c).loop.invariant.arrays.long
+slice-aggregate-copy : tie.Need-slice_bounds-copy-end invariant-loop decreases-loop
+slice-aggregate-copy c = sym (loop-from-line2 c).loop-given.invariant.arrays.long
 
-copy-requires : tie.Need-copy-requires invariant-loop decreases-loop
+copy-requires : tie.Need-copy-at-requires invariant-loop decreases-loop
 copy-requires c κs =
-    let i = (loop-from-line2 c.before).loop.inv in (
-      omega (arith, c.before.before.smaller.ensures, i.limits.given, i.limits.ready, i.arrays.long),
-      omega (arith, c.before.before.smaller.ensures, i.room, i.same),
+    let i = (loop-from-line2 c.before).loop-given.invariant in (
+      omega (arith, c.smaller-part.ensures, i.limits.given, i.limits.ready, i.arrays.long),
+      omega (arith, c.smaller-part.ensures, i.room, i.same),
     )
 
-add-given : tie.Need-overflow-add-given invariant-loop decreases-loop
+add-given : tie.Need-overflow_add-given invariant-loop decreases-loop
 add-given c =
-    let i = (loop-from-slice-known2 c).loop.invariant in
-    omega (arith, (smaller-from-slice-known2 c).smaller.ensures, i.limits.given, i.limits.ready)
+    let i = (loop-from-slice-known2 c).loop-given.invariant in
+    omega (arith, (smaller-from-slice-known2 c).smaller-part.ensures, i.limits.given, i.limits.ready)
 
-next-line-requires : tie.Need-next-line-requires invariant-loop decreases-loop
+next-line-requires : tie.Need-next_line-stage-requires invariant-loop decreases-loop
 next-line-requires c κs = stepping (else2-from-line3 c)
 
-loop-less : tie.Need-loop-smaller invariant-loop decreases-loop
-loop-less c = omega (arith, tick-on _ _ _ c.next-line.ensures.state, early (else2-from-line3 c.before))
+loop-less : tie.Need-loop-given-smaller invariant-loop decreases-loop
+loop-less c = omega (arith, tick-on _ _ _ c.next_line-stage.ensures.state, early (else2-from-line3 c.before))
 
-loop-again : tie.Need-loop-preserved invariant-loop decreases-loop
+loop-again : tie.Need-loop-given-preserved invariant-loop decreases-loop
 loop-again c =
     let e = else2-from-line3 c.before in
     let k = struct-known2-from-else2 e in
     let l = loop-from-slice-known2 k.before in
-    emit-step (given-of l) (after-part k) (buffer-of l) _ _ (split-at-end k) e.before.before.if1.left (early e) (numbers_of l) (numbers l) _ _ _ _ c.next-line.ensures
+    emit-step (given-of l) (after-part k) (buffer-of l) _ _ (split-at-end k) e.if-given-stage.false (early e) (numbers_of l) (numbers l) _ _ _ _ c.next_line-stage.ensures
 
-same_length : tie.Need-same-length invariant-loop decreases-loop
+same_length : tie.Need-shape_of-buffer-then-given-stage invariant-loop decreases-loop
 same_length c = (split-at-end c.before).same
 
-returns : tie.Need-returns invariant-loop decreases-loop
+returns : tie.Need-returns-then-given-stage invariant-loop decreases-loop
 returns c =
     let k = c.before in
     let l = loop-from-slice-known2 k.before in
-    emit-full (given-of l) (after-part k) (buffer-of l) _ _ (entry l.before).pre (split-at-end k)
-    (part-fills (given-of l) (now_of l) (buffer-of l) l.loop.buffer _ l.loop.at _ _ l.loop.inv
-    (smaller-from-slice-known2 k.before).smaller.ensures (copy k).copy.ensures c.if1.true)
+    emit-full (given-of l) (after-part k) (buffer-of l) _ _ (entry l.before).requires (split-at-end k)
+    (part-fills (given-of l) (now_of l) (buffer-of l) l.loop-given.buffer _ l.loop-given.at _ _ l.loop-given.invariant
+    (smaller-from-slice-known2 k.before).smaller-part.ensures (copy k).copy-at.ensures c.if-given-stage.true)
 
-same-length-2 : tie.Need-same-length-2 invariant-loop decreases-loop
+same-length-2 : tie.Need-shape_of-buffer-then-stage-end invariant-loop decreases-loop
 same-length-2 c = (split-at-end (struct-known2-from-then2 c)).same
 
-returns-2 : tie.Need-returns-2 invariant-loop decreases-loop
+returns-2 : tie.Need-returns-then-stage-end invariant-loop decreases-loop
 returns-2 c =
     let k = struct-known2-from-then2 c in
     let l = loop-from-slice-known2 k.before in
-    emit-done (given-of l) (after-part k) (buffer-of l) _ _ (entry l.before).pre (split-at-end k) c.before.before.if1.false c.if2.true
+    emit-done (given-of l) (after-part k) (buffer-of l) _ _ (entry l.before).requires (split-at-end k) c.if-given-stage.false c.if-stage-end.true
 
-pub emit-spec : {M : Type 1} → statement M
-emit-spec =
+pub emit_spec : {M : Type 1} → statement M
+emit_spec =
     tie.close
     (tie.spec
     invariant-loop

@@ -8,26 +8,26 @@ use Rattle.printer.proofs.Printer.new.Statement.{statement}
 use Rattle.printer.proofs.Printer.new.Tie as tie
 
 -- the state after `read`
-abbrev read : tie.After-of-words → tie.After-read
+abbrev read : tie.After-of_words → tie.After-read-input
 read c = c.before.before.before
 
-read-requires : tie.Need-read-requires
+read-requires : tie.Need-read-input-requires
 read-requires c κs = search rules
 
-array-share-prefix-words : tie.Need-array-share-prefix-words
-array-share-prefix-words c = read_fits _ c.before.read.result c.before.read.ensures
+array-share-prefix-words : tie.Need-slice_bounds-words-end
+array-share-prefix-words c = read_fits _ c.read-input.result c.read-input.ensures
 
-slice-aggregate-of-words : tie.Need-slice-aggregate-of-words
+slice-aggregate-of-words : tie.Need-slice_bounds-of_words-end
 slice-aggregate-of-words c =
-    sym (length-take-le c.before.before.read.result.count c.before.before.read.result.words (read_fits _ c.before.before.read.result c.before.before.read.ensures))
+    sym (length-take-le c.read-input.result.count c.read-input.result.words (read_fits _ c.read-input.result c.read-input.ensures))
 
-of-words-requires : tie.Need-of-words-requires
+of-words-requires : tie.Need-of_words-requires
 of-words-requires c κs = search rules
 
 returns : tie.Need-returns
 returns c =
     let r = read c in
-    bytes-made r.before.before.args.bytes.now r.read.result c.of_words.result r.read.ensures c.of_words.ensures
+    bytes-made r.args.bytes.now r.read-input.result c.of_words.result r.read-input.ensures c.of_words.ensures
 
 pub new_spec : {M : Type 1} → statement M
 new_spec =

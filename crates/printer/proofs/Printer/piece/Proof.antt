@@ -9,16 +9,16 @@ valid-requires : tie.Need-valid-requires
 valid-requires c κs = search rules
 
 emit-requires : tie.Need-emit-requires
-emit-requires c κs = sym c.before.before.valid.ensures ∙ c.before.if1.true
+emit-requires c κs = sym c.valid.ensures ∙ c.if-valid.true
 
-same_length : tie.Need-same-length
+same_length : tie.Need-shape_of-buffer-then-valid
 same_length c = search rules
 
-returns : tie.Need-returns
+returns : tie.Need-returns-then-valid
 returns c = search rules
 
-returns-2 : tie.Need-returns-2
-returns-2 c = piece-refused _ _ (sym c.before.valid.ensures ∙ c.if1.false)
+returns-2 : tie.Need-returns
+returns-2 c = piece-refused _ _ (sym c.valid.ensures ∙ c.if-valid.false)
 
-pub piece-spec : {M : Type 1} → statement M
-piece-spec = tie.close (tie.spec valid-requires emit-requires same_length returns returns-2)
+pub piece_spec : {M : Type 1} → statement M
+piece_spec = tie.close (tie.spec valid-requires emit-requires same_length returns returns-2)

@@ -22,27 +22,27 @@ use Rattle.printer.proofs.cells.put_allocation.Statement.{statement}
 use Rattle.printer.proofs.cells.put_allocation.Tie as tie
 
 -- the state after `show`
-abbrev show : tie.After-slice-known2 → tie.After-show
+abbrev show : tie.After-slice_known-2-1 → tie.After-show-row
 show c = c.before.before.before.before
 
-show-requires : tie.Need-show-requires
+show-requires : tie.Need-show-row-requires
 show-requires c κs = search rules
 
-put-cells-requires : tie.Need-put-cells-requires
+put-cells-requires : tie.Need-put_cells-requires
 put-cells-requires c κs = search rules
 
-same_length : tie.Need-same-length
+same_length : tie.Need-shape_of-text
 same_length c = search rules
 
 returns : tie.Need-returns
 unfolding cells
 returns c =
-    let a = (show c).before.before.args in
-    let s = c.before.before.put-cells in
+    let a = (show c).args in
+    let s = c.put_cells in
     let ws = take a.count (widths_in a.even a.widths.now) in
     let gs = grants (rule_of a.rule) (claimants ws (bit a.claims)) (unfenced a.fence a.cores) in
-    let e = ap (take a.cores) (show c).show.ensures ∙ take_at (row a.fence a.cores gs) (replicate (most_cores - a.cores) 0) a.cores (row-length a.fence a.cores gs) in
-    (subst (λ (xs : List ℕ). Put a.text.now 0 (fields xs ++ (newline ∷ [])) s.new.1.1.0 s.result) e s.ensures.0, s.ensures.1)
+    let e = ap (take a.cores) (show c).show-row.ensures ∙ take_at (row a.fence a.cores gs) (replicate (most_cores - a.cores) 0) a.cores (row-length a.fence a.cores gs) in
+    (subst (λ (xs : List ℕ). Put a.text.now 0 (fields xs ++ (newline ∷ [])) s.new.text s.result) e s.ensures.0, s.ensures.1)
 
-pub put-allocation-spec : {M : Type 1} → statement M
-put-allocation-spec = tie.close (tie.spec show-requires put-cells-requires same_length returns)
+pub put_allocation_spec : {M : Type 1} → statement M
+put_allocation_spec = tie.close (tie.spec show-requires put-cells-requires same_length returns)

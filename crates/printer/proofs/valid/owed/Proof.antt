@@ -11,17 +11,17 @@ use Rattle.printer.proofs.valid.owed.Statement.{statement}
 use Rattle.printer.proofs.valid.owed.Tie as tie
 use Rattle.model.specs.Sizes.{most_tasks}
 
-abbrev invariant-loop : tie.invariant-loop
+abbrev invariant-loop : tie.invariant-loop-i
 invariant-loop places set₀ i₀ set i = (i ≤ most_tasks) × (set ≡ owed_from (segment 0 places) i)
 
-abbrev decreases-loop : tie.decreases-loop
+abbrev decreases-loop : tie.decreases-loop-i
 decreases-loop places set₀ i₀ set i = i
 
 -- the state at the call
-abbrev entry-from-then1 : tie.Then1 invariant-loop decreases-loop → tie.Start invariant-loop decreases-loop
+abbrev entry-from-then1 : tie.Then-ticks-gt0 invariant-loop decreases-loop → tie.Start invariant-loop decreases-loop
 entry-from-then1 c = c.before.before.before
 
-abbrev entry-from-else1 : tie.Else1 invariant-loop decreases-loop → tie.Start invariant-loop decreases-loop
+abbrev entry-from-else1 : tie.Else-ticks-gt0 invariant-loop decreases-loop → tie.Start invariant-loop decreases-loop
 entry-from-else1 c = c.before.before.before
 
 -- place i - 1 is tested
@@ -43,54 +43,54 @@ module _ (places : List ℕ) (i set : ℕ) (h : (i ≤ most_tasks) × (set ≡ o
     λ b. ap (λ (x : ℕ). x * 2) is ∙ owed-without (segment 0 places) (i - 1) (omega arith) (omega (arith, has)),
   )
 
-loop-holds : tie.Need-loop-init invariant-loop decreases-loop
+loop-holds : tie.Need-loop-i-init invariant-loop decreases-loop
 loop-holds c = (omega arith, owed_none _)
 
-sub-i : tie.Need-overflow-sub-i invariant-loop decreases-loop
+sub-i : tie.Need-overflow_sub-i invariant-loop decreases-loop
 sub-i c = omega arith
 
-mul-ticks : tie.Need-overflow-mul-ticks invariant-loop decreases-loop
+mul-ticks : tie.Need-offset_bounds-places-i invariant-loop decreases-loop
 mul-ticks c = omega arith
 
-array-read-ticks : tie.Need-array-read-ticks invariant-loop decreases-loop
+array-read-ticks : tie.Need-bounds-places-i invariant-loop decreases-loop
 array-read-ticks c = omega arith
 
-mul-set : tie.Need-overflow-mul-set invariant-loop decreases-loop
-mul-set c = omega (arith, (fits_on c.before.before.args.t1 c.before.loop.i c.before.loop.set c.before.loop.invariant c.loop-test.true).0)
+mul-set : tie.Need-overflow_mul-set invariant-loop decreases-loop
+mul-set c = omega (arith, (fits_on c.args.places c.loop-i.i c.loop-i.set c.loop-i.invariant c.loop-i-test.true).0)
 
-add-set : tie.Need-overflow-add-set invariant-loop decreases-loop
+add-set : tie.Need-overflow_add-set invariant-loop decreases-loop
 add-set c =
     omega (
       arith,
-      (fits_on (entry-from-then1 c).args.t1 c.before.before.loop.i c.before.before.loop.set c.before.before.loop.invariant c.before.loop-test.true
+      (fits_on (entry-from-then1 c).args.places c.loop-i.i c.loop-i.set c.loop-i.invariant c.loop-i-test.true
           ).1,
     )
 
-loop-less : tie.Need-loop-smaller invariant-loop decreases-loop
+loop-less : tie.Need-loop-i-smaller-then-ticks-gt0 invariant-loop decreases-loop
 loop-less c = omega arith
 
-loop-again : tie.Need-loop-preserved invariant-loop decreases-loop
+loop-again : tie.Need-loop-i-preserved-then-ticks-gt0 invariant-loop decreases-loop
 loop-again c = (
   omega arith,
-  (one_on (entry-from-then1 c).args.t1 c.before.before.loop.i c.before.before.loop.set c.before.before.loop.invariant c.before.loop-test.true
-      ).0 c.if1.true,
+  (one_on (entry-from-then1 c).args.places c.loop-i.i c.loop-i.set c.loop-i.invariant c.loop-i-test.true
+      ).0 c.if-ticks-gt0.true,
 )
 
-loop-less-2 : tie.Need-loop-smaller-2 invariant-loop decreases-loop
+loop-less-2 : tie.Need-loop-i-smaller invariant-loop decreases-loop
 loop-less-2 c = omega arith
 
-loop-again-2 : tie.Need-loop-preserved-2 invariant-loop decreases-loop
+loop-again-2 : tie.Need-loop-i-preserved invariant-loop decreases-loop
 loop-again-2 c = (
   omega arith,
-  (one_on (entry-from-else1 c).args.t1 c.before.before.loop.i c.before.before.loop.set c.before.before.loop.invariant c.before.loop-test.true
-      ).1 c.if1.false,
+  (one_on (entry-from-else1 c).args.places c.loop-i.i c.loop-i.set c.loop-i.invariant c.loop-i-test.true
+      ).1 c.if-ticks-gt0.false,
 )
 
 returns : tie.Need-returns invariant-loop decreases-loop
-returns c = let e : c.before.loop.i ≡ 0 = omega arith in c.before.loop.invariant.1 ∙ ap (owed_from _) e ∙ owed_all _
+returns c = let e : c.loop-i.i ≡ 0 = omega arith in c.loop-i.invariant.1 ∙ ap (owed_from _) e ∙ owed_all _
 
-pub owed-spec : {M : Type 1} → statement M
-owed-spec =
+pub owed_spec : {M : Type 1} → statement M
+owed_spec =
     tie.close
     (tie.spec
     invariant-loop

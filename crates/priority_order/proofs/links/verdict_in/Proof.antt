@@ -17,28 +17,28 @@ same_length s =
     reordered-length s.args.words.now s.requires.passes s.args.order
     (subst (λ (n : ℕ). Permutation n s.args.order) s.requires.size s.requires.permutation)
 
-reordered-requires : tie.Need-reordered-requires
+reordered-requires : tie.Need-reordered-part-requires
 reordered-requires c κs = search rules
 
-array-share-prefix-part : tie.Need-array-share-prefix-part
+array-share-prefix-part : tie.Need-slice_bounds-part-end
 array-share-prefix-part c =
-    let r = c.reordered in
+    let r = c.reordered-part in
     let s = c.before.before in
     omega (arith, length-take (length s.args.words.now) r.result, ap {B = ℕ} length r.ensures, same_length s)
 
-slice-aggregate-judge : tie.Need-slice-aggregate-judge
+slice-aggregate-judge : tie.Need-slice_bounds-judge-end
 slice-aggregate-judge c =
     let s = c.before.before.before in
-    sym (ap {B = ℕ} length c.before.reordered.ensures ∙ same_length s)
+    sym (ap {B = ℕ} length c.reordered-part.ensures ∙ same_length s)
 
 judge-requires : tie.Need-judge-requires
 judge-requires c κs = search rules
 
 returns : tie.Need-returns
-returns c = subst (λ (us : List ℕ). Judged us c.judge.result) c.before.before.reordered.ensures c.judge.ensures
+returns c = subst (λ (us : List ℕ). Judged us c.judge.result) c.reordered-part.ensures c.judge.ensures
 
-pub verdict-in-spec : {M : Type 1} → statement M
-verdict-in-spec =
+pub verdict_in_spec : {M : Type 1} → statement M
+verdict_in_spec =
     tie.close
     (tie.spec
     reordered-requires

@@ -42,49 +42,49 @@ missed s =
     (late-miss _ (order s) s.args.late s.requires.2 s.requires.1)
 
 -- the state at the call
-abbrev entry : tie.After-load → tie.Start
+abbrev entry : tie.After-load-table → tie.Start
 entry c = c.before.before.before.before.before
 
 -- the table that was loaded is the table in the order
-loads : (c : tie.After-load) → LoadOf (reordered (words (entry c)) (order (entry c))) c.load.result
-loads c = subst (λ (us : List ℕ). LoadOf us c.load.result) c.before.before.reordered.ensures c.load.ensures
+loads : (c : tie.After-load-table) → LoadOf (reordered (words (entry c)) (order (entry c))) c.load-table.result
+loads c = subst (λ (us : List ℕ). LoadOf us c.load-table.result) c.reordered-part.ensures c.load-table.ensures
 
-passed : (c : tie.After-load) → c.load.result.answer ≡ Passed
+passed : (c : tie.After-load-table) → c.load-table.result.answer ≡ Passed
 passed c = passed-answer _ _ (loads c) (missed (entry c)).passes
 
-table : (c : tie.After-load) → loaded_table c.load.result ≡ table_of (reordered (words (entry c)) (order (entry c)))
+table : (c : tie.After-load-table) → loaded_table c.load-table.result ≡ table_of (reordered (words (entry c)) (order (entry c)))
 table c = same-table _ _ (loads c) (passed c)
 
-reordered-requires : tie.Need-reordered-requires
+reordered-requires : tie.Need-reordered-part-requires
 reordered-requires c κs = search rules
 
-array-share-prefix-part : tie.Need-array-share-prefix-part
+array-share-prefix-part : tie.Need-slice_bounds-part-end
 array-share-prefix-part c =
-    let r = c.reordered in
+    let r = c.reordered-part in
     let s = c.before.before.before in
     omega (arith, length-take (length (words s)) r.result, ap {B = ℕ} length r.ensures, same_length s)
 
-slice-aggregate-load : tie.Need-slice-aggregate-load
+slice-aggregate-load : tie.Need-slice_bounds-load-end
 slice-aggregate-load c =
     let s = c.before.before.before.before in
-    sym (ap {B = ℕ} length c.before.reordered.ensures ∙ same_length s)
+    sym (ap {B = ℕ} length c.reordered-part.ensures ∙ same_length s)
 
-load-requires : tie.Need-load-requires
+load-requires : tie.Need-load-table-requires
 load-requires c κs = search rules
 
-cast-count : tie.Need-overflow-cast-count
+cast-count : tie.Need-overflow_cast-late
 cast-count c = search rules
 
-sub-count : tie.Need-overflow-sub-count
+sub-count : tie.Need-overflow_sub-late
 sub-count c = omega (arith, (missed (entry c.before)).some)
 
-count-requires : tie.Need-count-requires
+count-requires : tie.Need-count-facts-requires
 count-requires c κs =
     let l = c.before in
     let s = entry l in
     let m = missed s in
     let x = s.args.late in
-    let t = l.load.result in
+    let t = l.load-table.result in
     let p : x.position ≡ suc (x.position - 1) = omega (arith, m.some) in
     let f = fit _ t (loads l) (passed l) in (
       f,
@@ -92,7 +92,7 @@ count-requires c κs =
       rw f.horizon (subst (λ (a : Table). x.tick ≤ horizon a) (sym (table l)) m.within),
     )
 
-most-ran-requires : tie.Need-most-ran-requires
+most-ran-requires : tie.Need-most_ran-requires
 most-ran-requires c κs = search rules
 
 returns : tie.Need-returns
@@ -100,11 +100,11 @@ returns c =
     let k = c.before.before in
     let l = k.before.before in
     let x = (entry l).args.late in
-    c.most-ran.ensures
-    ∙ (ap (λ (f : Facts). most_ran f.others) k.count.ensures ∙ ap (λ (a : Table). most_ran (facts_at a x.tick (x.position - 1)).others) (table l))
+    c.most_ran.ensures
+    ∙ (ap (λ (f : Facts). most_ran f.others) k.count-facts.ensures ∙ ap (λ (a : Table). most_ran (facts_at a x.tick (x.position - 1)).others) (table l))
 
-pub blocking-spec : {M : Type 1} → statement M
-blocking-spec =
+pub blocking_spec : {M : Type 1} → statement M
+blocking_spec =
     tie.close
     (tie.spec
     reordered-requires

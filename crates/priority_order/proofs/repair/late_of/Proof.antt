@@ -6,41 +6,41 @@ use borrow.Author.Rules.{rules}
 use Rattle.priority_order.proofs.repair.late_of.Statement.{statement}
 use Rattle.priority_order.proofs.repair.late_of.Tie as tie
 
-enum_told : tie.Need-enum-told
+enum_told : tie.Need-enum_told-1
 enum_told c = search rules
 
 met-requires : tie.Need-met-requires
 met-requires c κs = search rules
 
-enum-told-2 : tie.Need-enum-told-2
+enum-told-2 : tie.Need-enum_told-in-Full
 enum-told-2 c = search rules
 
-met-requires-2 : tie.Need-met-requires-2
+met-requires-2 : tie.Need-met-requires-in-Full
 met-requires-2 c κs = search rules
 
-enum-known-verdict : tie.Need-enum-known-verdict
+enum-known-verdict : tie.Need-enum_known-verdict
 enum-known-verdict c = search rules
 
-enum-told-3 : tie.Need-enum-told-3
+enum-told-3 : tie.Need-enum_told-in-Refused
 enum-told-3 c = search rules
 
-met-requires-3 : tie.Need-met-requires-3
+met-requires-3 : tie.Need-met-requires-in-Refused
 met-requires-3 c κs = search rules
 
-returns : tie.Need-returns
-returns c = c.met.ensures ∙ ap (λ (v : Verdict). late_of v c.before.before.before.args.order) (sym c.before.enum_told.given.1)
+returns : tie.Need-returns-in-Firm
+returns c = c.met.ensures ∙ ap (λ (v : Verdict). late_of v c.args.order) (sym c.in-Firm.is)
 
-returns-2 : tie.Need-returns-2
-returns-2 c = c.met2.ensures ∙ ap (λ (v : Verdict). late_of v c.before.before.before.args.order) (sym c.before.enum-told2.given.1)
+returns-2 : tie.Need-returns-in-Full
+returns-2 c = c.met-in-Full.ensures ∙ ap (λ (v : Verdict). late_of v c.args.order) (sym c.in-Full.is)
 
-returns-3 : tie.Need-returns-3
-returns-3 c = ap (λ (v : Verdict). late_of v c.before.before.before.args.order) (sym c.before.verdict.given.1)
+returns-3 : tie.Need-returns-in-Miss
+returns-3 c = ap (λ (v : Verdict). late_of v c.args.order) (sym c.in-Miss.is)
 
-returns-4 : tie.Need-returns-4
-returns-4 c = c.met3.ensures ∙ ap (λ (v : Verdict). late_of v c.before.before.before.args.order) (sym c.before.enum-told3.given.1)
+returns-4 : tie.Need-returns-in-Refused
+returns-4 c = c.met-in-Refused.ensures ∙ ap (λ (v : Verdict). late_of v c.args.order) (sym c.in-Refused.is)
 
-pub late-of-spec : {M : Type 1} → statement M
-late-of-spec =
+pub late_of_spec : {M : Type 1} → statement M
+late_of_spec =
     tie.close
     (tie.spec
     enum_told

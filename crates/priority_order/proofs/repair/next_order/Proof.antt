@@ -13,7 +13,7 @@ use Rattle.priority_order.proofs.repair.next_order.Statement.{statement}
 use Rattle.priority_order.proofs.repair.next_order.Tie as tie
 
 -- the state at the call
-abbrev entry : tie.After-struct-known → tie.Start
+abbrev entry : tie.After-struct_known-1 → tie.Start
 entry c = c.before.before.before
 
 -- its first miss
@@ -24,50 +24,50 @@ missed s h =
     (subst (λ (n : ℕ). Permutation n x.order) s.requires.0.size s.requires.0.permutation)
     x.tick x.position (late-miss _ x.order x s.requires.1 h)
 
-returns : tie.Need-returns
-returns c = let s = entry c.before in sym (next-none s.args.words.now s.args.late.order s.args.late s.pre.1 (not-true _ c.if1.true))
+returns : tie.Need-returns-then-not-late
+returns c = let s = entry c.before in sym (next-none s.args.words.now s.args.late.order s.args.late s.requires.1 (not-true _ c.if-not-late.true))
 
-blocking-requires : tie.Need-blocking-requires
-blocking-requires c κs = let s = entry c.before in (s.pre.0, not-false _ c.if1.false, s.pre.1)
+blocking-requires : tie.Need-blocking-above-requires
+blocking-requires c κs = let s = entry c.before in (s.requires.0, not-false _ c.if-not-late.false, s.requires.1)
 
-returns-2 : tie.Need-returns-2
+returns-2 : tie.Need-returns-then-above-eq0
 returns-2 c =
     let b = c.before in
     let s = entry b.before.before in
-    sym (next-stops s.args.words.now s.args.late s.pre.1 (not-false _ b.before.if1.false) (sym b.blocking.ensures ∙ c.if2.true))
+    sym (next-stops s.args.words.now s.args.late s.requires.1 (not-false _ b.if-not-late.false) (sym b.blocking-above.ensures ∙ c.if-above-eq0.true))
 
-cast-moved : tie.Need-overflow-cast-moved
+cast-moved : tie.Need-overflow_cast-above
 cast-moved c = search rules
 
-sub-moved : tie.Need-overflow-sub-moved
+sub-moved : tie.Need-overflow_sub-above
 sub-moved c = search rules
 
-cast-moved-2 : tie.Need-overflow-cast-moved-2
+cast-moved-2 : tie.Need-overflow_cast-late
 cast-moved-2 c = search rules
 
-sub-moved-2 : tie.Need-overflow-sub-moved-2
+sub-moved-2 : tie.Need-overflow_sub-late
 sub-moved-2 c =
     let b = c.before.before in
-    omega (arith, (missed (entry b.before.before) (not-false _ b.before.if1.false)).some)
+    omega (arith, (missed (entry b.before.before) (not-false _ b.if-not-late.false)).some)
 
-moved-requires : tie.Need-moved-requires
+moved-requires : tie.Need-moved-moved-requires
 moved-requires c κs =
     let b = c.before.before in
     let s = entry b.before.before in
-    (s.pre.0.permutation.size, omega (arith, (missed s (not-false _ b.before.if1.false)).place, tasks-few s.args.words.now s.pre.0.passes))
+    (s.requires.0.permutation.size, omega (arith, (missed s (not-false _ b.if-not-late.false)).place, tasks-few s.args.words.now s.requires.0.passes))
 
-returns-3 : tie.Need-returns-3
+returns-3 : tie.Need-returns
 returns-3 c =
     let b = c.before.before.before in
     let s = entry b.before.before in
     let x = s.args.late in
-    let some : 0 < b.blocking.result = omega (arith, c.before.before.if2.false) in
+    let some : 0 < b.blocking-above.result = omega (arith, c.if-above-eq0.false) in
     ap just
-    (c.moved.ensures ∙ ap (λ (q : ℕ). moved (q - 1) (x.position - 1) x.order) b.blocking.ensures)
-    ∙ sym (next-moves s.args.words.now x s.pre.1 (not-false _ b.before.if1.false) (rw (← b.blocking.ensures) some))
+    (c.moved-moved.ensures ∙ ap (λ (q : ℕ). moved (q - 1) (x.position - 1) x.order) b.blocking-above.ensures)
+    ∙ sym (next-moves s.args.words.now x s.requires.1 (not-false _ b.if-not-late.false) (rw (← b.blocking-above.ensures) some))
 
-pub next-order-spec : {M : Type 1} → statement M
-next-order-spec =
+pub next_order_spec : {M : Type 1} → statement M
+next_order_spec =
     tie.close
     (tie.spec
     returns

@@ -10,61 +10,61 @@ use Rattle.slack.proofs.Listed.{Filled, filled-end, filled_more, filled-start}
 use Rattle.slack.proofs.growth.figures.Statement.{statement}
 use Rattle.slack.proofs.growth.figures.Tie as tie
 
-abbrev invariant-loop : tie.invariant-loop
+abbrev invariant-loop : tie.invariant-loop-place
 invariant-loop table figures₀ place₀ figures place = (place ≤ table.count) × Filled (loaded_table table) figures place
 
-abbrev decreases-loop : tie.decreases-loop
+abbrev decreases-loop : tie.decreases-loop-place
 decreases-loop table figures₀ place₀ figures place = table.count - place
 
 -- the iteration in which a slack is computed
-abbrev turn : tie.After-slack-at invariant-loop decreases-loop → tie.Then1 invariant-loop decreases-loop
+abbrev turn : tie.After-slack_at invariant-loop decreases-loop → tie.In-loop-place invariant-loop decreases-loop
 turn c = c.before
 
 -- its place is one of the 32
-few : (c : tie.Then1 invariant-loop decreases-loop) → c.before.before.loop.place < 32
-few c = omega (arith, c.if1.true, c.before.before.before.requires.0.few)
+few : (c : tie.In-loop-place invariant-loop decreases-loop) → c.loop-place.place < 32
+few c = omega (arith, c.loop-place-test.true, c.requires.0.few)
 
 -- as many tasks as the table counts
 tasks : (t : Loaded) → Fit t → length (loaded_table t).tasks ≡ t.count
 tasks t fit = tasks-length t.tasks t.count (omega (arith, fit.few, fit.places))
 
-loop-holds : tie.Need-loop-init invariant-loop decreases-loop
+loop-holds : tie.Need-loop-place-init invariant-loop decreases-loop
 loop-holds c = (omega arith, filled-start (loaded_table c.args.table))
 
-slack-at-requires : tie.Need-slack-at-requires invariant-loop decreases-loop
-slack-at-requires c κs = let s = c.before.before.before in (s.requires.0, c.if1.true, s.requires.1)
+slack-at-requires : tie.Need-slack_at-requires invariant-loop decreases-loop
+slack-at-requires c κs = let s = c.before.before.before in (s.requires.0, c.loop-place-test.true, s.requires.1)
 
-mul-figures : tie.Need-overflow-mul-figures invariant-loop decreases-loop
+mul-figures : tie.Need-offset_bounds-figures-place invariant-loop decreases-loop
 mul-figures c = omega (arith, few (turn c))
 
-array-write-figures : tie.Need-array-write-figures invariant-loop decreases-loop
+array-write-figures : tie.Need-bounds-figures-place invariant-loop decreases-loop
 array-write-figures c = few (turn c)
 
-add-place : tie.Need-overflow-add-place invariant-loop decreases-loop
+add-place : tie.Need-overflow_add-place invariant-loop decreases-loop
 add-place c = omega (arith, few (turn c))
 
-loop-less : tie.Need-loop-smaller invariant-loop decreases-loop
-loop-less c = omega (arith, (turn c).if1.true)
+loop-less : tie.Need-loop-place-smaller invariant-loop decreases-loop
+loop-less c = omega (arith, (turn c).loop-place-test.true)
 
-loop-again : tie.Need-loop-preserved invariant-loop decreases-loop
+loop-again : tie.Need-loop-place-preserved invariant-loop decreases-loop
 loop-again c =
-    let l = (turn c).before.before.loop in
-    let s = loaded_table (turn c).before.before.before.args.table in (
-      omega (arith, (turn c).if1.true),
-      subst (λ (g : ℕ). Filled s (set l.figures l.place g) (l.place + 1)) (sym c.slack-at.ensures)
-          (filled_more s l.figures l.place (few (turn c)) l.inv.1),
+    let l = (turn c).loop-place in
+    let s = loaded_table (turn c).args.table in (
+      omega (arith, (turn c).loop-place-test.true),
+      subst (λ (g : ℕ). Filled s (set l.figures l.place g) (l.place + 1)) (sym c.slack_at.ensures)
+          (filled_more s l.figures l.place (few (turn c)) l.invariant.1),
     )
 
 returns : tie.Need-returns invariant-loop decreases-loop
 returns c =
-    let l = c.before.before.loop in
+    let l = c.loop-place in
     let a = c.before.before.before in
     let t = a.args.table in
     let n = tasks t a.requires.0 in
-    filled-end (loaded_table t) l.figures l.place (omega (arith, a.requires.0.few)) (omega (arith, l.invariant.0, c.if1.false)) l.invariant.1
+    filled-end (loaded_table t) l.figures l.place (omega (arith, a.requires.0.few)) (omega (arith, l.invariant.0, c.loop-place-test.false)) l.invariant.1
 
-pub figures-spec : {M : Type 1} → statement M
-figures-spec =
+pub figures_spec : {M : Type 1} → statement M
+figures_spec =
     tie.close
     (tie.spec
     invariant-loop

@@ -7,20 +7,20 @@ use Rattle.slack.proofs.Ordered.{gives-accepted, gives-never}
 use Rattle.slack.proofs.growth.is_given.Statement.{statement}
 use Rattle.slack.proofs.growth.is_given.Tie as tie
 
-is-ordered-requires : tie.Need-is-ordered-requires
+is-ordered-requires : tie.Need-is_ordered-requires
 is-ordered-requires c κs = search rules
 
 misses-requires : tie.Need-misses-requires
 misses-requires c κs = search rules
 
-returns : tie.Need-returns
+returns : tie.Need-returns-then-is_ordered
 returns c =
     let t = c.before in
     ap not c.misses.ensures
-    ∙ gives-accepted (loaded_table t.before.before.before.args.table) (sym t.before.is-ordered.ensures ∙ t.if1.true)
+    ∙ gives-accepted (loaded_table t.args.table) (sym t.is_ordered.ensures ∙ t.if-is_ordered.true)
 
-returns-2 : tie.Need-returns-2
-returns-2 c = gives-never (loaded_table c.before.before.before.args.table) (sym c.before.is-ordered.ensures ∙ c.if1.false)
+returns-2 : tie.Need-returns
+returns-2 c = gives-never (loaded_table c.args.table) (sym c.is_ordered.ensures ∙ c.if-is_ordered.false)
 
-pub is-given-spec : {M : Type 1} → statement M
-is-given-spec = tie.close (tie.spec is-ordered-requires misses-requires returns returns-2)
+pub is_given_spec : {M : Type 1} → statement M
+is_given_spec = tie.close (tie.spec is-ordered-requires misses-requires returns returns-2)

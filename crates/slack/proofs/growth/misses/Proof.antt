@@ -10,29 +10,29 @@ use Rattle.slack.proofs.growth.misses.Statement.{statement}
 use Rattle.slack.proofs.growth.misses.Tie as tie
 
 -- the result of the search
-says : (c : tie.After-first-miss) (u : Missed) → c.first-miss.result ≡ u → is_found u ≡ misses (loaded_table c.before.before.args.table)
+says : (c : tie.After-first_miss-missed) (u : Missed) → c.first_miss-missed.result ≡ u → is_found u ≡ misses (loaded_table c.args.table)
 says c u e =
     let s = c.before.before in
-    found-misses s.args.table s.requires c.first-miss.result u c.first-miss.ensures.value e
+    found-misses s.args.table s.requires c.first_miss-missed.result u c.first_miss-missed.ensures.value e
 
-add-first-miss : tie.Need-overflow-add-first-miss
+add-first-miss : tie.Need-overflow_add-table
 add-first-miss c = search rules
 
-first-miss-requires : tie.Need-first-miss-requires
+first-miss-requires : tie.Need-first_miss-missed-requires
 first-miss-requires c κs = search rules
 
-enum_told : tie.Need-enum-told
+enum_told : tie.Need-enum_told-1
 enum_told c = search rules
 
-enum-told-2 : tie.Need-enum-told-2
+enum-told-2 : tie.Need-enum_told-in-At
 enum-told-2 c = search rules
 
-returns : tie.Need-returns
-returns c = says c.before.before Never c.enum_told.given.1
+returns : tie.Need-returns-in-Never
+returns c = says c.before Never c.in-Never.is
 
-returns-2 : tie.Need-returns-2
-returns-2 c = says c.before.before (At _ _) c.enum-told2.given.1
+returns-2 : tie.Need-returns-in-At
+returns-2 c = says c.before (At _ _) c.in-At.is
 
-pub misses-spec : {M : Type 1} → statement M
-misses-spec =
+pub misses_spec : {M : Type 1} → statement M
+misses_spec =
     tie.close (tie.spec add-first-miss first-miss-requires enum_told enum-told-2 returns returns-2)
