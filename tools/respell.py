@@ -13,7 +13,7 @@ import os
 import re
 import sys
 
-WORD = re.compile(r'[^\s(){}.;,@"«»\[\]|]+')
+WORD = re.compile(r'[^\s(){}.;,@"«»\[\]|`]+')
 CAMEL = re.compile(r"(?:^|-)[a-z_][a-z0-9_]*[A-Z]")
 HUMP = re.compile(r"([a-z0-9])([A-Z])")
 RUST_WORD = re.compile(r"[A-Za-z_][\w'-]*")

@@ -17,7 +17,7 @@ set_of (c ∷ l) = 2 ^ c + set_of l
 abbrev pub book_sets : Table → Book → List ℕ
 book_sets s b = map set_of (shown_of s b)
 
--- a row asked as sets: 15 and 20 as of a row asked (`askedBy`)
+-- a row asked as sets: 15 and 20 as of a row asked (`asked_by`)
 unfoldable pub sets_asked : Table → Book → ℕ → Asked
 sets_asked s b e = asked_by (book_sets s) s b e
 

@@ -14,6 +14,6 @@ set_where n f = set_of (filtered f (up_from 0 n))
 abbrev pub book_working : Table → Book → ℕ
 book_working s b = set_where (length s.tasks) (reportable s b)
 
--- who works, asked with the empty jobs e: 15 and 20 as of a row asked (`askedBy`); else this set alone
+-- who works, asked with the empty jobs e: 15 and 20 as of a row asked (`asked_by`); else this set alone
 unfoldable pub working_asked : Table → Book → ℕ → Asked
 working_asked s b e = asked_by (λ c. book_working s c ∷ []) s b e

@@ -218,7 +218,7 @@ pub for-ever :
 unfolding table_of chain count visited computing
 for-ever = refl
 
--- the phases of a plan of `openAtS` up to the horizon, by the rows: at the last S, 3, and on the horizon, 7, task 1 is as far, and so is task 2
+-- the phases of a plan of `open_at_s` up to the horizon, by the rows: at the last S, 3, and on the horizon, 7, task 1 is as far, and so is task 2
 pub phases :
     (map (phase_by (table_of open_at_s) (row_at rows_open) 0) (up_from 0 8)
     ≡ Working 0 0 0 ∷ Working 1 1 1 ∷ Working 2 1 1 ∷ Working 3 1 1 ∷ Working 0 0 0 ∷ Working 1 0 0 ∷ Working 2 1 1 ∷ Working 3 1 1 ∷ [])

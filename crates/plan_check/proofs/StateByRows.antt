@@ -1,5 +1,5 @@
--- A TASK MOVED BY THE ROWS: its state after each row, moved by `nextState` as one that is given its cores exactly where it is in the row and is
--- never reported, is that of the rows, up to the first fault: its phase is `phaseBy`, its parity that of its newest job.
+-- A TASK MOVED BY THE ROWS: its state after each row, moved by `next_state` as one that is given its cores exactly where it is in the row and is
+-- never reported, is that of the rows, up to the first fault: its phase is `phase_by`, its parity that of its newest job.
 use mathlib.Core.Bool.{◌&&◌, Bool, cond, false, not, true}
 use mathlib.Core.List.{List}
 use mathlib.Core.Path.{ap, ap₂, refl, subst, sym, ◌∙◌, ◌≡◌}

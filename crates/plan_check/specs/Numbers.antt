@@ -61,7 +61,7 @@ after_row w row = state_at (worked_row w.run row) (suc w.tick) w.noted
 abbrev pub Last : SuppliedPlan → Type 0
 Last w = suc w.tick ≡ horizon_in w.run
 
--- number n applies to a row, with tick t. As in table/specs/Numbers, with a tick for the position: `Applies`, `First`, `NoneApplies`, `EarlierFault`, `rowOrder`
+-- number n applies to a row, with tick t. As in table/specs/Numbers, with a tick for the position: `Applies`, `First`, `NoneApplies`, `EarlierFault`, `row_order`
 pub data Applies (w : SuppliedPlan) (row : List ℕ) : ℕ → ℕ → Type 0 where
   -- 14. The run is one that 14 turns down, or has a task Holding, withdrawn or with unequal counts.
   fourteen : StateOut w.run → Applies w row 14 0

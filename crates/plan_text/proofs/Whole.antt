@@ -25,7 +25,7 @@ answer-so-far {c} (more left chunk {bs} r o w f) cs =
     ap (check_answer c nothing) (parts left chunk bs cs) ∙ w.text (bs ++ cs) goes
     ∙ answer-so-far f cs
 
--- the answer of a new check at the end of the bytes bs, in whatever parts they come, is `checkedOf bs`
+-- the answer of a new check at the end of the bytes bs, in whatever parts they come, is `checked_of bs`
 pub whole-check : (c c' : Check) (bs left : List ℕ) (r : Fed) → NewOf c → Feeds c [] bs left c' → FedOf c' true left r → r.check.answer ≡ checked_of bs
 whole-check c c' bs left r new f w =
     sym (over-answer r.check nothing (drop r.taken left ++ []) over) ∙ sym (w.text [] ends) ∙ sym (answer-so-far f []) ∙ ap (check_answer c nothing) (append-nil bs) ∙ (new bs).0

@@ -22,7 +22,7 @@ NotBoth reserved borrowed = (p : ℕ) → (cores (get_or reserved p 0) ≡ []) �
 abbrev pub shown_at : List ℕ → List ℕ → ℕ → ℕ → List ℕ
 shown_at reserved borrowed count p = cores (get_or borrowed p 0) ++ unlent (map cores (take count borrowed)) (cores (get_or reserved p 0))
 
--- what it shows of each place below the count (`shown-sets`: the model's `shownCores`), and no set past the count
+-- what it shows of each place below the count (`shown-sets`: the model's `shown_cores`), and no set past the count
 pub record ShownAs (reserved borrowed : List ℕ) (count : ℕ) (sets : List ℕ) : Type 0 where
   pub size : length sets ≡ most_tasks
   pub gives : (p : ℕ) → p < count → cores (get_or sets p 0) ≡ shown_at reserved borrowed count p

@@ -71,7 +71,7 @@ pub data AdvanceApplies (r : Run) (x e : ℕ) : ℕ → ℕ → Type 0 where
   -- 16. Advance: a bit is set for a position past the count, or for a task that isn't Working or gets no cores in this tick, its own or lent ones.
   sixteen : (p : ℕ) → WrongReports r e x p → AdvanceApplies r x e 16 0
 
--- number n applies to a withdrawal from the run, with position p; `unknownPosition` is the statement that one of its positions is not in the run
+-- number n applies to a withdrawal from the run, with position p; `unknown` is the statement that one of its positions is not in the run
 pub data WithdrawApplies (r : Run) (unknown : Type 0) : ℕ → ℕ → Type 0 where
   -- 14, as of row, sets and advance
   not-a-run : RunOut r → WithdrawApplies r unknown 14 0

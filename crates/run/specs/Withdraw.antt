@@ -31,7 +31,7 @@ withdraw_all_of r x = record {
   run = by_answer (withdraw_answer r (past_count r.count x)) (withdrawn_in x r) r;
 }
 
--- what a withdrawal of the positions of set x from run r guarantees; `unknownPosition` is the statement that one of them is not in the run
+-- what a withdrawal of the positions of set x from run r guarantees; `unknown_position` is the statement that one of them is not in the run
 pub record WithdrawnOf (r : Run) (unknown : Type 0) (x : ℕ) (a : Advanced) : Type 0 where
   -- refused with n and p exactly if number n applies with position p and no earlier one does; taken exactly if none applies
   pub refused : (n p : ℕ) → (answer_meaning a.answer ≡ answers.refused n p) ↔ FirstOf (WithdrawApplies r unknown) n p

@@ -23,7 +23,7 @@ use Rattle.simulation.specs.PlaceRelation.{PlaceRelatedAt}
 use Rattle.simulation.proofs.Place.{start-related, pass-related, release-related, tick-related}
 use Rattle.simulation.proofs.Moves.{SameAt, released-sized, released-own, released-other, released-past, worked-sized, worked-left, worked-event, worked-claims, worked-past, worked-none}
 
--- place p of the machine is related to its jobs in the full-length run at t; the due events of `handledTo` ticks have been handled there
+-- place p of the machine is related to its jobs in the full-length run at t; the due events of `handled_to` ticks have been handled there
 abbrev pub PlaceRelated : Table → ℕ → ℕ → Machine → ℕ → Type 0
 PlaceRelated s t handled_to m p =
     PlaceRelatedAt (task s p) handled_to ((full s t).job p) (get_or m.left p 0) (get_or m.event p 0) (get_or m.next p 0) (bit m.claiming p)

@@ -89,7 +89,7 @@ pub overdue-has :
 overdue-has τ t js l m n true h at some = (h.number, sym h.deadline ∙ at, ap (λ (j : Job). j.ended) h.line)
 overdue-has τ t js l m n false h at some = absurd (omega (arith, h.none))
 
--- a job due at a tick from `handledTo` back that has not ended is the one the place works on, at the tick `handledTo`
+-- a job due at a tick from `handled_to` back that has not ended is the one the place works on, at the tick `handled_to`
 pub overdue-is :
     (τ : Task) → ValidTask τ → (handled_to : ℕ) (js : ℕ → Job) (l m n : ℕ) (c : Bool) → PlaceRelatedAt τ handled_to js l m n c
     → (t k : ℕ) → t ≤ handled_to → due τ k ≡ t → (js k).ended ≡ false → (m ≡ t) × (0 < l)

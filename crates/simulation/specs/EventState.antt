@@ -58,13 +58,13 @@ initial_event_state t = record {
   even = paired_in t.tasks;
 }
 
--- WHAT THE NUMBERS MEAN. `handledTo` is the tick where its due events have not been handled yet, and one more where they have
+-- WHAT THE NUMBERS MEAN. `handled_to` is the tick where its due events have not been handled yet, and one more where they have
 
 -- a job of the task is released at u, or is due at u
 abbrev pub ReleaseOrDeadline : Task → ℕ → Type 0
 ReleaseOrDeadline τ u = (k : ℕ) × ((release τ k ≡ u) ⊎ (due τ k ≡ u))
 
--- m is the first tick from `handledTo` on that is marked, and n is no later than any release from `handledTo` on
+-- m is the first tick from `handled_to` on that is marked, and n is no later than any release from `handled_to` on
 pub record UpcomingEvent (τ : Task) (handled_to m n : ℕ) : Type 0 where
   pub from : handled_to ≤ m
   pub marked : ReleaseOrDeadline τ m

@@ -3,7 +3,7 @@ use Rattle.std.specs.Prelude.{◌≡◌, Bool, true, false, not, ◌&&◌, ℕ, 
 use Rattle.model.specs.Task.{Task, release, due}
 use Rattle.model.specs.Jobs.{Job, fresh}
 
--- `handledTo` counts the ticks whose due events have been handled: it is t before those of tick t are, and t + 1 after.
+-- `handled_to` counts the ticks whose due events have been handled: it is t before those of tick t are, and t + 1 after.
 
 -- l ticks are left, the deadline m is ahead: a job was released, has not ended, and has had what is not left; those before it have ended,
 -- those after it are fresh, and the first of them comes at n

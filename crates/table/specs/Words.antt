@@ -63,7 +63,7 @@ unfoldable pub visited : List ℕ → ℕ → ℕ
 visited ws zero = head ws
 visited ws (suc k) = next ws (visited ws k)
 
--- zero ends the chain: the number of records on it, searched within as many steps as there are records (`Ends-there`: enough where 5 and 6 do not apply)
+-- zero ends the chain: the number of records on it, searched within as many steps as there are records (`ends_there`: enough where 5 and 6 do not apply)
 unfoldable pub count : List ℕ → ℕ
 count ws = least (suc (records ws)) (λ k. eqb (visited ws k) 0)
 

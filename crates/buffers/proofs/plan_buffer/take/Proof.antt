@@ -11,7 +11,7 @@ use Rattle.buffers.proofs.plan_buffer.take.Tie as tie
 abbrev entry : tie.After-holds → tie.Start
 entry c = c.before.before.before.before
 
--- the state after `holdsRun`, where the buffer holds a plan
+-- the state after `holds_run`, where the buffer holds a plan
 abbrev held : tie.After-plan-in → tie.Then1
 held c = c.before.before
 

@@ -17,7 +17,7 @@ entry c = c.before.before.before
 abbrev entry_in : tie.After-holds → Entry
 entry_in c = entry_by (entry c).args.kind (entry c).args.first (entry c).args.second
 
--- the state after `holdsRun`
+-- the state after `holds_run`
 abbrev holds_run : tie.After-run-in → tie.After-holds
 holds_run c = c.before.before.before
 
