@@ -23,7 +23,7 @@ use Rattle.run.specs.Numbers.{unknown_in, past_count}
 use Rattle.run.specs.Advance.{advance_answer, advance_of}
 use Rattle.run.specs.Withdraw.{withdraw_answer, withdraw_of, withdraw_all_of}
 use Rattle.refinement.specs.Entries.{entry_of}
-use Rattle.buffers.specs.Encoding.{places, overwritten, count_in, holds_run, run_in, BufferRun, run, decode}
+use Rattle.buffers.specs.Encoding.{places, overwritten, count_in, holds_run, run_in, BufferRun, decode}
 use Rattle.buffers.specs.Runs.{row_from, sets_from, Entered, kept_run, entry_from}
 use Rattle.buffers.proofs.Places.{by-held, held-few}
 

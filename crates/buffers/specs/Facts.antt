@@ -1,5 +1,5 @@
 -- The facts of a miss in words.
-use Rattle.std.specs.Prelude.{cond, List, [], ◌∷◌, ℕ, zero, suc, ◌+◌, length, replicate, eqb}
+use Rattle.std.specs.Prelude.{cond, List, [], ◌∷◌, ℕ, zero, suc, ◌+◌, replicate, eqb}
 use Rattle.model.specs.Sizes.{most_tasks}
 use Rattle.sentence.specs.Facts.{Part}
 use Rattle.sentence.specs.Parsed.{ParsedSentence, facts, none}

@@ -11,7 +11,7 @@ use Rattle.run.specs.Start.{start_of}
 use Rattle.run.specs.Row.{no_bytes, row_of}
 use Rattle.run.specs.Sets.{no_sets, sets_of}
 use Rattle.run.specs.Working.{working_of}
-use Rattle.model.specs.Advance.{Entry, advance, withdraw, withdraw_all}
+use Rattle.model.specs.Advance.{Entry}
 use Rattle.refinement.specs.Entries.{entry_of}
 use Rattle.buffers.specs.Encoding.{places, overwritten, BufferRun, run, none}
 

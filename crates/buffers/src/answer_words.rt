@@ -13,7 +13,7 @@ use sentence::SentenceAnswer;
 const WORDS: usize = 3;
 
 // The case and its two numbers, 0 where it has none.
-#[derive(Drop)]
+#[derive(Clone, Copy)]
 pub struct AnswerWords {
     pub kind: u32,
     pub first: u32,

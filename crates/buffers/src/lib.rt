@@ -1,4 +1,5 @@
 // Runs, plans and answers in words of lent buffers: what the calls for C and Rust read and write.
+#![tactic(auto)]
 
 pub mod answer_words; // answer_words.rt: an answer in three words
 pub mod facts; // facts.rt: the facts of a miss in a lent buffer of words

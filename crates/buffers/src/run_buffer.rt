@@ -31,7 +31,7 @@ pub const PLACES: usize = model::MOST_TASKS;
 pub const WORDS: usize = HEAD + EACH * PLACES;
 
 // A phase in words: its kind and three numbers, 0 for one that it does not have.
-#[derive(Drop)]
+#[derive(Clone, Copy)]
 pub struct PhaseWords {
     pub kind: u32,
     pub first: u32,

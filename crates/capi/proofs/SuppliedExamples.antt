@@ -1,24 +1,37 @@
 -- The results of begin and take, computed from the definitions: a plan begun, with its phases recorded at once or not yet; rows taken, up to the last; each
 -- number once; the notes written at the last S and nowhere else; words of a note that are no phase; and everything as found where there is no space.
-use mathlib.Core.Path.{◌≡◌, refl}
+use mathlib.Core.Path.{◌≡◌, refl, ap, ap₂}
 use mathlib.Core.Bool.{Bool, true, false}
 use mathlib.Core.List.{List, [], ◌∷◌, ◌++◌, map}
-use Prim.Native.Nat.{ℕ, zero, suc}
+use Prim.Native.Nat.{ℕ, zero, suc, ◌*◌, ◌/◌, ◌<◌, ◌∣◌}
+use native.Mathlib.Nat.{dvd_trans, div-mul_cancel}
+use native.Mathlib.Omega.{arith}
 use Prim.Native.String.{String}
 use lib.ListN.{replicate, take}
+use borrow.Author.Tests.{lt-ltb}
+use Rattle.model.specs.Horizon.{horizon, hyperperiod, lcm}
+use Rattle.model.proofs.Multiples.{lcm-left, lcm-right, lcm-pos}
 use Rattle.phase.specs.declared.Phase.{Phase}
 use Rattle.phase.specs.declared.Phase.TheVariants.{Coming, Working, Resting}
 use Rattle.run.specs.Start.{started_run}
 use Rattle.table.specs.Answer.{answer_of, by_horizon, by_tasks, by_walk, ending_of, first_out, header_number, last_step}
+use Rattle.table.specs.Limits.{most_horizon, horizon_out}
 use Rattle.table.specs.Words.{chain, count, visited, table_of}
 use Rattle.plan_check.specs.Begin.{begin_of}
-use Rattle.plan_check.specs.Numbers.{differs, missed, state_out}
+use Rattle.plan_check.specs.Numbers.{after_row, differs, missed, state_out}
 use Rattle.plan_check.specs.Plan.{cell_count}
 use Rattle.plan_check.specs.Row.{faulty, any_unknown_byte, worked_row}
+use Rattle.plan_check.specs.State.{horizon_in}
+use Rattle.plan_check.specs.RowAnswer.{state_by_answer}
+use Rattle.plan_check.specs.declared.Answer.{Answer}
+use Rattle.plan_check.specs.declared.Answer.TheVariants.{Refused}
+use Rattle.plan_check.specs.declared.SuppliedPlan.{SuppliedPlan}
 use Rattle.plan_check.specs.CheckRow.{answer_at, final_answer, check_row_answer, check_row_of}
-use Rattle.capi.specs.Calls.{CallResult, call_result}
-use Rattle.buffers.specs.Encoding.{place_words}
-use Rattle.buffers.specs.Supplied.{notes_words, plan_over, notes_in, holds_plan, plan_in}
+use Rattle.capi.specs.Calls.{CallResult, call_result, by_room}
+use Rattle.buffers.specs.AnswerWords.{answer_fits, of_taken, answer_written}
+use Rattle.buffers.specs.CheckRow.{RowChecked, kept_plan, check_row_from}
+use Rattle.buffers.specs.Encoding.{place_words, run_in, places_in}
+use Rattle.buffers.specs.Supplied.{notes_words, plan_over, notes_in, holds_plan, plan_in, decode_plan}
 use Rattle.capi.specs.CheckRow.{begin_call, check_row_call}
 use Rattle.capi.proofs.Calling.{calling}
 
@@ -112,8 +125,9 @@ far =
 abbrev no_run : List ℕ
 no_run = 1 ∷ 1 ∷ 1 ∷ 0 ∷ 0 ∷ 0 ∷ ((1 ∷ 1 ∷ 1 ∷ 1 ∷ 2 ∷ 1 ∷ 0 ∷ 4 ∷ 1 ∷ 0 ∷ 0 ∷ []) ++ (lent 341 ++ (0 ∷ (nothing ++ lent 125))))
 
-abbrev pub lines : List Line
-lines =
+-- the lines before that of a horizon above the limit, that line, and those after it
+abbrev first_lines : List Line
+first_lines =
     leaves "begun before the last S: nothing is noted" (begins (one 1)) (lent 488) (begun 1 (Coming 1) nothing) 0 0 0
     ∷ leaves "begun at the last S: its phase is noted" (begins (one 0)) (lent 488) (begun 0 (Working 0 0 0) released) 0 0 0
     ∷ leaves "a refused beginning leaves zeros" (begins []) (lent 488) (times 6 (0 ∷ []) ++ (times 32 clear ++ (0 ∷ (times 32 nothing ++ lent 1)))) 3 1 0
@@ -130,16 +144,70 @@ lines =
     ∷ refuses "24 with its tick" (2 ∷ []) (plan false (Working 0 0 0) 1 released) 24 1
     ∷ refuses "11" [] (plan false (Working 0 0 0) 1 released) 11 0
     ∷ refuses "10" (0 ∷ []) (plan true (Working 0 0 0) 3 released) 10 0
-    ∷ refuses "9, whatever the row" [] far 9 0
-    ∷ refuses "14: words that are no run, a place without a phase" (0 ∷ []) no_run 14 0
+    ∷ []
+
+abbrev far_line : Line
+far_line = refuses "9, whatever the row" [] far 9 0
+
+abbrev last_lines : List Line
+last_lines =
+    refuses "14: words that are no run, a place without a phase" (0 ∷ []) no_run 14 0
     ∷ refuses "14: counts that are not equal" (0 ∷ []) (plan false (Working 0 0 1) 1 released) 14 0
     ∷ refuses "14: a word too few for a plan" (0 ∷ []) (take 486 (plan false (Coming 1) 0 nothing)) 14 0
     ∷ refuses "14: no words" (0 ∷ []) [] 14 0
     ∷ stays "take, no room for an answer" (takes (0 ∷ [])) (plan false (Coming 1) 0 nothing) 2
     ∷ []
 
--- every line is its value by the definitions
-pub examples : map computes lines ≡ lines
+abbrev pub lines : List Line
+lines = first_lines ++ (far_line ∷ last_lines)
+
+first_examples : map computes first_lines ≡ first_lines
 unfolding times begin_call check_row_call plan_over notes_words notes_in holds_plan plan_in begin_of check_row_of check_row_answer answer_at final_answer differs missed state_out faulty any_unknown_byte
     worked_row cell_count started_run answer_of by_walk by_tasks by_horizon first_out ending_of last_step header_number table_of chain count visited calling
-examples = refl
+first_examples = refl
+
+last_examples : map computes last_lines ≡ last_lines
+unfolding times begin_call check_row_call plan_over notes_words notes_in holds_plan plan_in begin_of check_row_of check_row_answer answer_at final_answer differs missed state_out faulty any_unknown_byte
+    worked_row cell_count started_run answer_of by_walk by_tasks by_horizon first_out ending_of last_step header_number table_of chain count visited calling
+last_examples = refl
+
+-- A HORIZON ABOVE THE LIMIT, by the laws of the least common multiple: its definition takes too many steps here
+
+common_above : (n : ℕ) → 999999 ∣ n → 1009 ∣ n → 0 < n → most_horizon < n
+common_above n p q h =
+    let a : n / 999999 * 999999 ≡ n = div-mul_cancel 999999 p in
+    let b : n / 1009 * 1009 ≡ n = div-mul_cancel 1009 q in
+    omega arith
+
+periods_above : most_horizon < lcm 999999 (lcm 1009 1)
+periods_above =
+    let m = lcm 1009 1 in
+    let small : 0 < m = lcm-pos 1009 1 (omega arith) in
+    common_above (lcm 999999 m) (lcm-left 999999 m (omega arith)) (dvd_trans 1009 (lcm-left 1009 1 (omega arith)) (lcm-right 999999 m)) (lcm-pos 999999 m small)
+
+far_out : horizon_out (horizon_in (plan_in far).run) ≡ true
+unfolding plan_in run_in places_in horizon hyperperiod
+far_out = lt-ltb most_horizon _ (omega (arith, periods_above))
+
+state_ok : state_out (plan_in far).run ≡ false
+unfolding plan_in state_out calling
+state_ok = refl
+
+-- 9 where the state passes 14 and the horizon is above the limit
+nine : (w : SuppliedPlan) (row : List ℕ) → state_out w.run ≡ false → horizon_out (horizon_in w.run) ≡ true → check_row_answer w row ≡ Refused 9 0
+unfolding check_row_answer
+nine w row e h = rw (e, h) refl
+
+far_row : check_row_from (decode_plan far) [] far ≡ record { answer = Refused 9 0; buffer = far }
+unfolding holds_plan calling check_row_of
+far_row = ap (λ (a : Answer). kept_plan a (state_by_answer a (after_row (plan_in far) []) (plan_in far)) far) (nine (plan_in far) [] state_ok far_out)
+
+far_example : computes far_line ≡ far_line
+unfolding check_row_call
+far_example =
+    ap (λ (c : CallResult). record { name = far_line.name; call = far_line.call; buffer = far; answer = lent 4; leaves = c })
+    (ap (λ (a : RowChecked). by_room (answer_fits (lent 4)) (a.buffer ∷ (answer_written (of_taken a.answer) (lent 4) ∷ [])) (far ∷ (lent 4 ∷ []))) far_row)
+
+-- every line is its value by the definitions
+pub examples : map computes lines ≡ lines
+examples = ap₂ (λ (a b : List Line). a ++ b) first_examples (ap₂ (λ (l : Line) (b : List Line). l ∷ b) far_example last_examples)

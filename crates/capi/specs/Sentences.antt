@@ -1,5 +1,5 @@
 -- The results of the calls on a sentence: its bytes in a lent buffer, and the facts that bytes are parsed to, in words.
-use Rattle.std.specs.Prelude.{List, [], ◌∷◌, ◌++◌, ℕ, ◌+◌, length, drop}
+use Rattle.std.specs.Prelude.{List, [], ◌∷◌, ◌++◌, ℕ, length, drop}
 use Rattle.sentence.specs.Parsed.{parsed}
 use Rattle.sentence.specs.Waiting.{facts_of}
 use Rattle.sentence.specs.SentenceAnswer.{sentence_answer_of, sentence_meaning, left_in}

@@ -2,6 +2,8 @@
 // Each function but sivorandra_version returns 0 where the call is answered, and 1 where a lent slice is too short or a list of entries is none: then
 // everything is as found. Short rows of a plan are 11 instead, and a buffer lent to row, sets, working, advance, a withdrawal or take that is too short for a run or
 // a plan holds none: 14. The answer is in the first three words of `answer`: a case and two numbers.
+#![tactic(auto)]
+
 ghost use Rattle.std.specs.Prelude.{◌≡◌};
 ghost use Rattle.capi.specs.Version.{version};
 

@@ -5,11 +5,11 @@ use Rattle.buffers.specs.AnswerWords.{of_read_back}
 use Rattle.buffers.proofs.answer_words.of_parsed.Statement.{statement}
 use Rattle.buffers.proofs.answer_words.of_parsed.Tie as tie
 
-returns : tie.Need-returns
-returns c = sym (ap of_read_back c.if1.true)
+returns : tie.Need-returns-then-found
+returns c = sym (ap of_read_back c.if-found.true)
 
-returns-2 : tie.Need-returns-2
-returns-2 c = sym (ap of_read_back c.if1.false)
+returns-2 : tie.Need-returns
+returns-2 c = sym (ap of_read_back c.if-found.false)
 
-pub of-parsed-spec : {M : Type 1} → statement M
-of-parsed-spec = tie.close (tie.spec returns returns-2)
+pub of_parsed_spec : {M : Type 1} → statement M
+of_parsed_spec = tie.close (tie.spec returns returns-2)

@@ -4,17 +4,17 @@ use borrow.Author.Rules.{rules}
 use Rattle.buffers.proofs.answer_words.of_planned.Statement.{statement}
 use Rattle.buffers.proofs.answer_words.of_planned.Tie as tie
 
-enum_told : tie.Need-enum-told
+enum_told : tie.Need-enum_told-1
 enum_told c = search rules
 
-enum-known-planned : tie.Need-enum-known-planned
+enum-known-planned : tie.Need-enum_known-planned
 enum-known-planned c = search rules
 
-returns : tie.Need-returns
-returns c = simp c.enum_told.given.1
+returns : tie.Need-returns-in-Written
+returns c = simp c.in-Written.is
 
-returns-2 : tie.Need-returns-2
-returns-2 c = simp c.before.planned.given.1
+returns-2 : tie.Need-returns-in-Refused
+returns-2 c = simp c.in-Refused.is
 
-pub of-planned-spec : {M : Type 1} → statement M
-of-planned-spec = tie.close (tie.spec enum_told enum-known-planned returns returns-2)
+pub of_planned_spec : {M : Type 1} → statement M
+of_planned_spec = tie.close (tie.spec enum_told enum-known-planned returns returns-2)

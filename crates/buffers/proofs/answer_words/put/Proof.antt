@@ -8,16 +8,16 @@ use borrow.Author.Rules.{rules}
 use Rattle.buffers.proofs.answer_words.put.Statement.{statement}
 use Rattle.buffers.proofs.answer_words.put.Tie as tie
 
-slice-write-answer : tie.Need-slice-write-answer
+slice-write-answer : tie.Need-bounds-answer-0
 slice-write-answer c = omega arith
 
-slice-write-answer-2 : tie.Need-slice-write-answer-2
+slice-write-answer-2 : tie.Need-bounds-answer-1
 slice-write-answer-2 c = simp length-set (omega arith)
 
-slice-write-answer-3 : tie.Need-slice-write-answer-3
+slice-write-answer-3 : tie.Need-bounds-answer-2
 slice-write-answer-3 c = simp length-set (omega arith)
 
-same_length : tie.Need-same-length
+same_length : tie.Need-shape_of-answer
 same_length c = search rules
 
 returns : tie.Need-returns

@@ -6,16 +6,16 @@ use Rattle.buffers.proofs.Supplying.{plan-short, plan-by-run}
 use Rattle.buffers.proofs.plan_buffer.holds.Statement.{statement}
 use Rattle.buffers.proofs.plan_buffer.holds.Tie as tie
 
-returns : tie.Need-returns
-returns c = sym (plan-short c.before.before.args.words.now c.if1.true)
+returns : tie.Need-returns-then-words-lt-WORDS
+returns c = sym (plan-short c.args.words.now c.if-words-lt-WORDS.true)
 
 holds-requires : tie.Need-holds-requires
 holds-requires c κs = search rules
 
-returns-2 : tie.Need-returns-2
+returns-2 : tie.Need-returns
 returns-2 c =
     let e = c.before in
-    c.holds.ensures ∙ sym (plan-by-run e.before.before.args.words.now e.if1.false)
+    c.holds.ensures ∙ sym (plan-by-run e.args.words.now e.if-words-lt-WORDS.false)
 
-pub holds-spec : {M : Type 1} → statement M
-holds-spec = tie.close (tie.spec returns holds-requires returns-2)
+pub holds_spec : {M : Type 1} → statement M
+holds_spec = tie.close (tie.spec returns holds-requires returns-2)

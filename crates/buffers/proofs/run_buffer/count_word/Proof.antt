@@ -5,14 +5,14 @@ use borrow.Author.Rules.{rules}
 use Rattle.buffers.proofs.run_buffer.count_word.Statement.{statement}
 use Rattle.buffers.proofs.run_buffer.count_word.Tie as tie
 
-cast-result : tie.Need-overflow-cast-result
+cast-result : tie.Need-overflow_cast-result
 cast-result c = search rules
 
-returns : tie.Need-returns
-returns c = simp (le-leb _ _ c.if1.true)
+returns : tie.Need-returns-then-count-le-PLACES
+returns c = simp (le-leb _ _ c.if-count-le-PLACES.true)
 
-returns-2 : tie.Need-returns-2
-returns-2 c = simp (lt-leb _ _ c.if1.false)
+returns-2 : tie.Need-returns-else-count-le-PLACES
+returns-2 c = simp (lt-leb _ _ c.if-count-le-PLACES.false)
 
-pub count-word-spec : {M : Type 1} → statement M
-count-word-spec = tie.close (tie.spec cast-result returns returns-2)
+pub count_word_spec : {M : Type 1} → statement M
+count_word_spec = tie.close (tie.spec cast-result returns returns-2)

@@ -6,40 +6,34 @@ use Rattle.buffers.proofs.run_buffer.keep.Statement.{statement}
 use Rattle.buffers.proofs.run_buffer.keep.Tie as tie
 
 -- the state at the call
-abbrev entry-from-enum-told : tie.After-enum-told → tie.Start
-entry-from-enum-told c = c.before.before.before
-
-abbrev entry-from-answer : tie.After-answer → tie.Start
-entry-from-answer c = c.before.before.before
+abbrev entry-from-enum-told : tie.In-Taken → tie.Start
+entry-from-enum-told c = c.before.before
 
 -- the state after `enum_told`
-abbrev enum-told-from-put-run : tie.After-put-run → tie.After-enum-told
+abbrev enum-told-from-put-run : tie.After-put_run → tie.In-Taken
 enum-told-from-put-run c = c.before.before.before
 
-enum_told : tie.Need-enum-told
+enum_told : tie.Need-enum_told-1
 enum_told c = search rules
 
-put-run-requires : tie.Need-put-run-requires
+put-run-requires : tie.Need-put_run-requires
 put-run-requires c κs = search rules
 
-enum-known-answer : tie.Need-enum-known-answer
+enum-known-answer : tie.Need-enum_known-answer
 enum-known-answer c = search rules
 
-same_length : tie.Need-same-length
+same_length : tie.Need-shape_of-words
 same_length c = search rules
 
-returns : tie.Need-returns
+returns : tie.Need-returns-in-Taken
 returns c =
     let p = c.before.before in
     let m = enum-told-from-put-run p in
     let a = (entry-from-enum-told m).args in
-    kept-taken a.words.now a.entered m.enum_told.given.1 p.put-run.ensures
+    kept-taken a.words.now a.entered m.in-Taken.is p.put_run.ensures
 
-returns-2 : tie.Need-returns-2
-returns-2 c =
-    let m = c.before in
-    let a = (entry-from-answer m).args in
-    kept-refused a.words.now a.entered m.answer.given.1
+returns-2 : tie.Need-returns-in-Refused
+returns-2 c = kept-refused c.args.words.now c.args.entered c.in-Refused.is
 
 pub keep_spec : {M : Type 1} → statement M
 keep_spec =

@@ -4,32 +4,32 @@ use borrow.Author.Rules.{rules}
 use Rattle.buffers.proofs.run_buffer.of_phase.Statement.{statement}
 use Rattle.buffers.proofs.run_buffer.of_phase.Tie as tie
 
-enum-known-phase : tie.Need-enum-known-phase
+enum-known-phase : tie.Need-enum_known-phase
 enum-known-phase c = search rules
 
-enum-known-phase-2 : tie.Need-enum-known-phase-2
+enum-known-phase-2 : tie.Need-enum_known-phase-in-Working-1
 enum-known-phase-2 c = search rules
 
-enum-known-phase-3 : tie.Need-enum-known-phase-3
+enum-known-phase-3 : tie.Need-enum_known-phase-in-Holding-1
 enum-known-phase-3 c = search rules
 
-enum-known-phase-4 : tie.Need-enum-known-phase-4
+enum-known-phase-4 : tie.Need-enum_known-phase-in-Resting-1
 enum-known-phase-4 c = search rules
 
-returns : tie.Need-returns
-returns c = simp c.before.phase.given.1
+returns : tie.Need-returns-in-Coming
+returns c = simp c.in-Coming.is
 
-returns-2 : tie.Need-returns-2
-returns-2 c = simp c.before.phase2.given.1
+returns-2 : tie.Need-returns-in-Working
+returns-2 c = simp c.in-Working.is
 
-returns-3 : tie.Need-returns-3
-returns-3 c = simp c.before.phase3.given.1
+returns-3 : tie.Need-returns-in-Holding
+returns-3 c = simp c.in-Holding.is
 
-returns-4 : tie.Need-returns-4
-returns-4 c = simp c.before.phase4.given.1
+returns-4 : tie.Need-returns-in-Resting
+returns-4 c = simp c.in-Resting.is
 
-pub of-phase-spec : {M : Type 1} → statement M
-of-phase-spec =
+pub of_phase_spec : {M : Type 1} → statement M
+of_phase_spec =
     tie.close
     (tie.spec
     enum-known-phase

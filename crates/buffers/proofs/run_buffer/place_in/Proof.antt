@@ -8,116 +8,116 @@ use Rattle.buffers.proofs.run_buffer.place_in.Statement.{statement}
 use Rattle.buffers.proofs.run_buffer.place_in.Tie as tie
 
 -- the state after `phase-of`
-abbrev phase-of-from-shared-slice-known9 : tie.After-shared-slice-known9 → tie.After-phase-of
+abbrev phase-of-from-shared-slice-known9 : tie.After-shared_slice_known-9-1 → tie.After-phase_of-phase
 phase-of-from-shared-slice-known9 c = c.before.before.before.before
 
-abbrev phase-of-from-shared-slice-known12 : tie.After-shared-slice-known12 → tie.After-phase-of
+abbrev phase-of-from-shared-slice-known12 : tie.After-shared_slice_known-12-1 → tie.After-phase_of-phase
 phase-of-from-shared-slice-known12 c = phase-of-from-shared-slice-known9 c.before.before.before
 
-add-phase-of : tie.Need-overflow-add-phase-of
+add-phase-of : tie.Need-overflow_add-at
 add-phase-of c = omega arith
 
-mul-phase-of : tie.Need-overflow-mul-phase-of
+mul-phase-of : tie.Need-offset_bounds-words-at
 mul-phase-of c = omega arith
 
-shared-slice-read-phase-of : tie.Need-shared-slice-read-phase-of
+shared-slice-read-phase-of : tie.Need-bounds-words-at
 shared-slice-read-phase-of c = omega arith
 
-add-phase-of-2 : tie.Need-overflow-add-phase-of-2
+add-phase-of-2 : tie.Need-overflow_add-at-2
 add-phase-of-2 c = omega arith
 
-mul-phase-of-2 : tie.Need-overflow-mul-phase-of-2
+mul-phase-of-2 : tie.Need-offset_bounds-words-at-2
 mul-phase-of-2 c = omega arith
 
-shared-slice-read-phase-of-2 : tie.Need-shared-slice-read-phase-of-2
+shared-slice-read-phase-of-2 : tie.Need-bounds-words-at-2
 shared-slice-read-phase-of-2 c = omega arith
 
-add-phase-of-3 : tie.Need-overflow-add-phase-of-3
+add-phase-of-3 : tie.Need-overflow_add-at-3
 add-phase-of-3 c = omega arith
 
-mul-phase-of-3 : tie.Need-overflow-mul-phase-of-3
+mul-phase-of-3 : tie.Need-offset_bounds-words-at-3
 mul-phase-of-3 c = omega arith
 
-shared-slice-read-phase-of-3 : tie.Need-shared-slice-read-phase-of-3
+shared-slice-read-phase-of-3 : tie.Need-bounds-words-at-3
 shared-slice-read-phase-of-3 c = omega arith
 
-add-phase-of-4 : tie.Need-overflow-add-phase-of-4
+add-phase-of-4 : tie.Need-overflow_add-at-4
 add-phase-of-4 c = omega arith
 
-mul-phase-of-4 : tie.Need-overflow-mul-phase-of-4
+mul-phase-of-4 : tie.Need-offset_bounds-words-at-4
 mul-phase-of-4 c = omega arith
 
-shared-slice-read-phase-of-4 : tie.Need-shared-slice-read-phase-of-4
+shared-slice-read-phase-of-4 : tie.Need-bounds-words-at-4
 shared-slice-read-phase-of-4 c = omega arith
 
-phase-of-requires : tie.Need-phase-of-requires
+phase-of-requires : tie.Need-phase_of-phase-requires
 phase-of-requires c κs = search rules
 
-mul-t4 : tie.Need-overflow-mul-t4
+mul-t4 : tie.Need-offset_bounds-words-at-5
 mul-t4 c = omega arith
 
-shared-slice-read-t19 : tie.Need-shared-slice-read-t19
+shared-slice-read-t19 : tie.Need-bounds-words-at-5
 shared-slice-read-t19 c = omega arith
 
-add-t17 : tie.Need-overflow-add-t17
+add-t17 : tie.Need-overflow_add-result
 add-t17 c = omega arith
 
-mul-t16 : tie.Need-overflow-mul-t16
+mul-t16 : tie.Need-offset_bounds-words-at-6
 mul-t16 c = omega arith
 
-shared-slice-read-t15 : tie.Need-shared-slice-read-t15
+shared-slice-read-t15 : tie.Need-bounds-words-at-6
 shared-slice-read-t15 c = omega arith
 
-add-t13 : tie.Need-overflow-add-t13
+add-t13 : tie.Need-overflow_add-result-2
 add-t13 c = omega arith
 
-mul-t12 : tie.Need-overflow-mul-t12
+mul-t12 : tie.Need-offset_bounds-words-at-7
 mul-t12 c = omega arith
 
-shared-slice-read-t11 : tie.Need-shared-slice-read-t11
+shared-slice-read-t11 : tie.Need-bounds-words-at-7
 shared-slice-read-t11 c = omega arith
 
-add-t9 : tie.Need-overflow-add-t9
+add-t9 : tie.Need-overflow_add-result-3
 add-t9 c = omega arith
 
-mul-t8 : tie.Need-overflow-mul-t8
+mul-t8 : tie.Need-offset_bounds-words-at-8
 mul-t8 c = omega arith
 
-shared-slice-read-t7 : tie.Need-shared-slice-read-t7
+shared-slice-read-t7 : tie.Need-bounds-words-at-8
 shared-slice-read-t7 c = omega arith
 
-add-t5 : tie.Need-overflow-add-t5
+add-t5 : tie.Need-overflow_add-result-4
 add-t5 c = omega arith
 
-mul-t24 : tie.Need-overflow-mul-t24
+mul-t24 : tie.Need-offset_bounds-words-at-9
 mul-t24 c = omega arith
 
-shared-slice-read-t26 : tie.Need-shared-slice-read-t26
+shared-slice-read-t26 : tie.Need-bounds-words-at-9
 shared-slice-read-t26 c = omega arith
 
-add-t27 : tie.Need-overflow-add-t27
+add-t27 : tie.Need-overflow_add-result-5
 add-t27 c = omega arith
 
-mul-t28 : tie.Need-overflow-mul-t28
+mul-t28 : tie.Need-offset_bounds-words-at-10
 mul-t28 c = omega arith
 
-shared-slice-read-t30 : tie.Need-shared-slice-read-t30
+shared-slice-read-t30 : tie.Need-bounds-words-at-10
 shared-slice-read-t30 c = omega arith
 
-add-t31 : tie.Need-overflow-add-t31
+add-t31 : tie.Need-overflow_add-result-6
 add-t31 c = omega arith
 
-mul-t32 : tie.Need-overflow-mul-t32
+mul-t32 : tie.Need-offset_bounds-words-at-11
 mul-t32 c = omega arith
 
-shared-slice-read-t34 : tie.Need-shared-slice-read-t34
+shared-slice-read-t34 : tie.Need-bounds-words-at-11
 shared-slice-read-t34 c = omega arith
 
 returns : tie.Need-returns
-returns c = simp ((phase-of-from-shared-slice-known12 c).phase-of.ensures, get_or-drop, add-zero)
+returns c = simp ((phase-of-from-shared-slice-known12 c).phase_of-phase.ensures, get_or-drop, add-zero)
 
-pub place-in-spec : {M : Type 1} → statement M
-place-in-spec =
+pub place_in_spec : {M : Type 1} → statement M
+place_in_spec =
     tie.close
     (tie.spec
     add-phase-of

@@ -18,45 +18,45 @@ unfolding encode_to places_words
 answer_written ws r n l h k x y z =
     head-put ws r.rule r.cores n l h r.withdrawn k ∙ (λ i. r.rule ∷ (r.cores ∷ (x i ∷ (y i ∷ (z i ∷ (r.withdrawn ∷ drop head_words ws))))))
 
-slice-write-words : tie.Need-slice-write-words
+slice-write-words : tie.Need-bounds-words-0
 slice-write-words c = search rules
 
-slice-write-words-2 : tie.Need-slice-write-words-2
+slice-write-words-2 : tie.Need-bounds-words-1
 slice-write-words-2 c = simp length-set (omega arith)
 
-count-word-requires : tie.Need-count-word-requires
+count-word-requires : tie.Need-count_word-requires
 count-word-requires c κs = search rules
 
-slice-write-words-3 : tie.Need-slice-write-words-3
+slice-write-words-3 : tie.Need-bounds-words-2
 slice-write-words-3 c = simp length-set (omega arith)
 
-low-word-requires : tie.Need-low-word-requires
+low-word-requires : tie.Need-low_word-requires
 low-word-requires c κs = search rules
 
-slice-write-words-4 : tie.Need-slice-write-words-4
+slice-write-words-4 : tie.Need-bounds-words-3
 slice-write-words-4 c = simp length-set (omega arith)
 
-high-word-requires : tie.Need-high-word-requires
+high-word-requires : tie.Need-high_word-requires
 high-word-requires c κs = search rules
 
-slice-write-words-5 : tie.Need-slice-write-words-5
+slice-write-words-5 : tie.Need-bounds-words-4
 slice-write-words-5 c = simp length-set (omega arith)
 
-slice-write-words-6 : tie.Need-slice-write-words-6
+slice-write-words-6 : tie.Need-bounds-words-5
 slice-write-words-6 c = simp length-set (omega arith)
 
-same_length : tie.Need-same-length
+same_length : tie.Need-shape_of-words
 same_length c = search rules
 
 returns : tie.Need-returns
 returns c =
     let l = c.before in
     let n = l.before in
-    let a = n.before.before.args in
-    answer_written a.words.now a.run _ _ _ n.before.before.requires n.count_word.ensures l.low_word.ensures c.high_word_lem.ensures
+    let a = n.args in
+    answer_written a.words.now a.run _ _ _ n.requires n.count_word.ensures l.low_word.ensures c.high_word.ensures
 
-pub put-head-spec : {M : Type 1} → statement M
-put-head-spec =
+pub put_head_spec : {M : Type 1} → statement M
+put_head_spec =
     tie.close
     (tie.spec
     slice-write-words

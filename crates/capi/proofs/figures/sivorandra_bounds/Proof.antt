@@ -15,27 +15,27 @@ use Rattle.capi.proofs.figures.sivorandra_bounds.Tie as tie
 
 -- the state at the call
 abbrev entry : tie.After-fit → tie.Start
-entry c = c.before.before.before.before.before
+entry c = c.before.before.before.before
 
 -- there is space
-space : (c : tie.Then1) → slices_fit (length (entry c.before).args.figures.now) most_tasks (entry c.before).args.answer.now ≡ true
-space c = sym c.before.fit.ensures ∙ c.if1.true
+space : (c : tie.Then-fit) → slices_fit (length (entry c.before).args.figures.now) most_tasks (entry c.before).args.answer.now ≡ true
+space c = sym c.fit.ensures ∙ c.if-fit.true
 
 fit-requires : tie.Need-fit-requires
 fit-requires c κs = search rules
 
-response-bounds-requires : tie.Need-response-bounds-requires
+response-bounds-requires : tie.Need-response_bounds-found-requires
 response-bounds-requires c κs = search rules
 
-put-figures-requires : tie.Need-put-figures-requires
+put-figures-requires : tie.Need-put_figures-requires
 put-figures-requires c κs =
     let t = c.before.before.before.before in
     for-slice (length (entry t.before).args.figures.now) most_tasks (entry t.before).args.answer.now (space t)
 
-met-word-requires : tie.Need-met-word-requires
+met-word-requires : tie.Need-met_word-met-requires
 met-word-requires c κs = search rules
 
-of-given-requires : tie.Need-of-given-requires
+of-given-requires : tie.Need-of_given-encoded-requires
 of-given-requires c κs = search rules
 
 put-requires : tie.Need-put-requires
@@ -43,13 +43,13 @@ put-requires c κs =
     let t = c.before.before.before.before.before.before.before.before.before.before in
     for-answer (length (entry t.before).args.figures.now) most_tasks (entry t.before).args.answer.now (space t)
 
-same_length : tie.Need-same-length
+same_length : tie.Need-shape_of-figures-then-fit
 same_length c = search rules
 
-same-length-2 : tie.Need-same-length-2
+same-length-2 : tie.Need-shape_of-answer-then-fit
 same-length-2 c = search rules
 
-returns : tie.Need-returns
+returns : tie.Need-returns-then-fit
 unfolding bounds_call_of
 returns c =
     let p = c.before.before in
@@ -60,21 +60,21 @@ returns c =
     let t = m.before in
     let a = (entry t.before).args in
     both
-    (s.put-figures.ensures ∙ ap (λ (v : Bounds). v.tested.bounds ++ drop most_tasks a.figures.now) m.response-bounds.ensures.value)
-    (words_of a.answer.now p.put.ensures (o.of-given.ensures
-    ∙ (ap (of_given m.response-bounds.result.answer) r.met-word.ensures
-    ∙ ap (λ (v : Bounds). of_given v.answer (met_word v.tested.met)) m.response-bounds.ensures.value)))
+    (s.put_figures.ensures ∙ ap (λ (v : Bounds). v.tested.bounds ++ drop most_tasks a.figures.now) m.response_bounds-found.ensures.value)
+    (words_of a.answer.now p.put.ensures (o.of_given-encoded.ensures
+    ∙ (ap (of_given m.response_bounds-found.result.answer) r.met_word-met.ensures
+    ∙ ap (λ (v : Bounds). of_given v.answer (met_word v.tested.met)) m.response_bounds-found.ensures.value)))
     ∙ answered _ _ (space t)
 
-same-length-3 : tie.Need-same-length-3
+same-length-3 : tie.Need-shape_of-answer
 same-length-3 c = search rules
 
-returns-2 : tie.Need-returns-2
+returns-2 : tie.Need-returns
 unfolding bounds_call_of
-returns-2 c = as-found _ _ (sym c.before.fit.ensures ∙ c.if1.false)
+returns-2 c = as-found _ _ (sym c.fit.ensures ∙ c.if-fit.false)
 
-pub sivorandra-bounds-spec : {M : Type 1} → statement M
-sivorandra-bounds-spec =
+pub sivorandra_bounds_spec : {M : Type 1} → statement M
+sivorandra_bounds_spec =
     tie.close
     (tie.spec
     fit-requires

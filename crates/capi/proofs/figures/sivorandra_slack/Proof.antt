@@ -15,24 +15,24 @@ use Rattle.capi.proofs.figures.sivorandra_slack.Tie as tie
 
 -- the state at the call
 abbrev entry : tie.After-fit → tie.Start
-entry c = c.before.before.before.before.before
+entry c = c.before.before.before.before
 
 -- there is space
-space : (c : tie.Then1) → slices_fit (length (entry c.before).args.figures.now) most_tasks (entry c.before).args.answer.now ≡ true
-space c = sym c.before.fit.ensures ∙ c.if1.true
+space : (c : tie.Then-fit) → slices_fit (length (entry c.before).args.figures.now) most_tasks (entry c.before).args.answer.now ≡ true
+space c = sym c.fit.ensures ∙ c.if-fit.true
 
 fit-requires : tie.Need-fit-requires
 fit-requires c κs = search rules
 
-slack-requires : tie.Need-slack-requires
+slack-requires : tie.Need-slack-found-requires
 slack-requires c κs = search rules
 
-put-figures-requires : tie.Need-put-figures-requires
+put-figures-requires : tie.Need-put_figures-requires
 put-figures-requires c κs =
     let t = c.before.before.before in
     for-slice (length (entry t.before).args.figures.now) most_tasks (entry t.before).args.answer.now (space t)
 
-of-given-requires : tie.Need-of-given-requires
+of-given-requires : tie.Need-of_given-encoded-requires
 of-given-requires c κs = search rules
 
 put-requires : tie.Need-put-requires
@@ -40,13 +40,13 @@ put-requires c κs =
     let t = c.before.before.before.before.before.before.before.before in
     for-answer (length (entry t.before).args.figures.now) most_tasks (entry t.before).args.answer.now (space t)
 
-same_length : tie.Need-same-length
+same_length : tie.Need-shape_of-figures-then-fit
 same_length c = search rules
 
-same-length-2 : tie.Need-same-length-2
+same-length-2 : tie.Need-shape_of-answer-then-fit
 same-length-2 c = search rules
 
-returns : tie.Need-returns
+returns : tie.Need-returns-then-fit
 unfolding figures_call
 returns c =
     let p = c.before.before in
@@ -56,19 +56,19 @@ returns c =
     let t = s.before in
     let a = (entry t.before).args in
     both
-    (r.put-figures.ensures ∙ ap (λ (v : SlackAnswer). v.slack ++ drop most_tasks a.figures.now) s.slack.ensures.value)
-    (words_of a.answer.now p.put.ensures (o.of-given.ensures ∙ ap (λ (v : SlackAnswer). of_given v.answer 0) s.slack.ensures.value))
+    (r.put_figures.ensures ∙ ap (λ (v : SlackAnswer). v.slack ++ drop most_tasks a.figures.now) s.slack-found.ensures.value)
+    (words_of a.answer.now p.put.ensures (o.of_given-encoded.ensures ∙ ap (λ (v : SlackAnswer). of_given v.answer 0) s.slack-found.ensures.value))
     ∙ answered _ _ (space t)
 
-same-length-3 : tie.Need-same-length-3
+same-length-3 : tie.Need-shape_of-answer
 same-length-3 c = search rules
 
-returns-2 : tie.Need-returns-2
+returns-2 : tie.Need-returns
 unfolding figures_call
-returns-2 c = as-found _ _ (sym c.before.fit.ensures ∙ c.if1.false)
+returns-2 c = as-found _ _ (sym c.fit.ensures ∙ c.if-fit.false)
 
-pub sivorandra-slack-spec : {M : Type 1} → statement M
-sivorandra-slack-spec =
+pub sivorandra_slack_spec : {M : Type 1} → statement M
+sivorandra_slack_spec =
     tie.close
     (tie.spec
     fit-requires

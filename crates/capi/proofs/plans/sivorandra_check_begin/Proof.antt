@@ -16,24 +16,24 @@ use Rattle.capi.proofs.plans.sivorandra_check_begin.Tie as tie
 
 -- the state at the call
 abbrev entry : tie.After-fit → tie.Start
-entry c = c.before.before.before.before.before
+entry c = c.before.before.before.before
 
 -- there is space
-space : (c : tie.Then1) → slices_fit (length (entry c.before).args.plan.now) plan_words (entry c.before).args.answer.now ≡ true
-space c = sym c.before.fit.ensures ∙ c.if1.true
+space : (c : tie.Then-fit) → slices_fit (length (entry c.before).args.plan.now) plan_words (entry c.before).args.answer.now ≡ true
+space c = sym c.fit.ensures ∙ c.if-fit.true
 
 fit-requires : tie.Need-fit-requires
 fit-requires c κs = search rules
 
-begin-requires : tie.Need-begin-requires
+begin-requires : tie.Need-begin-begun-requires
 begin-requires c κs = search rules
 
-put-plan-requires : tie.Need-put-plan-requires
+put-plan-requires : tie.Need-put_plan-requires
 put-plan-requires c κs =
     let t = c.before.before.before in
     (omega arith, for-slice (length (entry t.before).args.plan.now) plan_words (entry t.before).args.answer.now (space t))
 
-of-given-requires : tie.Need-of-given-requires
+of-given-requires : tie.Need-of_given-encoded-requires
 of-given-requires c κs = search rules
 
 put-requires : tie.Need-put-requires
@@ -41,13 +41,13 @@ put-requires c κs =
     let t = c.before.before.before.before.before.before.before.before in
     for-answer (length (entry t.before).args.plan.now) plan_words (entry t.before).args.answer.now (space t)
 
-same_length : tie.Need-same-length
+same_length : tie.Need-shape_of-plan-then-fit
 same_length c = search rules
 
-same-length-2 : tie.Need-same-length-2
+same-length-2 : tie.Need-shape_of-answer-then-fit
 same-length-2 c = search rules
 
-returns : tie.Need-returns
+returns : tie.Need-returns-then-fit
 unfolding begin_call
 returns c =
     let p = c.before.before in
@@ -57,19 +57,19 @@ returns c =
     let t = s.before in
     let a = (entry t.before).args in
     both
-    (r.put-plan.ensures ∙ ap (λ (b : Begun). plan_over true places b.plan a.plan.now) s.begin.ensures.value)
-    (words_of a.answer.now p.put.ensures (o.of-given.ensures ∙ ap (λ (b : Begun). of_given b.answer 0) s.begin.ensures.value))
+    (r.put_plan.ensures ∙ ap (λ (b : Begun). plan_over true places b.plan a.plan.now) s.begin-begun.ensures.value)
+    (words_of a.answer.now p.put.ensures (o.of_given-encoded.ensures ∙ ap (λ (b : Begun). of_given b.answer 0) s.begin-begun.ensures.value))
     ∙ answered _ _ (space t)
 
-same-length-3 : tie.Need-same-length-3
+same-length-3 : tie.Need-shape_of-answer
 same-length-3 c = search rules
 
-returns-2 : tie.Need-returns-2
+returns-2 : tie.Need-returns
 unfolding begin_call
-returns-2 c = as-found _ _ (sym c.before.fit.ensures ∙ c.if1.false)
+returns-2 c = as-found _ _ (sym c.fit.ensures ∙ c.if-fit.false)
 
-pub sivorandra-check-begin-spec : {M : Type 1} → statement M
-sivorandra-check-begin-spec =
+pub sivorandra_check_begin_spec : {M : Type 1} → statement M
+sivorandra_check_begin_spec =
     tie.close
     (tie.spec
     fit-requires

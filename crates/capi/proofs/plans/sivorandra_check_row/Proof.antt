@@ -12,19 +12,19 @@ use Rattle.capi.proofs.plans.sivorandra_check_row.Tie as tie
 
 -- the state at the call
 abbrev entry : tie.After-fit → tie.Start
-entry c = c.before.before.before.before.before
+entry c = c.before.before.before.before
 
 -- there is space
-space : (c : tie.Then1) → slices_fit 0 0 (entry c.before).args.answer.now ≡ true
-space c = sym c.before.fit.ensures ∙ c.if1.true
+space : (c : tie.Then-fit) → slices_fit 0 0 (entry c.before).args.answer.now ≡ true
+space c = sym c.fit.ensures ∙ c.if-fit.true
 
 fit-requires : tie.Need-fit-requires
 fit-requires c κs = search rules
 
-take-requires : tie.Need-take-requires
+take-requires : tie.Need-take-given-requires
 take-requires c κs = search rules
 
-of-taken-requires : tie.Need-of-taken-requires
+of-taken-requires : tie.Need-of_taken-encoded-requires
 of-taken-requires c κs = search rules
 
 put-requires : tie.Need-put-requires
@@ -32,13 +32,13 @@ put-requires c κs =
     let t = c.before.before.before.before.before.before in
     for-answer 0 0 (entry t.before).args.answer.now (space t)
 
-same_length : tie.Need-same-length
+same_length : tie.Need-shape_of-plan-then-fit
 same_length c = search rules
 
-same-length-2 : tie.Need-same-length-2
+same-length-2 : tie.Need-shape_of-answer-then-fit
 same-length-2 c = search rules
 
-returns : tie.Need-returns
+returns : tie.Need-returns-then-fit
 unfolding check_row_call
 returns c =
     let p = c.before.before in
@@ -47,19 +47,19 @@ returns c =
     let t = r.before.before in
     let a = (entry t.before).args in
     both
-    (ap (λ (v : RowChecked). v.buffer) r.take.ensures)
-    (words_of a.answer.now p.put.ensures (o.of-taken.ensures ∙ ap (λ (v : RowChecked). of_taken v.answer) r.take.ensures))
+    (ap (λ (v : RowChecked). v.buffer) r.take-given.ensures)
+    (words_of a.answer.now p.put.ensures (o.of_taken-encoded.ensures ∙ ap (λ (v : RowChecked). of_taken v.answer) r.take-given.ensures))
     ∙ answered _ _ (space t)
 
-same-length-3 : tie.Need-same-length-3
+same-length-3 : tie.Need-shape_of-answer
 same-length-3 c = search rules
 
-returns-2 : tie.Need-returns-2
+returns-2 : tie.Need-returns
 unfolding check_row_call
-returns-2 c = as-found _ _ (sym c.before.fit.ensures ∙ c.if1.false)
+returns-2 c = as-found _ _ (sym c.fit.ensures ∙ c.if-fit.false)
 
-pub sivorandra-check-row-spec : {M : Type 1} → statement M
-sivorandra-check-row-spec =
+pub sivorandra_check_row_spec : {M : Type 1} → statement M
+sivorandra_check_row_spec =
     tie.close
     (tie.spec
     fit-requires

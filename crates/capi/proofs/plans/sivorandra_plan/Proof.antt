@@ -14,19 +14,19 @@ use Rattle.capi.proofs.plans.sivorandra_plan.Tie as tie
 
 -- the state at the call
 abbrev entry : tie.After-fit → tie.Start
-entry c = c.before.before.before.before.before
+entry c = c.before.before.before.before
 
 -- there is space
-space : (c : tie.Then1) → slices_fit 0 0 (entry c.before).args.answer.now ≡ true
-space c = sym c.before.fit.ensures ∙ c.if1.true
+space : (c : tie.Then-fit) → slices_fit 0 0 (entry c.before).args.answer.now ≡ true
+space c = sym c.fit.ensures ∙ c.if-fit.true
 
 fit-requires : tie.Need-fit-requires
 fit-requires c κs = search rules
 
-plan-requires : tie.Need-plan-requires
+plan-requires : tie.Need-plan-planned-requires
 plan-requires c κs = search rules
 
-of-planned-requires : tie.Need-of-planned-requires
+of-planned-requires : tie.Need-of_planned-encoded-requires
 of-planned-requires c κs = search rules
 
 put-requires : tie.Need-put-requires
@@ -34,13 +34,13 @@ put-requires c κs =
     let t = c.before.before.before.before.before.before in
     for-answer 0 0 (entry t.before).args.answer.now (space t)
 
-same_length : tie.Need-same-length
+same_length : tie.Need-shape_of-rows-then-fit
 same_length c = search rules
 
-same-length-2 : tie.Need-same-length-2
+same-length-2 : tie.Need-shape_of-answer-then-fit
 same-length-2 c = search rules
 
-returns : tie.Need-returns
+returns : tie.Need-returns-then-fit
 unfolding plan_call
 returns c =
     let p = c.before.before in
@@ -49,19 +49,19 @@ returns c =
     let t = r.before.before in
     let a = (entry t.before).args in
     both
-    (r.plan.ensures.buffer ∙ ap (λ (v : Planned). buffer_of (plan_meaning v) (table_of a.words.now) a.a a.b a.rows.now) r.plan.ensures.value)
-    (words_of a.answer.now p.put.ensures (o.of-planned.ensures ∙ ap of_planned r.plan.ensures.value))
+    (r.plan-planned.ensures.buffer ∙ ap (λ (v : Planned). buffer_of (plan_meaning v) (table_of a.words.now) a.a a.b a.rows.now) r.plan-planned.ensures.value)
+    (words_of a.answer.now p.put.ensures (o.of_planned-encoded.ensures ∙ ap of_planned r.plan-planned.ensures.value))
     ∙ answered _ _ (space t)
 
-same-length-3 : tie.Need-same-length-3
+same-length-3 : tie.Need-shape_of-answer
 same-length-3 c = search rules
 
-returns-2 : tie.Need-returns-2
+returns-2 : tie.Need-returns
 unfolding plan_call
-returns-2 c = as-found _ _ (sym c.before.fit.ensures ∙ c.if1.false)
+returns-2 c = as-found _ _ (sym c.fit.ensures ∙ c.if-fit.false)
 
-pub sivorandra-plan-spec : {M : Type 1} → statement M
-sivorandra-plan-spec =
+pub sivorandra_plan_spec : {M : Type 1} → statement M
+sivorandra_plan_spec =
     tie.close
     (tie.spec
     fit-requires

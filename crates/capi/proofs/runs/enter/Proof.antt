@@ -12,19 +12,19 @@ use Rattle.capi.proofs.runs.enter.Tie as tie
 
 -- the state at the call
 abbrev entry : tie.After-fit → tie.Start
-entry c = c.before.before.before.before
+entry c = c.before.before.before
 
 -- there is space
-space : (c : tie.Then1) → slices_fit 0 0 (entry c.before).args.answer.now ≡ true
-space c = sym c.before.fit.ensures ∙ c.if1.true
+space : (c : tie.Then-fit) → slices_fit 0 0 (entry c.before).args.answer.now ≡ true
+space c = sym c.fit.ensures ∙ c.if-fit.true
 
 fit-requires : tie.Need-fit-requires
 fit-requires c κs = search rules
 
-enter-requires : tie.Need-enter-requires
+enter-requires : tie.Need-enter-given-requires
 enter-requires c κs = search rules
 
-of-answer-requires : tie.Need-of-answer-requires
+of-answer-requires : tie.Need-of_answer-encoded-requires
 of-answer-requires c κs = search rules
 
 put-requires : tie.Need-put-requires
@@ -32,13 +32,13 @@ put-requires c κs =
     let t = c.before.before.before.before.before.before in
     for-answer 0 0 (entry t.before).args.answer.now (space t)
 
-same_length : tie.Need-same-length
+same_length : tie.Need-shape_of-run-then-fit
 same_length c = search rules
 
-same-length-2 : tie.Need-same-length-2
+same-length-2 : tie.Need-shape_of-answer-then-fit
 same-length-2 c = search rules
 
-returns : tie.Need-returns
+returns : tie.Need-returns-then-fit
 unfolding entry_call
 returns c =
     let p = c.before.before in
@@ -47,16 +47,16 @@ returns c =
     let t = r.before.before in
     let a = (entry t.before).args in
     both
-    (ap (λ (v : Entered). v.buffer) r.enter.ensures)
-    (words_of a.answer.now p.put.ensures (o.of-answer.ensures ∙ ap (λ (v : Entered). of_answer v.answer) r.enter.ensures))
+    (ap (λ (v : Entered). v.buffer) r.enter-given.ensures)
+    (words_of a.answer.now p.put.ensures (o.of_answer-encoded.ensures ∙ ap (λ (v : Entered). of_answer v.answer) r.enter-given.ensures))
     ∙ answered _ _ (space t)
 
-same-length-3 : tie.Need-same-length-3
+same-length-3 : tie.Need-shape_of-answer
 same-length-3 c = search rules
 
-returns-2 : tie.Need-returns-2
+returns-2 : tie.Need-returns
 unfolding entry_call
-returns-2 c = as-found _ _ (sym c.before.fit.ensures ∙ c.if1.false)
+returns-2 c = as-found _ _ (sym c.fit.ensures ∙ c.if-fit.false)
 
 pub enter_spec : {M : Type 1} → statement M
 enter_spec =

@@ -16,24 +16,24 @@ use Rattle.capi.proofs.sentences.sivorandra_facts.Tie as tie
 
 -- the state at the call
 abbrev entry : tie.After-fit → tie.Start
-entry c = c.before.before.before.before.before
+entry c = c.before.before.before.before
 
 -- there is space
-space : (c : tie.Then1) → slices_fit (length (entry c.before).args.facts.now) fact_words (entry c.before).args.answer.now ≡ true
-space c = sym c.before.fit.ensures ∙ c.if1.true
+space : (c : tie.Then-fit) → slices_fit (length (entry c.before).args.facts.now) fact_words (entry c.before).args.answer.now ≡ true
+space c = sym c.fit.ensures ∙ c.if-fit.true
 
 fit-requires : tie.Need-fit-requires
 fit-requires c κs = search rules
 
-facts-of-requires : tie.Need-facts-of-requires
+facts-of-requires : tie.Need-facts_of-found-requires
 facts-of-requires c κs = search rules
 
-put-facts-requires : tie.Need-put-facts-requires
+put-facts-requires : tie.Need-put_facts-requires
 put-facts-requires c κs =
     let t = c.before.before.before in
     for-slice (length (entry t.before).args.facts.now) fact_words (entry t.before).args.answer.now (space t)
 
-of-parsed-requires : tie.Need-of-parsed-requires
+of-parsed-requires : tie.Need-of_parsed-encoded-requires
 of-parsed-requires c κs = search rules
 
 put-requires : tie.Need-put-requires
@@ -41,13 +41,13 @@ put-requires c κs =
     let t = c.before.before.before.before.before.before.before.before in
     for-answer (length (entry t.before).args.facts.now) fact_words (entry t.before).args.answer.now (space t)
 
-same_length : tie.Need-same-length
+same_length : tie.Need-shape_of-facts-then-fit
 same_length c = search rules
 
-same-length-2 : tie.Need-same-length-2
+same-length-2 : tie.Need-shape_of-answer-then-fit
 same-length-2 c = search rules
 
-returns : tie.Need-returns
+returns : tie.Need-returns-then-fit
 unfolding facts_call
 returns c =
     let p = c.before.before in
@@ -57,20 +57,20 @@ returns c =
     let t = s.before in
     let a = (entry t.before).args in
     both
-    (r.put-facts.ensures.0
-    ∙ ap (λ (v : List ℕ). v ++ drop fact_words a.facts.now) (found-words a.bytes.now s.facts-of.result s.facts-of.ensures r.put-facts.ensures.1))
-    (words_of a.answer.now p.put.ensures (o.of-parsed.ensures ∙ found-case a.bytes.now s.facts-of.result s.facts-of.ensures))
+    (r.put_facts.ensures.0
+    ∙ ap (λ (v : List ℕ). v ++ drop fact_words a.facts.now) (found-words a.bytes.now s.facts_of-found.result s.facts_of-found.ensures r.put_facts.ensures.1))
+    (words_of a.answer.now p.put.ensures (o.of_parsed-encoded.ensures ∙ found-case a.bytes.now s.facts_of-found.result s.facts_of-found.ensures))
     ∙ answered _ _ (space t)
 
-same-length-3 : tie.Need-same-length-3
+same-length-3 : tie.Need-shape_of-answer
 same-length-3 c = search rules
 
-returns-2 : tie.Need-returns-2
+returns-2 : tie.Need-returns
 unfolding facts_call
-returns-2 c = as-found _ _ (sym c.before.fit.ensures ∙ c.if1.false)
+returns-2 c = as-found _ _ (sym c.fit.ensures ∙ c.if-fit.false)
 
-pub sivorandra-facts-spec : {M : Type 1} → statement M
-sivorandra-facts-spec =
+pub sivorandra_facts_spec : {M : Type 1} → statement M
+sivorandra_facts_spec =
     tie.close
     (tie.spec
     fit-requires

@@ -23,35 +23,35 @@ sentence-fits ws old new v s n e = let l : n ≤ 700 = s.short n e in omega arit
 
 -- the state at the call
 abbrev entry : tie.After-fit → tie.Start
-entry c = c.before.before.before.before.before
+entry c = c.before.before.before.before
 
 -- there is space
-space : (c : tie.Then1) → slices_fit 0 0 (entry c.before).args.answer.now ≡ true
-space c = sym c.before.fit.ensures ∙ c.if1.true
+space : (c : tie.Then-fit) → slices_fit 0 0 (entry c.before).args.answer.now ≡ true
+space c = sym c.fit.ensures ∙ c.if-fit.true
 
 fit-requires : tie.Need-fit-requires
 fit-requires c κs = search rules
 
-sentence-requires : tie.Need-sentence-requires
+sentence-requires : tie.Need-sentence-outcome-requires
 sentence-requires c κs = search rules
 
-of-sentence-requires : tie.Need-of-sentence-requires
+of-sentence-requires : tie.Need-of_sentence-encoded-requires
 of-sentence-requires c κs =
     let s = c.before.before in
-    sentence-fits _ _ _ s.sentence.result s.sentence.ensures
+    sentence-fits _ _ _ s.sentence-outcome.result s.sentence-outcome.ensures
 
 put-requires : tie.Need-put-requires
 put-requires c κs =
     let t = c.before.before.before.before.before.before in
     for-answer 0 0 (entry t.before).args.answer.now (space t)
 
-same_length : tie.Need-same-length
+same_length : tie.Need-shape_of-buffer-then-fit
 same_length c = search rules
 
-same-length-2 : tie.Need-same-length-2
+same-length-2 : tie.Need-shape_of-answer-then-fit
 same-length-2 c = search rules
 
-returns : tie.Need-returns
+returns : tie.Need-returns-then-fit
 unfolding sentence_call
 returns c =
     let p = c.before.before in
@@ -60,20 +60,20 @@ returns c =
     let t = r.before.before in
     let a = (entry t.before).args in
     both
-    (r.sentence.ensures.buffer
-    ∙ ap (λ (v : SentenceAnswer). left_in (sentence_meaning v) (facts_of a.words.now) a.buffer.now) r.sentence.ensures.value)
-    (words_of a.answer.now p.put.ensures (o.of-sentence.ensures ∙ ap of_sentence r.sentence.ensures.value))
+    (r.sentence-outcome.ensures.buffer
+    ∙ ap (λ (v : SentenceAnswer). left_in (sentence_meaning v) (facts_of a.words.now) a.buffer.now) r.sentence-outcome.ensures.value)
+    (words_of a.answer.now p.put.ensures (o.of_sentence-encoded.ensures ∙ ap of_sentence r.sentence-outcome.ensures.value))
     ∙ answered _ _ (space t)
 
-same-length-3 : tie.Need-same-length-3
+same-length-3 : tie.Need-shape_of-answer
 same-length-3 c = search rules
 
-returns-2 : tie.Need-returns-2
+returns-2 : tie.Need-returns
 unfolding sentence_call
-returns-2 c = as-found _ _ (sym c.before.fit.ensures ∙ c.if1.false)
+returns-2 c = as-found _ _ (sym c.fit.ensures ∙ c.if-fit.false)
 
-pub sivorandra-sentence-spec : {M : Type 1} → statement M
-sivorandra-sentence-spec =
+pub sivorandra_sentence_spec : {M : Type 1} → statement M
+sivorandra_sentence_spec =
     tie.close
     (tie.spec
     fit-requires

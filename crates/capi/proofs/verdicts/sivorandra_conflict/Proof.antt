@@ -12,19 +12,19 @@ use Rattle.capi.proofs.verdicts.sivorandra_conflict.Tie as tie
 
 -- the state at the call
 abbrev entry : tie.After-fit → tie.Start
-entry c = c.before.before.before.before
+entry c = c.before.before.before
 
 -- there is space
-space : (c : tie.Then1) → slices_fit 0 0 (entry c.before).args.answer.now ≡ true
-space c = sym c.before.fit.ensures ∙ c.if1.true
+space : (c : tie.Then-fit) → slices_fit 0 0 (entry c.before).args.answer.now ≡ true
+space c = sym c.fit.ensures ∙ c.if-fit.true
 
 fit-requires : tie.Need-fit-requires
 fit-requires c κs = search rules
 
-conflict-requires : tie.Need-conflict-requires
+conflict-requires : tie.Need-conflict-conflict-requires
 conflict-requires c κs = search rules
 
-of-given-requires : tie.Need-of-given-requires
+of-given-requires : tie.Need-of_given-encoded-requires
 of-given-requires c κs = search rules
 
 put-requires : tie.Need-put-requires
@@ -32,10 +32,10 @@ put-requires c κs =
     let t = c.before.before.before in
     for-answer 0 0 (entry t.before).args.answer.now (space t)
 
-same_length : tie.Need-same-length
+same_length : tie.Need-shape_of-answer-then-fit
 same_length c = search rules
 
-returns : tie.Need-returns
+returns : tie.Need-returns-then-fit
 unfolding conflict_call
 returns c =
     let p = c.before.before in
@@ -43,19 +43,19 @@ returns c =
     let r = o.before in
     let t = r.before in
     let a = (entry t.before).args in
-    one (words_of a.answer.now p.put.ensures (o.of-given.ensures
-    ∙ ap (λ (v : ConflictAnswer). of_given v.answer v.kept) r.conflict.ensures.value))
+    one (words_of a.answer.now p.put.ensures (o.of_given-encoded.ensures
+    ∙ ap (λ (v : ConflictAnswer). of_given v.answer v.kept) r.conflict-conflict.ensures.value))
     ∙ answered _ _ (space t)
 
-same-length-2 : tie.Need-same-length-2
+same-length-2 : tie.Need-shape_of-answer
 same-length-2 c = search rules
 
-returns-2 : tie.Need-returns-2
+returns-2 : tie.Need-returns
 unfolding conflict_call
-returns-2 c = as-found _ _ (sym c.before.fit.ensures ∙ c.if1.false)
+returns-2 c = as-found _ _ (sym c.fit.ensures ∙ c.if-fit.false)
 
-pub sivorandra-conflict-spec : {M : Type 1} → statement M
-sivorandra-conflict-spec =
+pub sivorandra_conflict_spec : {M : Type 1} → statement M
+sivorandra_conflict_spec =
     tie.close
     (tie.spec
     fit-requires
