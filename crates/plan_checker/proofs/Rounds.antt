@@ -18,7 +18,7 @@ use Rattle.plan_text.specs.declared.PlanAnswer.{PlanAnswer}
 use Rattle.plan_text.specs.Check.{FedOf, is_over, check_answer}
 use Rattle.plan_text.specs.Printed.{plan_answer_line}
 use Rattle.plan_checker.specs.declared.Received.{Received}
-use Rattle.plan_checker.specs.Rounds.{ReceivedBytes, ReceivedOf}
+use Rattle.plan_checker.specs.Rounds.{ReceivedOf}
 
 -- A READ
 

@@ -1,15 +1,18 @@
 // Reads a table, a line `--` and a supplied plan from standard input as they come, and prints the answer: one line.
+#![tactic(auto)]
+
 ghost use Rattle.std.specs.Prelude.{◌≡◌, ◌<◌, length};
 ghost use Rattle.stream.specs.Sent.{SentOf};
 ghost use Rattle.plan_text.specs.Printed.{plan_answer_line};
 ghost use Rattle.plan_checker.specs.Rounds.{ReceivedOf};
 
 use plan_text::{Check, PlanAnswer, answer_text};
+use std::io::{Read, Write};
 use stream::{Reading, Sent};
 use text::row::LINE;
 
 // The result of a read: the check after it, how many bytes of the buffer are left to it, what was written, and whether it reads again.
-#[derive(Drop)]
+#[derive(Clone, Copy)]
 struct Received {
     reading: Reading,
     check: Check,
@@ -19,12 +22,12 @@ struct Received {
 }
 
 // Prints the answer.
-fn print(answer: PlanAnswer) -> Sent
+fn print<W: Write>(out: &mut W, answer: PlanAnswer) -> Sent
     ensures { SentOf 0 (plan_answer_line answer) result }
 {
     let mut line = [0u8; LINE];
     let length = answer_text::put(&mut line, answer);
-    stream::send(0, &line[..length])
+    stream::send(out, 0, &line[..length])
 }
 
 // Nothing was written.
@@ -38,13 +41,20 @@ fn nothing_sent() -> Sent
 }
 
 // Reads once after the bytes that are left, and prints the answer if it is known.
-fn receive(check: Check, buffer: &mut [u8], held: usize) -> Received
+fn receive<R: Read, W: Write, E: Write>(
+    input: &mut R,
+    out: &mut W,
+    log: &mut E,
+    check: Check,
+    buffer: &mut [u8],
+    held: usize,
+) -> Received
     requires { held < length buffer.old }
     ensures { ReceivedOf check held buffer.old buffer.new result }
 {
-    let reading = stream::read(buffer, held);
+    let reading = stream::read(input, buffer, held);
     if reading.failed {
-        stream::report_unread(b"inspect");
+        stream::report_unread(log, b"inspect");
         return Received {
             reading: reading,
             check: check,
@@ -59,7 +69,7 @@ fn receive(check: Check, buffer: &mut [u8], held: usize) -> Received
     let taken = fed.taken;
     if next.is_over() {
         let answer = next.answer;
-        let sent = print(answer);
+        let sent = print(out, answer);
         return Received {
             reading: reading,
             check: next,
@@ -79,13 +89,16 @@ fn receive(check: Check, buffer: &mut [u8], held: usize) -> Received
 }
 
 // A proved loop has to end, and no contract ensures that standard input does: the rounds are counted down from a number that no run uses up.
-fn main() {
+fn main(rt: HostRuntime) {
+    let mut input = rt.stdin();
+    let mut out = rt.stdout();
+    let mut log = rt.stderr();
     let mut check = Check::new();
     let mut buffer = io::buffer();
     let mut held: usize = 0;
     let mut rounds = u64::MAX;
     while rounds > 0 {
-        let received = receive(check, &mut buffer, held);
+        let received = receive(&mut input, &mut out, &mut log, check, &mut buffer, held);
         if received.again {} else {
             return;
         }

@@ -1,5 +1,5 @@
 -- The answer to a question on a table: the first line of the input is the question's word, and the table follows.
-use Rattle.std.specs.Prelude.{Bool, cond, List, [], ◌∷◌, ◌++◌, ℕ, ◌+◌, length, take, drop}
+use Rattle.std.specs.Prelude.{cond, List, [], ◌∷◌, ◌++◌, ℕ, ◌+◌, length, take, drop}
 use Rattle.table.specs.Words.{table_of}
 use Rattle.judge.specs.JudgeAnswer.{refused, verdict_meaning}
 use Rattle.judge.specs.Judged.{verdict_of}

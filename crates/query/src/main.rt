@@ -5,6 +5,8 @@
 // `clash` by one line, the positions of the tasks in conflict, or by the refusal;
 // `spare` by a line for each task, its position and its slack, or by the refusal;
 // `bounds` by a line for each task, its position and its response-time bound, by `none` where the table does not pass the interference test, or by the refusal.
+#![tactic(auto)]
+
 ghost use Rattle.std.specs.Prelude.{◌≡◌, cond, ◌+◌, ◌≤◌, length, take};
 ghost use Rattle.model.specs.Sizes.{most_tasks};
 ghost use Rattle.table.specs.Numbers.{NoneApplies};
@@ -21,12 +23,13 @@ ghost use Rattle.query.specs.Query.{answer_room, verdict_text, why_of, response_
 
 use model::MOST_TASKS;
 use sentence::{LONGEST, SentenceAnswer, reader};
+use std::io::{Read, Write};
 use stream::{Reading, Sent};
 use table::Answer;
 use text::ENOUGH;
 
 // A question on a table.
-#[derive(Drop)]
+#[derive(Clone, Copy)]
 enum Question {
     Why,
     ResponseTimes,
@@ -46,7 +49,7 @@ const INPUT: usize = WORD + ENOUGH;
 const ROOM: usize = LONGEST + 1;
 
 // The result: the buffer and what was read into it, and what was printed.
-#[derive(Drop)]
+#[derive(Clone, Copy)]
 struct Outcome {
     bytes: [u8; INPUT],
     reading: Reading,
@@ -221,7 +224,7 @@ fn put(question: Question, words: &[u32], lines: &mut [u8]) -> usize
 }
 
 // Prints the answer to a question on the table in these bytes.
-fn send_answer(question: Question, bytes: &[u8]) -> Sent
+fn send_answer<W: Write>(out: &mut W, question: Question, bytes: &[u8]) -> Sent
     ensures { SentOf 0 (answer_to question (numbers_in (words_of bytes.now))) result }
 {
     let input = text::read(bytes);
@@ -229,7 +232,7 @@ fn send_answer(question: Question, bytes: &[u8]) -> Sent
     let count = input.count;
     let mut lines = [0u8; ROOM];
     let length = put(question, &words[..count], &mut lines);
-    stream::send(0, &lines[..length])
+    stream::send(out, 0, &lines[..length])
 }
 
 // Where the bytes after a word begin; 0 where they do not begin with it.
@@ -258,7 +261,7 @@ fn table_after_word(question: Question, bytes: &[u8]) -> usize
 }
 
 // Prints the answer to the question on a table.
-fn print(bytes: &[u8]) -> Sent
+fn print<W: Write>(out: &mut W, bytes: &[u8]) -> Sent
     ensures { SentOf 0 (query_output bytes.now) result }
 {
     let questions = [
@@ -274,22 +277,22 @@ fn print(bytes: &[u8]) -> Sent
         let question = questions[i];
         let start = table_after_word(question, bytes);
         if 0 < start {
-            return send_answer(question, &bytes[start..]);
+            return send_answer(out, question, &bytes[start..]);
         }
         i += 1;
     }
-    stream::send(0, b"no such question\n")
+    stream::send(out, 0, b"no such question\n")
 }
 
 // Reads standard input until its end, or until it is longer than any question can be, and prints the answer; a read that fails is reported, and nothing is
 // printed.
-fn answer() -> Outcome
+fn answer<R: Read, W: Write, E: Write>(input: &mut R, out: &mut W, log: &mut E) -> Outcome
     ensures { Answered query_output result.bytes result.reading result.sent }
 {
     let mut bytes = [0u8; INPUT];
-    let reading = stream::fill(&mut bytes, 0);
+    let reading = stream::fill(input, &mut bytes, 0);
     if reading.failed {
-        stream::report_unread(b"ask");
+        stream::report_unread(log, b"ask");
         let sent = Sent {
             count: 0,
             whole: true,
@@ -301,7 +304,7 @@ fn answer() -> Outcome
         };
     }
     let held = reading.held;
-    let sent = print(&bytes[..held]);
+    let sent = print(out, &bytes[..held]);
     Outcome {
         bytes: bytes,
         reading: reading,
@@ -309,6 +312,6 @@ fn answer() -> Outcome
     }
 }
 
-fn main() {
-    answer();
+fn main(rt: HostRuntime) {
+    answer(&mut rt.stdin(), &mut rt.stdout(), &mut rt.stderr());
 }

@@ -1,13 +1,12 @@
 -- A round, part by part: what was fed so far, the replies to it, and that writes took them.
 -- Assumes nothing.
-use mathlib.Core.Bool.{Bool, true, false, not, ◌&&◌, ◌||◌, false≢true, true≢false}
+use mathlib.Core.Bool.{Bool, true, false, not, ◌||◌, false≢true}
 use mathlib.Core.List.{List, [], ◌++◌, append_assoc, append-nil}
-use mathlib.Core.Path.{◌≡◌, refl, sym, ap, subst, subst⁻¹, ◌∙◌}
-use Prim.Native.Nat.{ℕ, ◌+◌, ◌-◌, ◌≤◌, ◌<◌}
+use mathlib.Core.Path.{◌≡◌, refl, sym, subst, subst⁻¹, ◌∙◌}
+use Prim.Native.Nat.{ℕ, ◌+◌, ◌-◌, ◌≤◌}
 use native.Mathlib.Omega.{arith}
-use lib.ListN.{length, take, drop, length-append, length-drop}
+use lib.ListN.{length, take, drop, length-drop}
 use lib.Seq.{drop-drop, length-take-le}
-use Rattle.splitter.specs.Split.{too_many}
 use Rattle.splitter.specs.Parts.{end_of}
 use Rattle.splitter.proofs.Tables.{part-rest}
 use Rattle.session.specs.declared.Session.{Session}
@@ -18,7 +17,6 @@ use Rattle.stream.specs.Reading.{MovedToFront, ReadOnceOf}
 use Rattle.stream.specs.Sent.{SentOf}
 use Rattle.stream.proofs.Fronts.{came, left-and-came, left-kept, none_came}
 use Rattle.stream.proofs.Moving.{sent-nothing, sent-then}
-use Rattle.replay.specs.declared.Round.{Round}
 use Rattle.replay.specs.declared.Received.{Received}
 use Rattle.replay.specs.Rounds.{RoundOf, ReceivedOf}
 

@@ -1,12 +1,15 @@
 // Reads a table, a line `--` and operations from standard input as they come, and prints the answers of the run.
+#![tactic(auto)]
+
 ghost use Rattle.std.specs.Prelude.{◌<◌, length};
 ghost use Rattle.replay.specs.Rounds.{RoundOf, ReceivedOf};
 
 use session::{REPLY, Session};
+use std::io::{Read, Write};
 use stream::{Reading, Sent};
 
 // The result of a part of the input: the session after it, how many bytes it took, what was written, and whether it reads again.
-#[derive(Drop)]
+#[derive(Clone, Copy)]
 struct Round {
     session: Session,
     taken: usize,
@@ -15,7 +18,7 @@ struct Round {
 }
 
 // The result of a read, and how many bytes of the buffer are left to the session.
-#[derive(Drop)]
+#[derive(Clone, Copy)]
 struct Received {
     reading: Reading,
     round: Round,
@@ -23,7 +26,7 @@ struct Received {
 }
 
 // Feeds bytes to a session until no reply is due, and writes its replies.
-fn feed_all(start: Session, bytes: &[u8], ended: bool) -> Round
+fn feed_all<W: Write>(out: &mut W, start: Session, bytes: &[u8], ended: bool) -> Round
     ensures { RoundOf start ended bytes.now result }
 {
     let mut session = start;
@@ -31,15 +34,15 @@ fn feed_all(start: Session, bytes: &[u8], ended: bool) -> Round
         count: 0,
         whole: true,
     };
-    let mut out = [0u8; REPLY];
+    let mut reply = [0u8; REPLY];
     let mut at: usize = 0;
     loop {
-        let fed = session.feed(&bytes[at..], ended, &mut out);
+        let fed = session.feed(&bytes[at..], ended, &mut reply);
         let next = fed.session;
         session = next;
         at += fed.taken;
         let length = fed.length;
-        sent = stream::send(sent.count, &out[..length]);
+        sent = stream::send(out, sent.count, &reply[..length]);
         if sent.whole {} else {
             return Round {
                 session: session,
@@ -60,13 +63,20 @@ fn feed_all(start: Session, bytes: &[u8], ended: bool) -> Round
 }
 
 // Reads once after the bytes that are left, and writes the replies that are due.
-fn receive(session: Session, buffer: &mut [u8], held: usize) -> Received
+fn receive<R: Read, W: Write, E: Write>(
+    input: &mut R,
+    out: &mut W,
+    log: &mut E,
+    session: Session,
+    buffer: &mut [u8],
+    held: usize,
+) -> Received
     requires { held < length buffer.old }
     ensures { ReceivedOf session held buffer.old buffer.new result }
 {
-    let reading = stream::read(buffer, held);
+    let reading = stream::read(input, buffer, held);
     if reading.failed {
-        stream::report_unread(b"replay");
+        stream::report_unread(log, b"replay");
         let sent = Sent {
             count: 0,
             whole: true,
@@ -84,7 +94,7 @@ fn receive(session: Session, buffer: &mut [u8], held: usize) -> Received
         };
     }
     let end = reading.held;
-    let round = feed_all(session, &buffer[..end], reading.ended);
+    let round = feed_all(out, session, &buffer[..end], reading.ended);
     let left = stream::move_to_front(buffer, round.taken, end);
     Received {
         reading: reading,
@@ -94,13 +104,16 @@ fn receive(session: Session, buffer: &mut [u8], held: usize) -> Received
 }
 
 // A proved loop has to end, and no contract ensures that standard input does: the rounds are counted down from a number that no run uses up.
-fn main() {
+fn main(rt: HostRuntime) {
+    let mut input = rt.stdin();
+    let mut out = rt.stdout();
+    let mut log = rt.stderr();
     let mut session = Session::new();
     let mut buffer = io::buffer();
     let mut held: usize = 0;
     let mut rounds = u64::MAX;
     while rounds > 0 {
-        let received = receive(session, &mut buffer, held);
+        let received = receive(&mut input, &mut out, &mut log, session, &mut buffer, held);
         let round = received.round;
         if round.again {} else {
             return;

@@ -1,4 +1,6 @@
 // Reads a table from standard input, and prints its verdict and rows.
+#![tactic(auto)]
+
 ghost use Rattle.std.specs.Prelude.{◌≤◌, take};
 ghost use Rattle.text.specs.Output.{output};
 ghost use Rattle.printer.specs.Printer.{rest};
@@ -6,11 +8,12 @@ ghost use Rattle.stream.specs.Sent.{SentOf};
 ghost use Rattle.stream.specs.Answered.{Answered};
 
 use printer::Printer;
+use std::io::{Read, Write};
 use stream::{Reading, Sent};
 use text::ENOUGH;
 
 // The result: the buffer and what was read into it, and what was printed.
-#[derive(Drop)]
+#[derive(Clone, Copy)]
 struct Outcome {
     bytes: [u8; ENOUGH],
     reading: Reading,
@@ -18,7 +21,7 @@ struct Outcome {
 }
 
 // Writes the pieces of a printer until there are no more, or until a write fails.
-fn print(start: Printer) -> Sent
+fn print<W: Write>(out: &mut W, start: Printer) -> Sent
     ensures { SentOf 0 (rest start) result }
 {
     let mut printer = start;
@@ -33,7 +36,7 @@ fn print(start: Printer) -> Sent
         if length == 0 {
             return sent;
         }
-        sent = stream::send(sent.count, &buffer[..length]);
+        sent = stream::send(out, sent.count, &buffer[..length]);
         if sent.whole {
             let next = piece.printer;
             printer = next;
@@ -45,13 +48,13 @@ fn print(start: Printer) -> Sent
 
 // Reads standard input until its end, or until it is longer than any table can be, and prints the output for it; a read that fails is reported, and nothing is
 // printed.
-fn answer() -> Outcome
+fn answer<R: Read, W: Write, E: Write>(input: &mut R, out: &mut W, log: &mut E) -> Outcome
     ensures { Answered output result.bytes result.reading result.sent }
 {
     let mut bytes = [0u8; ENOUGH];
-    let reading = stream::fill(&mut bytes, 0);
+    let reading = stream::fill(input, &mut bytes, 0);
     if reading.failed {
-        stream::report_unread(b"sivorandra");
+        stream::report_unread(log, b"sivorandra");
         let sent = Sent {
             count: 0,
             whole: true,
@@ -63,7 +66,7 @@ fn answer() -> Outcome
         };
     }
     let held = reading.held;
-    let sent = print(Printer::new(&bytes[..held]));
+    let sent = print(out, Printer::new(&bytes[..held]));
     Outcome {
         bytes: bytes,
         reading: reading,
@@ -71,6 +74,6 @@ fn answer() -> Outcome
     }
 }
 
-fn main() {
-    answer();
+fn main(rt: HostRuntime) {
+    answer(&mut rt.stdin(), &mut rt.stdout(), &mut rt.stderr());
 }

@@ -1,4 +1,6 @@
 // Reads a table from standard input, one decimal number a line, and prints the verdict line alone.
+#![tactic(auto)]
+
 ghost use Rattle.std.specs.Prelude.{◌≡◌};
 ghost use Rattle.text.specs.Format.{words_of, numbers_in};
 ghost use Rattle.text.specs.FirstLine.{first_for};
@@ -7,12 +9,13 @@ ghost use Rattle.stream.specs.Sent.{SentOf};
 ghost use Rattle.stream.specs.Answered.{Answered};
 
 use judge::Verdict;
+use std::io::{Read, Write};
 use stream::{Reading, Sent};
 use text::ENOUGH;
 use text::row::LINE;
 
 // The result: the buffer and what was read into it, and what was printed.
-#[derive(Drop)]
+#[derive(Clone, Copy)]
 struct Outcome {
     bytes: [u8; ENOUGH],
     reading: Reading,
@@ -30,23 +33,23 @@ fn verdict_on(bytes: &[u8]) -> Verdict
 }
 
 // Writes the verdict's line.
-fn print(bytes: &[u8]) -> Sent
+fn print<W: Write>(out: &mut W, bytes: &[u8]) -> Sent
     ensures { SentOf 0 (first_for bytes.now) result }
 {
     let mut line = [0u8; LINE];
     let length = text::first::put_first(&mut line, verdict_on(bytes));
-    stream::send(0, &line[..length])
+    stream::send(out, 0, &line[..length])
 }
 
 // Reads standard input until its end, or until it is longer than any table can be, and prints the verdict on it; a read that fails is reported, and nothing is
 // printed.
-fn answer() -> Outcome
+fn answer<R: Read, W: Write, E: Write>(input: &mut R, out: &mut W, log: &mut E) -> Outcome
     ensures { Answered first_for result.bytes result.reading result.sent }
 {
     let mut bytes = [0u8; ENOUGH];
-    let reading = stream::fill(&mut bytes, 0);
+    let reading = stream::fill(input, &mut bytes, 0);
     if reading.failed {
-        stream::report_unread(b"verdict");
+        stream::report_unread(log, b"verdict");
         let sent = Sent {
             count: 0,
             whole: true,
@@ -58,7 +61,7 @@ fn answer() -> Outcome
         };
     }
     let held = reading.held;
-    let sent = print(&bytes[..held]);
+    let sent = print(out, &bytes[..held]);
     Outcome {
         bytes: bytes,
         reading: reading,
@@ -66,6 +69,6 @@ fn answer() -> Outcome
     }
 }
 
-fn main() {
-    answer();
+fn main(rt: HostRuntime) {
+    answer(&mut rt.stdin(), &mut rt.stdout(), &mut rt.stderr());
 }

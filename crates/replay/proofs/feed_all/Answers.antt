@@ -1,0 +1,27 @@
+-- Each part that is fed takes a byte or is the last, and the reply to it is sent.
+use mathlib.Core.Bool.{Bool, ◌||◌, not}
+use mathlib.Core.Path.{refl, ap}
+use Rattle.std.proofs.Common.{arith}
+use Rattle.replay.proofs.Rounds.{so-far-none, round-on, round-stopped, round-done}
+use Rattle.replay.proofs.feed_all.Goals as goal
+
+pub loop-sent-init : goal.loop-sent-init
+loop-sent-init g c = (so-far-none _ _ _, refl)
+
+pub returns-else-sent : goal.returns-else-sent
+returns-else-sent g c =
+    let l = c.loop-sent in
+    round-stopped _ _ _ _ _ l.at l.session l.sent _ c.feed-fed.result l.invariant.0 c.feed-fed.ensures c.send-sent.ensures c.if-sent.false
+
+pub returns-then-fed-eq0 : goal.returns-then-fed-eq0
+returns-then-fed-eq0 g c =
+    let l = c.loop-sent in
+    round-done _ c.args.ended _ _ _ l.at l.session l.sent _ c.feed-fed.result l.invariant.0 c.feed-fed.ensures c.send-sent.ensures _ c.if-sent.true c.if-fed-eq0.true
+    (ap (λ (b : Bool). not (c.args.ended || b)) c.is_over.ensures)
+
+pub loop-sent-preserved : goal.loop-sent-preserved
+loop-sent-preserved g c =
+    let l = c.loop-sent in (
+      round-on _ _ _ _ _ l.at l.session l.sent _ c.feed-fed.result l.invariant.0 c.feed-fed.ensures c.send-sent.ensures c.if-sent.true,
+      omega (arith, c.feed-fed.ensures.same, l.invariant.1),
+    )
