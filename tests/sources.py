@@ -24,7 +24,7 @@ def code_of(source):
     source = re.sub(r"//[^\n]*", "", source)
     source = re.sub(r'b?"(?:\\.|[^"\\])*"|b?\'(?:\\.|[^\'\\])\'', "0", source)
     source = re.sub(r"^\s*ghost use [^;]*;", "", source, flags=re.M)
-    while found := re.search(r"\b(?:requires|ensures)(?:\s+\w+)?\s*(\{)", source):
+    while found := re.search(r"\b(?:requires|ensures)\s*\*?(?:\s*\w+)?\s*(\{)", source):
         source = source[:found.start()] + source[closing(source, found.start(1)) + 1:]
     return source
 
@@ -37,15 +37,18 @@ def functions(module, source):
         yield Function(module, found[1], source[at:closing(source, at) + 1])
 
 
-# The paths that `use` lines of a source bring in, by their last name.
+# The paths that `use` lines of a source bring in, alone or some in brackets, by their last name.
 def imported(source):
-    return {path.split("::")[-1]: path for path in re.findall(r"^\s*(?:pub\s+)?use\s+([\w:]+);", code_of(source), re.M)}
+    paths = []
+    for path, several in re.findall(r"^\s*(?:pub\s+)?use\s+([\w:]+)(?:\{([\w\s,]*)\})?;", code_of(source), re.M):
+        paths += [path + name for name in re.findall(r"\w+", several)] if several else [path]
+    return {path.split("::")[-1]: path for path in paths}
 
 
 # The functions of a name that a call by this path from a module can mean; none if the path names no module of ours.
 def callees(path, module, sources, known):
-    path = imported(sources[module]).get(path, path)
-    *front, name = path.split("::")
+    first, *rest = path.split("::")
+    *front, name = "::".join([imported(sources[module]).get(first, first), *rest]).split("::")
     crate = module.split("/")[0]
     if front[:1] == ["crate"]:
         places = ["/".join([crate, *front[1:]]) if front[1:] else f"{crate}/lib"]
