@@ -1,4 +1,4 @@
-// Reading standard input and writing standard output, with the numbers of bytes read and written.
+// Reading an input and writing an output, with the numbers of bytes read and written.
 #![tactic(auto)]
 
 ghost use Rattle.std.specs.Prelude.{◌≡◌, ◌+◌, ◌≤◌, length};
@@ -118,14 +118,14 @@ fn write_all<W: Write>(out: &mut W, count: usize, bytes: &[u8]) -> Sent
     }
 }
 
-// Passes bytes to standard output until all are taken or a write takes none, after `count` bytes that were taken before.
+// Passes bytes to writes on a program's output until all are taken or a write takes none, after `count` bytes that were taken before.
 pub fn send<W: Write>(out: &mut W, count: usize, bytes: &[u8]) -> Sent
     ensures { SentOf count bytes.now result }
 {
     write_all(out, count, bytes)
 }
 
-// Writes to standard error that a program could not read its input; returns how much of it writes took.
+// Writes to a program's log that it could not read its input; returns how much of it writes took.
 pub fn report_unread<W: Write>(out: &mut W, name: &[u8]) -> Sent
     ensures { SentOf 0 (unread_by name.now) result }
 {
