@@ -12,6 +12,10 @@ A word that falls together with another in one file is printed on a line that be
 import os
 import re
 import sys
+from typing import Callable, Dict, Iterator, List, Set, Tuple, Union
+
+Rows = Dict[str, str]
+Ends = Union[str, Tuple[str, ...]]
 
 WORD = re.compile(r'[^\s(){}.;,@"«»\[\]|`]+')
 CAMEL = re.compile(r"(?:^|-)[a-z_][a-z0-9_]*[A-Z]")
@@ -32,7 +36,7 @@ FIRST = (
 )
 
 
-def snake(word):
+def snake(word: str) -> str:
     parts = []
     for part in word.split("-"):
         if CAMEL.match(part):
@@ -42,7 +46,7 @@ def snake(word):
     return "-".join(parts)
 
 
-def files(top, ends):
+def files(top: str, ends: Ends) -> Iterator[str]:
     for folder, below, names in os.walk(top):
         below[:] = sorted(b for b in below if b not in ("out", ".git"))
         for name in sorted(names):
@@ -50,18 +54,18 @@ def files(top, ends):
                 yield os.path.join(folder, name)
 
 
-def read(path):
+def read(path: str) -> str:
     with open(path, encoding="utf-8") as f:
         return f.read()
 
 
-def without_texts(text):
+def without_texts(text: str) -> str:
     """The words of an antt text that are no string and no comment's."""
     return re.sub(r'"(?:[^"\\\n]|\\.)*"|(?<!\S)--[^\n]*', " ", text)
 
 
-def words_of(root):
-    found = {}
+def words_of(root: str) -> Rows:
+    found: Rows = {}
     for path in files(os.path.join(root, "crates"), ".antt"):
         for word in WORD.findall(without_texts(read(path))):
             if CAMEL.search(word) and not word.isupper():
@@ -69,7 +73,7 @@ def words_of(root):
     return found
 
 
-def spans(text):
+def spans(text: str) -> List[Tuple[int, int]]:
     """The places of a .rt text that are clauses or ghost items, and its comments."""
     found = [(m.start(), m.end()) for m in GHOST_USE.finditer(text)]
     found += [(m.start(), m.end()) for m in re.finditer(r"//[^\n]*", text)]
@@ -82,21 +86,23 @@ def spans(text):
     return sorted(found)
 
 
-def turned(text, rows):
+def turned(text: str, rows: Rows) -> str:
     return WORD.sub(lambda m: rows.get(m[0], m[0]), text)
 
 
-def turned_code(text, rows):
+def turned_code(text: str, rows: Rows) -> str:
     """An antt text, but for its strings."""
-    out, last = [], 0
+    out: List[str] = []
+    last = 0
     for m in re.finditer(r'"(?:[^"\\\n]|\\.)*"', text):
         out += [turned(text[last : m.start()], rows), m[0]]
         last = m.end()
     return "".join(out) + turned(text[last:], rows)
 
 
-def turned_rust(text, rows):
-    out, last = [], 0
+def turned_rust(text: str, rows: Rows) -> str:
+    out: List[str] = []
+    last = 0
     for start, end in spans(text):
         if start < last:
             continue
@@ -105,14 +111,14 @@ def turned_rust(text, rows):
     return "".join(out) + text[last:]
 
 
-def turned_page(text, rows):
+def turned_page(text: str, rows: Rows) -> str:
     """A page: its code spans and fenced blocks, and bare words that are names."""
     return RUST_WORD.sub(lambda m: rows.get(m[0], m[0]), text)
 
 
-def looks(path, text, rows):
+def looks(path: str, text: str, rows: Rows) -> None:
     words = set(WORD.findall(text)) if path.endswith(".antt") else set(RUST_WORD.findall(text))
-    new = {}
+    new: Dict[str, Set[str]] = {}
     for word in words & set(rows):
         new.setdefault(rows[word], set()).add(word)
     for spelling, old in sorted(new.items()):
@@ -120,16 +126,16 @@ def looks(path, text, rows):
             print(f"look: {path}: {spelling}: {', '.join(sorted(old))}")
 
 
-def main():
+def main() -> None:
     check = "--check" in sys.argv
     rest = [a for a in sys.argv[1:] if a != "--check"]
     root = rest[0] if rest else "."
-    rooms = {}
+    rooms: Dict[str, Rows] = {}
     for old, name, places in FIRST:
         for place in places:
             rooms.setdefault(os.path.join(root, "crates", place), {})[old] = name
     rows = words_of(root)
-    jobs = [(p, turned_code) for p in files(os.path.join(root, "crates"), ".antt")]
+    jobs: List[Tuple[str, Callable[[str, Rows], str]]] = [(p, turned_code) for p in files(os.path.join(root, "crates"), ".antt")]
     jobs += [(p, turned_rust) for p in files(os.path.join(root, "crates"), ".rt")]
     jobs += [(p, turned) for p in files(os.path.join(root, "crates"), ".edit")]
     for page in PAGES:
