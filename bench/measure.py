@@ -15,7 +15,7 @@ def program(name):
     """A program of this repository, proved and built where it is missing."""
     path = ROOT / "target" / "bin" / name
     if not path.exists():
-        subprocess.run(["rt", "check", name], cwd=ROOT, check=True, stdout=subprocess.DEVNULL)
+        subprocess.run([str(ROOT / "tools" / "build")], check=True)
     return str(path)
 
 
