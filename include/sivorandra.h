@@ -51,10 +51,10 @@ extern "C" {
 /* ================================================================ WHAT A CALL COSTS
 
    - Memory: none from the heap. Of the stack less than SIVORANDRA_STACK_BYTES (measured:
-     check_begin 19,500 bytes, replay 15,400, sentence 14,600, check_row 14,400, advance
-     14,100, start 13,800, slack 13,400, plan 12,700, withdraw and withdraw_all 12,200,
-     conflict 10,800, judge 8,900, row 7,300, judge_events 7,100, response_times 7,000,
-     bounds 5,700, judge_ticks 5,600, sets 5,500, working 5,300, facts 1,000).
+     check_begin 16,800 bytes, replay 15,700, sentence 14,600, start 14,100, advance 14,100,
+     slack 13,400, plan 12,700, withdraw and withdraw_all 12,200, check_row 11,600, conflict
+     10,800, judge 8,900, row 7,300, judge_events 7,100, response_times 7,000, bounds 5,700,
+     judge_ticks 5,600, sets 5,500, working 5,300, facts 1,000).
    - Threads: the library has no state and no data that is written to, so any number of
      threads may call at once, each with slices of its own to be written to; slices that are
      only read may be shared. Of the C library it calls memcpy and memset alone.

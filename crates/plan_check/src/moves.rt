@@ -45,8 +45,7 @@ fn noting(run: Run, noted: [Note; MOST_TASKS]) -> [Note; MOST_TASKS]
     notes
 }
 
-// A run that arrives at a tick: at the last S its phases are recorded. Not inlined: its copies would take stack while a table is loaded.
-#[inline(never)]
+// A run that arrives at a tick: at the last S its phases are recorded.
 pub(crate) fn state_at(run: Run, tick: u32, start: u32, noted: [Note; MOST_TASKS]) -> SuppliedPlan
     requires fact_1 { run.count ≤ most_tasks }
     requires fact_2 { start ≡ start_in run }

@@ -27,7 +27,8 @@ fn empty() -> Run
     }
 }
 
-// The run of a table's first `count` tasks as it starts.
+// The run of a table's first `count` tasks as it starts. Not inlined: its copies would take stack while the table is loaded.
+#[inline(never)]
 fn started(rule: u32, cores: u32, fence: u64, tasks: [table::Task; MOST_TASKS], count: usize) -> Run
     requires { count ≤ most_tasks }
     ensures { result ≡ started_run rule (table_with cores fence rule (table.tasks_of tasks count)) }
