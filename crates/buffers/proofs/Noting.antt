@@ -1,12 +1,12 @@
 -- Words put into a buffer, and the words of notes: one note more, written or read; what is written is read again.
 use mathlib.Core.Path.{◌≡◌, refl, sym, ap, ◌∙◌}
-use mathlib.Core.Bool.{Bool, true, false, cond}
+use mathlib.Core.Bool.{true}
 use mathlib.Core.List.{List, [], ◌∷◌, ◌++◌, append_assoc, append-nil}
 use Prim.Native.Nat.{ℕ, zero, suc, ◌+◌, ◌*◌, ◌≤◌, ◌<◌}
-use native.Mathlib.Nat.{add-zero, not-suc-le-zero, le_of_suc-le-suc}
+use native.Mathlib.Nat.{not-suc-le-zero, le_of_suc-le-suc}
 use native.Mathlib.Omega.{arith}
 use lib.ListN.{length, get_or, take, drop, set, length-append, length-drop, take-append-drop}
-use lib.Seq.{sets-eq, drop-cons, drop-drop, drop_at, get_or_at, get_or-drop, length-take-le, take_at, take-take}
+use lib.Seq.{sets-eq, drop-cons, drop-drop, drop_at, get_or_at, length-take-le, take_at, take-take}
 use Rattle.model.proofs.Bools.{and_left, and_right}
 use Rattle.phase.specs.declared.Phase.{Phase}
 use Rattle.phase.specs.declared.Phase.TheVariants.{Coming, Working, Holding, Resting}
@@ -14,7 +14,7 @@ use Rattle.run.proofs.Written.{take_more}
 use Rattle.plan_check.specs.declared.Note.{Note}
 use Rattle.plan_check.specs.State.{note, past_note}
 use Rattle.buffers.specs.declared.run_buffer.PhaseWords.{PhaseWords}
-use Rattle.buffers.specs.Encoding.{phase_words, of_phase, phase_of, is_phase}
+use Rattle.buffers.specs.Encoding.{phase_words, of_phase, phase_of}
 use Rattle.buffers.specs.Supplied.{notes_at, note_size, note_at, four_words, note_words, notes_words, put_at, phase_noted, note_in, notes_in, is_note, are_notes}
 use Rattle.buffers.proofs.Inverse.{phase-encode}
 
@@ -118,16 +118,12 @@ one-note ns i ws vs l h e =
     ∙ (put_next notes_at (notes_words (take i ns)) ws (note_words (get_or ns i past_note)) (note_at i) at (omega (arith, a, b, h))
     ∙ ap (λ (l : List ℕ). put_at notes_at l ws) (sym more))
 
--- .. in a buffer that stays as long as it was
+-- .. by the words of its phase
 pub next-note :
     (ns : List Note) (i : ℕ) (ws vs : List ℕ) {ph : PhaseWords} {us : List ℕ} → i < length ns → note_at (i + 1) ≤ length ws
     → vs ≡ put_at notes_at (notes_words (take i ns)) ws → ph ≡ of_phase (get_or ns i past_note).phase → us ≡ put_at (note_at i) (four_words ph) vs
-    → (length us ≡ length ws) × (us ≡ put_at notes_at (notes_words (take (i + 1) ns)) ws)
-next-note ns i ws vs l h e p q =
-    let a = length-notes (take (i + 1) ns) in
-    let b = length-take-le (i + 1) ns (omega arith) in
-    let put = q ∙ (ap (λ (t : PhaseWords). put_at (note_at i) (four_words t) vs) p ∙ one-note ns i ws vs l h e) in
-    (ap length put ∙ length-put notes_at (notes_words (take (i + 1) ns)) ws (omega (arith, a, b, h)), put)
+    → us ≡ put_at notes_at (notes_words (take (i + 1) ns)) ws
+next-note ns i ws vs l h e p q = q ∙ (ap (λ (t : PhaseWords). put_at (note_at i) (four_words t) vs) p ∙ one-note ns i ws vs l h e)
 
 -- NOTES, READ
 
@@ -138,26 +134,6 @@ read-note (suc n) ws =
     let e : note_size + note_size * n ≡ note_size * suc n = omega arith in
     ap (λ (l : List Note). note_in ws ∷ l) (read-note n (drop note_size ws)
     ∙ ap (λ (l : List ℕ). notes_in n (drop note_size ws) ++ (note_in l ∷ [])) (drop-drop (note_size * n) note_size ws ∙ ap (λ (k : ℕ). drop k ws) e))
-
--- the note that begins at a word
-note-at :
-    (ws : List ℕ) (at : ℕ) → note_in (drop at ws) ≡ note (phase_noted (get_or ws at 0) (get_or ws (at + 1) 0) (get_or ws (at + 2) 0) (get_or ws (at + 3) 0))
-note-at ws at = simp (get_or-drop, add-zero)
-
-module _ (ws : List ℕ) (at : ℕ) where
-  pub note-read :
-      {ph : Phase} → is_phase (get_or ws at 0) (get_or ws (at + 2) 0) (get_or ws (at + 3) 0) ≡ true
-      → ph ≡ phase_of (get_or ws at 0) (get_or ws (at + 1) 0) (get_or ws (at + 2) 0) (get_or ws (at + 3) 0) → note ph ≡ note_in (drop at ws)
-  note-read e p =
-      ap note
-      (p ∙ sym (ap (λ (t : Bool). cond t (phase_of (get_or ws at 0) (get_or ws (at + 1) 0) (get_or ws (at + 2) 0) (get_or ws (at + 3) 0)) (Resting 0)) e))
-      ∙ sym (note-at ws at)
-
-  pub note-none : is_phase (get_or ws at 0) (get_or ws (at + 2) 0) (get_or ws (at + 3) 0) ≡ false → note (Resting 0) ≡ note_in (drop at ws)
-  note-none e =
-      sym
-      (note-at ws at
-      ∙ ap (λ (t : Bool). note (cond t (phase_of (get_or ws at 0) (get_or ws (at + 1) 0) (get_or ws (at + 2) 0) (get_or ws (at + 3) 0)) (Resting 0))) e)
 
 pub length-noted : (n : ℕ) (ws : List ℕ) → length (notes_in n ws) ≡ n
 unfolding notes_in

@@ -2,29 +2,17 @@
 use mathlib.Core.Path.{◌≡◌, sym, ap, ◌∙◌}
 use mathlib.Core.List.{List, [], ◌∷◌, ◌++◌, append_assoc, append-nil}
 use Prim.Native.Nat.{ℕ, ◌+◌, ◌-◌, ◌≤◌}
-use native.Mathlib.Omega.{arith}
-use lib.ListN.{length, length-drop, take, drop, set}
+use lib.ListN.{length, take, drop, set}
 use lib.Seq.{sets-eq, take_at, drop_at, drop-drop, drop-length}
 use borrow.Author.Rules.{part_to_end}
 use borrow.Rule.Slice.PartMut.{put_mid, post_of, Post-is}
-use Rattle.run.specs.declared.Run.{Run}
-use Rattle.buffers.specs.Encoding.{head_words, places_words, encode_to, overwritten}
+use Rattle.buffers.specs.Encoding.{head_words}
 
 -- the head's six stores, over a list of at least six words
 pub head-put :
     (ws : List ℕ) (a b c d e f : ℕ) → head_words ≤ length ws
     → set (set (set (set (set (set ws 0 a) 1 b) 2 c) 3 d) 4 e) 5 f ≡ a ∷ (b ∷ (c ∷ (d ∷ (e ∷ (f ∷ drop head_words ws)))))
 head-put ws a b c d e f h = sets-eq (a ∷ (b ∷ (c ∷ (d ∷ (e ∷ (f ∷ [])))))) ws 0 h
-
--- a buffer whose head was written: what is after the head is as it was
-pub head-behind : (ws vs : List ℕ) (r : Run) (n : ℕ) → vs ≡ overwritten 0 r ws → drop (head_words + n) vs ≡ drop (head_words + n) ws
-unfolding encode_to places_words
-head-behind ws vs r n e =
-    sym (drop-drop n head_words vs) ∙ (ap (λ (l : List ℕ). drop n (drop head_words l)) e ∙ drop-drop n head_words ws)
-
-pub head-length : (ws vs : List ℕ) (r : Run) → vs ≡ overwritten 0 r ws → head_words ≤ length ws → length vs ≡ length ws
-unfolding encode_to places_words
-head-length ws vs r e h = ap length e ∙ omega (arith, length-drop head_words ws)
 
 -- n words, written into the part that begins at `at`
 pub put-more :

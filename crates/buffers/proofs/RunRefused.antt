@@ -11,8 +11,8 @@ use lib.ListN.{length, get_or, drop}
 use lib.Seq.{drop-drop}
 use lib.Dec.{leb, ltb, eqb}
 use borrow.Author.Tests.{leb-true, leb-false, lt-leb, eqb-false, ne_eqb}
-use Rattle.run.specs.declared.Answer.{Answer}
-use Rattle.run.specs.declared.Answer.TheVariants.{Taken, Refused}
+use Rattle.run.specs.Answer.{Answer}
+use Rattle.run.specs.Answer.{Taken, Refused}
 use Rattle.run.specs.declared.Run.{Run}
 use Rattle.run.specs.Numbers.{RunOut, run_out, unknown_in, past_count, first_late_in, wrong_empties_in, wrong_reports_in}
 use Rattle.run.specs.Run.{firm_in}

@@ -13,15 +13,14 @@ use Rattle.model.specs.Sizes.{most_word}
 use Rattle.run.specs.declared.Run.{Run}
 use Rattle.run.specs.Start.{started_run}
 use Rattle.run.proofs.Places.{length-map_first, drop-map_first}
-use Rattle.table.specs.declared.Answer as table
-use Rattle.table.specs.declared.Answer.TheVariants.{Passed}
-use Rattle.table.specs.declared.Answer.TheVariants as loaded
+use Rattle.table.specs.Answer as table
+use Rattle.table.specs.Answer.{Passed}
 use Rattle.table.specs.Answer.{answer_of}
 use Rattle.table.specs.Load.{load_meaning}
 use Rattle.table.specs.Words.{rule, table_of}
 use Rattle.plan_check.specs.declared.Answer.{Answer}
 use Rattle.plan_check.specs.declared.Answer.TheVariants.{Taken, Accepted, Refused}
-use Rattle.plan_check.specs.declared.Begun.{Begun}
+use Rattle.plan_check.specs.Begin.{Begun}
 use Rattle.plan_check.specs.declared.Note.{Note}
 use Rattle.plan_check.specs.declared.SuppliedPlan.{SuppliedPlan}
 use Rattle.plan_check.specs.Begin.{begin_of, first_state}
@@ -336,7 +335,7 @@ fits-begun ws = go (answer_of ws) refl
         let fine = (begin-of ws (begin_of ws) refl).passes (ap (λ (b : Begun). load_meaning b.answer) v) in
         let few = few-accepted (begin_of ws).plan.run (λ out. fine (inl out)) in
         subst (λ (b : Begun). FitsPlan b.plan) (sym v) (fits-first ws (subst (λ (b : Begun). b.plan.run.count ≤ places) v few))
-    go (loaded.Refused n p) e =
+    go (table.Refused n p) e =
         subst (λ (b : Begun). FitsPlan b.plan) (sym (begin-refused ws n p e)) (record { fits = record { all = refl; few = omega arith; past = refl }; many = refl })
 
 -- begin writes all words of the plan that it returns, whatever was there

@@ -4,18 +4,15 @@ use mathlib.Core.Bool.{Bool, true, false, ◌&&◌, cond}
 use mathlib.Core.List.{List, [], ◌∷◌}
 use Prim.Native.Nat.{ℕ, ◌≤◌, ◌<◌}
 use lib.ListN.{length, get_or, take, drop, set}
-use lib.Dec.{leb, eqb}
+use lib.Dec.{leb}
 use borrow.Author.Tests.{le-leb, lt-leb, leb-true}
 use Rattle.model.proofs.Bools.{and_left, and_right}
 use Rattle.run.specs.declared.Run.{Run}
-use Rattle.plan_check.specs.declared.Answer.{Answer}
-use Rattle.plan_check.specs.declared.Answer.TheVariants.{Taken, Accepted, Refused}
+use Rattle.plan_check.specs.declared.Answer.TheVariants.{Refused}
 use Rattle.plan_check.specs.declared.Entered.{Entered}
 use Rattle.plan_check.specs.declared.Note.{Note}
 use Rattle.plan_check.specs.declared.SuppliedPlan.{SuppliedPlan}
 use Rattle.plan_check.specs.Extent.{first_number}
-use Rattle.plan_check.specs.State.{start_in}
-use Rattle.plan_check.specs.CheckRow.{check_row_of}
 use Rattle.plan_check.proofs.Cases.{take-refused}
 use Rattle.buffers.specs.Encoding.{places, overwritten, count_in, holds_run, run_in}
 use Rattle.buffers.specs.Supplied.{tick_at, notes_at, plan_words, notes_words, put_at, moved_in, plan_over, notes_in, holds_plan, plan_in, BufferPlan, plan, none, decode_plan}
@@ -80,35 +77,3 @@ module _ (ws : List ℕ) where
         ap (λ (k : ℕ). kept_plan (Refused k 0) w ws) p
         ∙ (ap (λ (t : Entered). kept_plan t.answer t.plan ws) (sym (take-refused w row (λ z. q (p ∙ z))))
         ∙ ap (λ (v : BufferPlan). check_row_from v row ws) (ap plan e ∙ sym (by-held-plan h)))
-
-    -- what is kept of a row taken by the plan that the buffer holds
-    pub take-kept :
-        (t : Entered) (w : SuppliedPlan) {v : RowChecked} → holds_plan ws ≡ true → w ≡ plan_in ws → t ≡ check_row_of w row → v ≡ kept_plan t.answer t.plan ws
-        → v ≡ check_row_from (decode_plan ws) row ws
-    take-kept t w h e p k =
-        k
-        ∙ (ap (λ (v : Entered). kept_plan v.answer v.plan ws) p
-        ∙ ap (λ (v : BufferPlan). check_row_from v row ws) (ap plan e ∙ sym (by-held-plan h)))
-
-    pub take_none : holds_plan ws ≡ false → ◌≡◌ {A = RowChecked} (record { answer = Refused 14 0; buffer = ws }) (check_row_from (decode_plan ws) row ws)
-    take_none h = ap (λ (v : BufferPlan). check_row_from v row ws) (sym (by-held-plan h))
-
--- what is kept of a row, by its answer
-module _ (ws : List ℕ) (t : Entered) where
-  pub kept-row-taken :
-      {s : ℕ} {new : List ℕ} → t.answer ≡ Taken → s ≡ start_in t.plan.run → new ≡ plan_over (eqb t.plan.tick s) t.plan.run.count t.plan ws
-      → ◌≡◌ {A = RowChecked} (record { answer = Taken; buffer = new }) (kept_plan t.answer t.plan ws)
-  kept-row-taken a e n =
-      ap (λ (l : List ℕ). record { answer = Taken; buffer = l }) (n ∙ ap (λ (s : ℕ). plan_over (eqb t.plan.tick s) t.plan.run.count t.plan ws) e)
-      ∙ ap (λ (v : Answer). kept_plan v t.plan ws) (sym a)
-
-  pub kept-row-accepted :
-      {s : ℕ} {new : List ℕ} → t.answer ≡ Accepted → s ≡ start_in t.plan.run → new ≡ plan_over (eqb t.plan.tick s) t.plan.run.count t.plan ws
-      → ◌≡◌ {A = RowChecked} (record { answer = Accepted; buffer = new }) (kept_plan t.answer t.plan ws)
-  kept-row-accepted a e n =
-      ap (λ (l : List ℕ). record { answer = Accepted; buffer = l }) (n ∙ ap (λ (s : ℕ). plan_over (eqb t.plan.tick s) t.plan.run.count t.plan ws) e)
-      ∙ ap (λ (v : Answer). kept_plan v t.plan ws) (sym a)
-
-  pub kept-row-refused :
-      {n p : ℕ} → t.answer ≡ Refused n p → ◌≡◌ {A = RowChecked} (record { answer = Refused n p; buffer = ws }) (kept_plan t.answer t.plan ws)
-  kept-row-refused a = ap (λ (v : Answer). kept_plan v t.plan ws) (sym a)

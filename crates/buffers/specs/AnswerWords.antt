@@ -1,20 +1,19 @@
 -- An answer in three words: the case and its two numbers, 0 where it has none.
 use Rattle.std.specs.Prelude.{Bool, true, false, cond, ◌&&◌, List, ◌∷◌, ◌≡◌, ℕ, ◌≤◌, leb, length, drop}
 use Rattle.model.specs.Sizes.{most_word}
-use Rattle.table.specs.declared.Answer as loaded
-use Rattle.table.specs.declared.Answer.TheVariants as table
+use Rattle.table.specs.Answer as table
 use Rattle.judge.specs.declared.Verdict.{Verdict}
 use Rattle.judge.specs.declared.Verdict.TheVariants as judge
-use Rattle.plan.specs.declared.Planned.{Planned}
-use Rattle.plan.specs.declared.Planned.TheVariants as plan
-use Rattle.run.specs.declared.Answer.{Answer}
-use Rattle.run.specs.declared.Answer.TheVariants as run
-use Rattle.sentence.specs.declared.SentenceAnswer.{SentenceAnswer}
-use Rattle.sentence.specs.declared.SentenceAnswer.TheVariants as sentence
+use Rattle.plan.specs.Plan.{Planned}
+use Rattle.plan.specs.Plan as plan
+use Rattle.run.specs.Answer.{Answer}
+use Rattle.run.specs.Answer as run
+use Rattle.sentence.specs.SentenceAnswer.{SentenceAnswer}
+use Rattle.sentence.specs.SentenceAnswer as sentence
 use Rattle.plan_check.specs.declared.Answer as checked
 use Rattle.plan_check.specs.declared.Answer.TheVariants as plan_check
-use Rattle.refinement.specs.declared.Replayed.{Replayed}
-use Rattle.refinement.specs.declared.Replayed.TheVariants as refinement
+use Rattle.refinement.specs.Replayed.{Replayed}
+use Rattle.refinement.specs.Replayed as refinement
 use Rattle.sentence.specs.Parsed as parsed
 use Rattle.sentence.specs.SentenceAnswer.{sentence_meaning, of_length}
 use Rattle.buffers.specs.declared.answer_words.AnswerWords.{AnswerWords}
@@ -46,7 +45,7 @@ of_sentence (sentence.Length n) = answer_words 0 n 0
 of_sentence (sentence.Refused n p) = answer_words 3 n p
 
 -- the response times and the conflict: 0 given, with a number beside it, 3 Refused number position
-abbrev pub of_given : loaded.Answer → ℕ → AnswerWords
+abbrev pub of_given : table.Answer → ℕ → AnswerWords
 of_given table.Passed x = answer_words 0 x 0
 of_given (table.Refused n p) x = answer_words 3 n p
 

@@ -1,7 +1,7 @@
 -- A list of entries on the run in a buffer: the answer to each, and the buffer after the list.
 use Rattle.std.specs.Prelude.{List, [], ◌∷◌, ℕ}
 use Rattle.model.specs.Advance.{Entry}
-use Rattle.run.specs.declared.Answer.{Answer}
+use Rattle.run.specs.Answer.{Answer}
 use Rattle.buffers.specs.Encoding.{decode}
 use Rattle.buffers.specs.Runs.{entry_from}
 

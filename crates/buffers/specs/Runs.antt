@@ -1,11 +1,11 @@
 -- Row, sets, the positions that work and entries on the run that a buffer holds.
 use Rattle.std.specs.Prelude.{List, ℕ}
-use Rattle.run.specs.declared.Answer.{Answer}
-use Rattle.run.specs.declared.Answer.TheVariants.{Refused}
-use Rattle.run.specs.declared.Row.{Row}
+use Rattle.run.specs.Answer.{Answer}
+use Rattle.run.specs.Answer.{Refused}
+use Rattle.run.specs.Answer.{Row}
 use Rattle.run.specs.declared.Run.{Run}
-use Rattle.run.specs.declared.Sets.{Sets}
-use Rattle.run.specs.declared.WorkingPositions.{WorkingPositions}
+use Rattle.run.specs.Sets.{Sets}
+use Rattle.run.specs.Working.{WorkingPositions}
 use Rattle.run.specs.Answer.{by_answer}
 use Rattle.run.specs.Start.{start_of}
 use Rattle.run.specs.Row.{no_bytes, row_of}

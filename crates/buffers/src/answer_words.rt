@@ -1,18 +1,15 @@
 // An answer in three words: the case and its two numbers.
 ghost use Rattle.std.specs.Prelude.{◌≡◌, ◌≤◌, length};
-ghost use Rattle.buffers.specs.AnswerWords.{of_verdict, of_planned, of_answer, of_sentence, of_given, of_taken, fitted, of_replayed, of_read_back};
-ghost use Rattle.buffers.specs.AnswerWords.{met_word, FitsWord, answer_size, slices_fit, answer_written};
+ghost use Rattle.buffers.specs.AnswerWords.{answer_words, of_verdict, of_taken, of_read_back};
+ghost use Rattle.buffers.specs.AnswerWords.{met_word, answer_size, slices_fit, answer_written};
 
 use judge::Verdict;
-use plan::Planned;
-use refinement::Replayed;
-use run::Answer;
-use sentence::SentenceAnswer;
 
 // The words of an answer.
 const WORDS: usize = 3;
 
 // The case and its two numbers, 0 where it has none.
+// The kind is a number, since C reads these words.
 #[derive(Clone, Copy)]
 pub struct AnswerWords {
     pub kind: u32,
@@ -20,104 +17,47 @@ pub struct AnswerWords {
     pub second: u32,
 }
 
+// A case and its two numbers.
+fn answer_words(kind: u32, first: u32, second: u32) -> AnswerWords
+    ensures { result ≡ answer_words kind first second }
+{
+    AnswerWords {
+        kind: kind,
+        first: first,
+        second: second,
+    }
+}
+
+// Taken, with a number beside it, 0 where there is none.
+pub fn taken(first: u32) -> AnswerWords
+    ensures { result ≡ answer_words 0 first 0 }
+{
+    answer_words(0, first, 0)
+}
+
+// Refused with number and position.
+pub fn refused(number: u32, position: u32) -> AnswerWords
+    ensures { result ≡ answer_words 3 number position }
+{
+    answer_words(3, number, position)
+}
+
+// The last row of a replay, refused with number and position.
+pub fn row_refused(number: u32, position: u32) -> AnswerWords
+    ensures { result ≡ answer_words 4 number position }
+{
+    answer_words(4, number, position)
+}
+
 // The judge's four cases.
 pub fn of_verdict(verdict: Verdict) -> AnswerWords
     ensures { result ≡ of_verdict verdict }
 {
     match verdict {
-        Verdict::Firm(start, period) => AnswerWords {
-            kind: 0,
-            first: start,
-            second: period,
-        },
-        Verdict::Full(start, period) => AnswerWords {
-            kind: 1,
-            first: start,
-            second: period,
-        },
-        Verdict::Miss(tick, position) => AnswerWords {
-            kind: 2,
-            first: tick,
-            second: position,
-        },
-        Verdict::Refused(number, position) => AnswerWords {
-            kind: 3,
-            first: number,
-            second: position,
-        },
-    }
-}
-
-// The plan's two cases.
-pub fn of_planned(planned: Planned) -> AnswerWords
-    ensures { result ≡ of_planned planned }
-{
-    match planned {
-        Planned::Written => AnswerWords {
-            kind: 0,
-            first: 0,
-            second: 0,
-        },
-        Planned::Refused(number, position) => AnswerWords {
-            kind: 3,
-            first: number,
-            second: position,
-        },
-    }
-}
-
-// The answers of start, row, sets, advance and the withdrawals.
-pub fn of_answer(answer: Answer) -> AnswerWords
-    ensures { result ≡ of_answer answer }
-{
-    match answer {
-        Answer::Taken => AnswerWords {
-            kind: 0,
-            first: 0,
-            second: 0,
-        },
-        Answer::Refused(number, position) => AnswerWords {
-            kind: 3,
-            first: number,
-            second: position,
-        },
-    }
-}
-
-// The answer of the sentence: its length, or a refusal.
-pub fn of_sentence(outcome: SentenceAnswer) -> AnswerWords
-    requires { FitsWord outcome }
-    ensures { result ≡ of_sentence outcome }
-{
-    match outcome {
-        SentenceAnswer::Length(length) => AnswerWords {
-            kind: 0,
-            first: length as u32,
-            second: 0,
-        },
-        SentenceAnswer::Refused(number, position) => AnswerWords {
-            kind: 3,
-            first: number,
-            second: position,
-        },
-    }
-}
-
-// The answers of the response times, the conflict and the slack: given, with a number beside it, or a refusal.
-pub fn of_given(answer: table::Answer, beside: u32) -> AnswerWords
-    ensures { result ≡ of_given answer beside }
-{
-    match answer {
-        table::Answer::Passed => AnswerWords {
-            kind: 0,
-            first: beside,
-            second: 0,
-        },
-        table::Answer::Refused(number, position) => AnswerWords {
-            kind: 3,
-            first: number,
-            second: position,
-        },
+        Verdict::Firm(start, period) => answer_words(0, start, period),
+        Verdict::Full(start, period) => answer_words(1, start, period),
+        Verdict::Miss(tick, position) => answer_words(2, tick, position),
+        Verdict::Refused(number, position) => refused(number, position),
     }
 }
 
@@ -126,61 +66,9 @@ pub fn of_taken(answer: plan_check::Answer) -> AnswerWords
     ensures { result ≡ of_taken answer }
 {
     match answer {
-        plan_check::Answer::Taken => AnswerWords {
-            kind: 0,
-            first: 0,
-            second: 0,
-        },
-        plan_check::Answer::Accepted => AnswerWords {
-            kind: 6,
-            first: 0,
-            second: 0,
-        },
-        plan_check::Answer::Refused(number, tick) => AnswerWords {
-            kind: 3,
-            first: number,
-            second: tick,
-        },
-    }
-}
-
-// Whether the replay's own lent slices fit.
-pub fn fitted(replayed: Replayed) -> bool
-    ensures { result ≡ fitted replayed }
-{
-    match replayed {
-        Replayed::Shown => true,
-        Replayed::RowRefused(_, _) => true,
-        Replayed::Refused(_, _) => true,
-        Replayed::Unfit => false,
-    }
-}
-
-// The cases of a replay whose slices fit.
-pub fn of_replayed(replayed: Replayed) -> AnswerWords
-    ensures { result ≡ of_replayed replayed }
-{
-    match replayed {
-        Replayed::Shown => AnswerWords {
-            kind: 0,
-            first: 0,
-            second: 0,
-        },
-        Replayed::RowRefused(number, position) => AnswerWords {
-            kind: 4,
-            first: number,
-            second: position,
-        },
-        Replayed::Refused(number, position) => AnswerWords {
-            kind: 3,
-            first: number,
-            second: position,
-        },
-        Replayed::Unfit => AnswerWords {
-            kind: 0,
-            first: 0,
-            second: 0,
-        },
+        plan_check::Answer::Taken => taken(0),
+        plan_check::Answer::Accepted => answer_words(6, 0, 0),
+        plan_check::Answer::Refused(number, tick) => refused(number, tick),
     }
 }
 
@@ -189,27 +77,16 @@ pub fn of_parsed(found: bool) -> AnswerWords
     ensures { result ≡ of_read_back found }
 {
     if found {
-        return AnswerWords {
-            kind: 0,
-            first: 0,
-            second: 0,
-        };
+        return taken(0);
     }
-    AnswerWords {
-        kind: 5,
-        first: 0,
-        second: 0,
-    }
+    answer_words(5, 0, 0)
 }
 
 // 1 where a table passes the interference test, 0 where it does not.
 pub fn met_word(met: bool) -> u32
     ensures { result ≡ met_word met }
 {
-    if met {
-        return 1;
-    }
-    0
+    u32::from(met)
 }
 
 // Whether the answer has space for its three words, and another lent slice of `have` elements has the `need` that a call writes; 0 and 0 where there is none.

@@ -24,5 +24,5 @@ pub fn put_facts(facts: Facts, words: &mut [u64])
     words[2] = facts.had;
     words[3] = facts.length;
     let ran = facts.ran;
-    figures::put_long_figures(ran, &mut words[HEAD..]);
+    figures::put_figures(ran, &mut words[HEAD..]);
 }

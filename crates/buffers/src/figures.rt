@@ -5,25 +5,12 @@ ghost use Rattle.model.specs.Sizes.{most_tasks};
 use model::MOST_TASKS;
 
 // Writes the numbers; the words after them stay.
-pub fn put_figures(figures: [u32; MOST_TASKS], words: &mut [u32])
+pub fn put_figures<T: Copy>(figures: [T; MOST_TASKS], words: &mut [T])
     requires { most_tasks ≤ length words.old }
     ensures { words.new ≡ figures ++ drop most_tasks words.old }
 {
-    let mut i: usize = 0;
-    while i < MOST_TASKS {
+    // By index: `copy_from_slice` brought memmove into the archive here, and C is promised memcpy and memset alone.
+    for i in 0..MOST_TASKS {
         words[i] = figures[i];
-        i += 1;
-    }
-}
-
-// .. in words of 64 bits.
-pub fn put_long_figures(figures: [u64; MOST_TASKS], words: &mut [u64])
-    requires { most_tasks ≤ length words.old }
-    ensures { words.new ≡ figures ++ drop most_tasks words.old }
-{
-    let mut i: usize = 0;
-    while i < MOST_TASKS {
-        words[i] = figures[i];
-        i += 1;
     }
 }

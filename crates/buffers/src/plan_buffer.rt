@@ -36,13 +36,9 @@ fn put_notes(noted: [Note; run_buffer::PLACES], shown: usize, words: &mut [u32])
     requires { (shown ≤ places) × (plan_words ≤ length words.old) }
     ensures { words.new ≡ put_at notes_at (notes_words (take shown noted)) words.old }
 {
-    let mut i: usize = 0;
-    while i < shown {
+    for i in 0..shown {
         let note = noted[i];
-        let phase = note.phase;
-        let at = NOTES + EACH * i;
-        put_note(run_buffer::of_phase(phase), at, words);
-        i += 1;
+        put_note(run_buffer::of_phase(note.phase), NOTES + EACH * i, words);
     }
 }
 
@@ -87,11 +83,8 @@ fn notes_in(words: &[u32]) -> [Note; run_buffer::PLACES]
         phase: Phase::Resting(0),
     };
     let mut noted = [nothing; run_buffer::PLACES];
-    let mut i: usize = 0;
-    while i < run_buffer::PLACES {
-        let note = note_in(words, NOTES + EACH * i);
-        noted[i] = note;
-        i += 1;
+    for i in 0..run_buffer::PLACES {
+        noted[i] = note_in(words, NOTES + EACH * i);
     }
     noted
 }
@@ -145,14 +138,15 @@ fn keep(entered: Entered, start: u32, words: &mut [u32]) -> Answer
 pub fn take(words: &mut [u32], row: &[u8]) -> Answer
     ensures { record { answer = result; buffer = words.new } ≡ check_row_from (decode_plan words.old) row.now words.old }
 {
-    if holds(words) {
-        let plan = plan_in(words);
-        let found = plan.extent();
-        if found.number != 0 {
-            return Answer::Refused(found.number, 0);
-        }
-        let entered = plan.enter(found.start, found.horizon, row);
-        return keep(entered, found.start, words);
+    if !holds(words) {
+        return Answer::Refused(14, 0);
     }
-    Answer::Refused(14, 0)
+    let plan = plan_in(words);
+    match plan.extent() {
+        Ok(extent) => {
+            let entered = plan.enter(extent.start, extent.horizon, row);
+            keep(entered, extent.start, words)
+        }
+        Err(refusal) => Answer::Refused(refusal.number(), 0),
+    }
 }

@@ -3,12 +3,16 @@
 ghost use Rattle.std.specs.Prelude.{◌≡◌, ◌++◌, ◌+◌, ◌≤◌, length, drop};
 ghost use Rattle.buffers.specs.Encoding.{head_words, each_words, places, run_words, of_phase, parity_word, place_with, count_word, low_word, high_word};
 ghost use Rattle.buffers.specs.Encoding.{overwritten, phase_of, is_task_state, place_in, count_in, holds_run, run_in, decode};
-ghost use Rattle.buffers.specs.Runs.{row_from, sets_from, working_from, kept_run, entry_from};
+ghost use Rattle.run.specs.Answer.{answer_in};
+ghost use Rattle.run.specs.Row.{row_asked};
+ghost use Rattle.run.specs.Sets.{sets_asked};
+ghost use Rattle.run.specs.Working.{working_asked};
+ghost use Rattle.buffers.specs.Runs.{row_from, sets_from, working_from, entry_from};
 ghost use Rattle.refinement.specs.Listing.{entry_by};
 
-use model::{MOST_TASKS, ROW};
+use model::{MOST_TASKS, ROW, Refusal};
 use phase::{Phase, Task};
-use run::{Advanced, Answer, Row, Run, Sets, WorkingPositions};
+use run::Run;
 use table::limits::HIGH;
 
 // The words in front of the places: rule, cores, count, the fence in two, and the withdrawn set.
@@ -31,6 +35,7 @@ pub const PLACES: usize = model::MOST_TASKS;
 pub const WORDS: usize = HEAD + EACH * PLACES;
 
 // A phase in words: its kind and three numbers, 0 for one that it does not have.
+// The kind is a number, since C's run has words.
 #[derive(Clone, Copy)]
 pub struct PhaseWords {
     pub kind: u32,
@@ -75,7 +80,7 @@ pub(crate) fn of_phase(phase: Phase) -> PhaseWords
 fn parity_word(even: bool) -> u32
     ensures { result ≡ parity_word even }
 {
-    if even { 1 } else { 0 }
+    u32::from(even)
 }
 
 // Writes a place with its parity and its phase into the first words.
@@ -97,10 +102,11 @@ fn put_place(task: Task, parity: u32, phase: PhaseWords, words: &mut [u32])
 }
 
 // The count in a word.
+// 33 and no Option, since `count_word` of specs/ gives it for a count past the places.
 fn count_word(count: usize) -> u32
     ensures { result ≡ count_word count }
 {
-    if count <= PLACES { count as u32 } else { 33 }
+    count.min(PLACES + 1) as u32
 }
 
 // The fence's first word ..
@@ -136,14 +142,15 @@ pub fn put_run(run: Run, shown: usize, words: &mut [u32])
     ensures { words.new ≡ overwritten shown run words.old }
 {
     put_head(run, words);
-    let mut i: usize = 0;
-    while i < shown {
+    for i in 0..shown {
         let task = run.tasks[i];
-        let phase = task.phase;
-        let parity = parity_word(task.even);
         let at = HEAD + EACH * i;
-        put_place(task, parity, of_phase(phase), &mut words[at..]);
-        i += 1;
+        put_place(
+            task,
+            parity_word(task.even),
+            of_phase(task.phase),
+            &mut words[at..],
+        );
     }
 }
 
@@ -205,17 +212,14 @@ pub(crate) fn holds(words: &[u32]) -> bool
     if PLACES < count {
         return false;
     }
-    let mut i: usize = 0;
-    while i < count {
+    for i in 0..count {
         let at = HEAD + EACH * i;
-        if is_task_state(
+        if !is_task_state(
             words[at + PARITY],
             words[at + KIND],
             words[at + SECOND],
             words[at + THIRD],
         ) {
-            i += 1;
-        } else {
             return false;
         }
     }
@@ -230,11 +234,8 @@ pub(crate) fn run_in(words: &[u32]) -> Run
     let count = words[2] as usize;
     let unused = phase::starts::unused();
     let mut tasks = [unused; PLACES];
-    let mut i: usize = 0;
-    while i < count {
-        let place = place_in(words, HEAD + EACH * i);
-        tasks[i] = place;
-        i += 1;
+    for i in 0..count {
+        tasks[i] = place_in(words, HEAD + EACH * i);
     }
     let fence = table::limits::fence_of(words[3], words[4]);
     Run {
@@ -248,74 +249,50 @@ pub(crate) fn run_in(words: &[u32]) -> Run
 }
 
 // The row of the run that the buffer holds with these empty jobs; 14 where it holds none.
-pub fn row_of(words: &[u32], empties: u32) -> Row
-    ensures { result ≡ row_from (decode words.now) empties }
+pub fn row_of(words: &[u32], empties: u32) -> Result<[u8; ROW], Refusal>
+    ensures { row_asked result ≡ row_from (decode words.now) empties }
 {
     if holds(words) {
         let held = run_in(words);
         return held.row(empties);
     }
-    let bytes = [0u8; ROW];
-    Row {
-        answer: Answer::Refused(14, 0),
-        bytes: bytes,
-    }
+    Err(Refusal::NotARun)
 }
 
 // The sets of cores of the run that the buffer holds with these empty jobs; 14 where it holds none.
-pub fn sets_of(words: &[u32], empties: u32) -> Sets
-    ensures { result ≡ sets_from (decode words.now) empties }
+pub fn sets_of(words: &[u32], empties: u32) -> Result<[u64; MOST_TASKS], Refusal>
+    ensures { sets_asked result ≡ sets_from (decode words.now) empties }
 {
     if holds(words) {
         let held = run_in(words);
         return held.sets(empties);
     }
-    let sets = [0u64; MOST_TASKS];
-    Sets {
-        answer: Answer::Refused(14, 0),
-        sets: sets,
-    }
+    Err(Refusal::NotARun)
 }
 
 // The positions that work in the run that the buffer holds with these empty jobs; 14 where it holds none.
-pub fn working_of(words: &[u32], empties: u32) -> WorkingPositions
-    ensures { result ≡ working_from (decode words.now) empties }
+pub fn working_of(words: &[u32], empties: u32) -> Result<u32, Refusal>
+    ensures { working_asked result ≡ working_from (decode words.now) empties }
 {
     if holds(words) {
         let held = run_in(words);
         return held.working(empties);
     }
-    WorkingPositions {
-        answer: Answer::Refused(14, 0),
-        set: 0,
-    }
+    Err(Refusal::NotARun)
 }
 
-// Writes the run that an entry returned, up to its count, where it is taken; a refusal leaves the words as found. Returns the answer.
-fn keep(entered: Advanced, words: &mut [u32]) -> Answer
-    requires { (entered.run.count ≤ places) × (run_words ≤ length words.old) }
-    ensures { record { answer = result; buffer = words.new } ≡ kept_run entered.answer entered.run words.old }
-{
-    let answer = entered.answer;
-    match answer {
-        Answer::Taken => {
-            let next = entered.run;
-            put_run(next, next.count, words);
-            Answer::Taken
-        }
-        Answer::Refused(number, position) => Answer::Refused(number, position),
-    }
-}
-
-// An entry, by its three words, on the run that the buffer holds; it leaves the words past its count. 14 where it holds none.
-pub fn enter(words: &mut [u32], kind: u32, first: u32, second: u32) -> Answer
-    ensures { record { answer = result; buffer = words.new }
+// An entry, by its three words, on the run that the buffer holds: the next run is written up to its count, and the words past it stay; a refusal leaves
+// all words as found. 14 where it holds none.
+// The kind is a number, as in C's words (`entry_by` answers for every kind).
+pub fn enter(words: &mut [u32], kind: u32, first: u32, second: u32) -> Result<(), Refusal>
+    ensures { record { answer = answer_in result; buffer = words.new }
         ≡ entry_from (decode words.old) (entry_by kind first second) words.old }
 {
     if holds(words) {
         let held = run_in(words);
-        let entered = refinement::replays::enter(held, kind, first, second);
-        return keep(entered, words);
+        let next = refinement::replays::enter(held, kind, first, second)?;
+        put_run(next, next.count, words);
+        return Ok(());
     }
-    Answer::Refused(14, 0)
+    Err(Refusal::NotARun)
 }

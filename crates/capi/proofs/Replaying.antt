@@ -1,13 +1,15 @@
 -- The result of a call of the replay, by whether the lent slices fit.
 use mathlib.Core.Path.{◌≡◌, refl, sym, ap, ◌∙◌}
-use mathlib.Core.Bool.{Bool, true, false, ◌&&◌}
+use mathlib.Core.Bool.{Bool, true, false, ◌&&◌, cond}
+use Rattle.std.proofs.Common.{Some, None}
+use Rattle.buffers.specs.declared.answer_words.AnswerWords.{AnswerWords}
 use mathlib.Core.List.{List, [], ◌∷◌}
 use Prim.Native.Nat.{ℕ}
 use native.Mathlib.Omega.{arith}
 use lib.ListN.{take}
 use Rattle.model.specs.Sizes.{most_cores}
-use Rattle.refinement.specs.declared.Replayed.{Replayed}
-use Rattle.refinement.specs.declared.Replayed.TheVariants.{Shown, RowRefused, Refused, Unfit}
+use Rattle.refinement.specs.Replayed.{Replayed}
+use Rattle.refinement.specs.Replayed.{Shown, RowRefused, Refused, Unfit}
 use Rattle.refinement.specs.Replay.{ReplayOutcome, ReplayOf, replay_meaning}
 use Rattle.buffers.specs.AnswerWords.{answer_fits, answer_written}
 use Rattle.capi.specs.Calls.{call_result, by_room}
@@ -19,6 +21,15 @@ not-fitted Shown e = absurd (let z : ◌≡◌ {A = Bool} true false = e in let 
 not-fitted (RowRefused n p) e = absurd (let z : ◌≡◌ {A = Bool} true false = e in let n : ◌≡◌ {A = ℕ} 0 1 = cc in omega arith)
 not-fitted (Refused n p) e = absurd (let z : ◌≡◌ {A = Bool} true false = e in let n : ◌≡◌ {A = ℕ} 0 1 = cc in omega arith)
 not-fitted Unfit e = refl
+
+-- an answer in words by whether the slices fit
+pub by-some : (t : Bool) (w x : AnswerWords) → cond t (Some w) None ≡ Some x → (t ≡ true) × (x ≡ w)
+by-some true w x e = (refl, (cc))
+by-some false w x e = absurd (cc)
+
+pub by-none : (t : Bool) (w : AnswerWords) → cond t (Some w) None ≡ None → t ≡ false
+by-none true w e = absurd (cc)
+by-none false w e = refl
 
 short-by : (t u : Bool) (lent found : List (List ℕ)) → (u ≡ false) → by_room (t && u) lent found ≡ call_result 1 found
 short-by true u lent found e = ap (λ (b : Bool). by_room b lent found) e

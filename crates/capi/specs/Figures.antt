@@ -1,10 +1,10 @@
 -- The results of the calls that give a number for each task: 32 numbers in a lent buffer of words, and the answer.
 use Rattle.std.specs.Prelude.{List, [], ◌∷◌, ◌++◌, ℕ, length, drop}
 use Rattle.model.specs.Sizes.{most_tasks}
-use Rattle.table.specs.declared.Answer.{Answer}
+use Rattle.table.specs.Answer.{Answer}
 use Rattle.response_time.specs.ResponseTimes.{response_times_of}
 use Rattle.slack.specs.Answer.{slack_of}
-use Rattle.interference.specs.declared.Bounds.{Bounds}
+use Rattle.interference.specs.Bounds.{Bounds}
 use Rattle.interference.specs.Bounds.{bounds_of}
 use Rattle.buffers.specs.AnswerWords.{slices_fit, of_given, answer_written, met_word}
 use Rattle.capi.specs.Calls.{CallResult, by_room}

@@ -2,6 +2,7 @@
 ghost use Rattle.std.specs.Prelude.{◌≡◌, [], ◌∷◌};
 ghost use Rattle.capi.specs.Figures.{bounds_call, response_times_call, slack_call};
 
+use crate::results;
 use buffers::answer_words;
 use model::MOST_TASKS;
 
@@ -17,10 +18,9 @@ pub extern "C" fn sivorandra_response_times(
 {
     if answer_words::fit(figures.len(), MOST_TASKS, answer) {
         let found = response_time::response_times(words);
-        let responses = found.responses;
+        let responses = found.unwrap_or([0; MOST_TASKS]);
         buffers::figures::put_figures(responses, figures);
-        let given = found.answer;
-        let encoded = answer_words::of_given(given, 0);
+        let encoded = results::encoded(found, 0);
         answer_words::put(encoded, answer);
         return 0;
     }
@@ -35,10 +35,9 @@ pub extern "C" fn sivorandra_slack(words: &[u32], figures: &mut [u32], answer: &
 {
     if answer_words::fit(figures.len(), MOST_TASKS, answer) {
         let found = slack::slack(words);
-        let slack = found.slack;
+        let slack = found.unwrap_or([0; MOST_TASKS]);
         buffers::figures::put_figures(slack, figures);
-        let given = found.answer;
-        let encoded = answer_words::of_given(given, 0);
+        let encoded = results::encoded(found, 0);
         answer_words::put(encoded, answer);
         return 0;
     }
@@ -53,12 +52,11 @@ pub extern "C" fn sivorandra_bounds(words: &[u32], figures: &mut [u32], answer: 
 {
     if answer_words::fit(figures.len(), MOST_TASKS, answer) {
         let found = interference::response_bounds(words);
-        let tested = found.tested;
-        let bounds = tested.bounds;
+        let tested = found.unwrap_or(None);
+        let bounds = tested.unwrap_or([0; MOST_TASKS]);
         buffers::figures::put_figures(bounds, figures);
-        let given = found.answer;
-        let met = answer_words::met_word(tested.met);
-        let encoded = answer_words::of_given(given, met);
+        let met = answer_words::met_word(tested.is_some());
+        let encoded = results::encoded(found, met);
         answer_words::put(encoded, answer);
         return 0;
     }

@@ -3,6 +3,7 @@ ghost use Rattle.std.specs.Prelude.{◌≡◌, [], ◌∷◌};
 ghost use Rattle.capi.specs.Calls.{plan_call};
 ghost use Rattle.capi.specs.CheckRow.{begin_call, check_row_call};
 
+use crate::results;
 use buffers::{answer_words, plan_buffer, run_buffer};
 
 // Rows a up to but not including b of the full-length run into `rows`, one byte a core: case 0, or 3 Refused number position and the rows as found.
@@ -18,7 +19,7 @@ pub extern "C" fn sivorandra_plan(
 {
     if answer_words::fit(0, 0, answer) {
         let planned = plan::plan(words, a, b, rows);
-        let encoded = answer_words::of_planned(planned);
+        let encoded = results::encoded(planned, 0);
         answer_words::put(encoded, answer);
         return 0;
     }
@@ -33,10 +34,9 @@ pub extern "C" fn sivorandra_check_begin(words: &[u32], plan: &mut [u32], answer
 {
     if answer_words::fit(plan.len(), plan_buffer::WORDS, answer) {
         let begun = plan_check::begin(words);
-        let first = begun.plan;
+        let first = begun.unwrap_or(plan_check::begins::empty());
         plan_buffer::put_plan(first, run_buffer::PLACES, true, plan);
-        let given = begun.answer;
-        let encoded = answer_words::of_given(given, 0);
+        let encoded = results::encoded(begun, 0);
         answer_words::put(encoded, answer);
         return 0;
     }

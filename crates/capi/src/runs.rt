@@ -4,6 +4,7 @@ ghost use Rattle.capi.specs.Replays.{replay_call};
 ghost use Rattle.capi.specs.Runs.{start_call, row_call, sets_call, working_call, entry_call, advance_call, withdraw_call, withdraw_all_call};
 ghost use Rattle.refinement.specs.Listing.{entry_by};
 
+use crate::results;
 use buffers::{answer_words, figures, run_buffer};
 use model::{MOST_TASKS, ROW};
 
@@ -14,10 +15,9 @@ pub extern "C" fn sivorandra_start(words: &[u32], run: &mut [u32], answer: &mut 
 {
     if answer_words::fit(run.len(), run_buffer::WORDS, answer) {
         let started = run::start(words);
-        let first = started.run;
+        let first = started.unwrap_or(run::starts::empty());
         run_buffer::put_run(first, run_buffer::PLACES, run);
-        let given = started.answer;
-        let encoded = answer_words::of_answer(given);
+        let encoded = results::encoded(started, 0);
         answer_words::put(encoded, answer);
         return 0;
     }
@@ -37,10 +37,9 @@ pub extern "C" fn sivorandra_row(
 {
     if answer_words::fit(row.len(), ROW, answer) {
         let shown = run_buffer::row_of(run, empties);
-        let bytes = shown.bytes;
+        let bytes = shown.unwrap_or([0; ROW]);
         refinement::replays::put(bytes, row);
-        let given = shown.answer;
-        let encoded = answer_words::of_answer(given);
+        let encoded = results::encoded(shown, 0);
         answer_words::put(encoded, answer);
         return 0;
     }
@@ -61,10 +60,9 @@ pub extern "C" fn sivorandra_sets(
 {
     if answer_words::fit(sets.len(), MOST_TASKS, answer) {
         let shown = run_buffer::sets_of(run, empties);
-        let found = shown.sets;
-        figures::put_long_figures(found, sets);
-        let given = shown.answer;
-        let encoded = answer_words::of_answer(given);
+        let found = shown.unwrap_or([0; MOST_TASKS]);
+        figures::put_figures(found, sets);
+        let encoded = results::encoded(shown, 0);
         answer_words::put(encoded, answer);
         return 0;
     }
@@ -84,9 +82,8 @@ pub extern "C" fn sivorandra_working(
 {
     if answer_words::fit(set.len(), 1, answer) {
         let asked = run_buffer::working_of(run, empties);
-        set[0] = asked.set;
-        let given = asked.answer;
-        let encoded = answer_words::of_answer(given);
+        set[0] = asked.unwrap_or(0);
+        let encoded = results::encoded(asked, 0);
         answer_words::put(encoded, answer);
         return 0;
     }
@@ -99,8 +96,8 @@ fn enter(run: &mut [u32], kind: u32, first: u32, second: u32, answer: &mut [u32]
         ≡ entry_call (entry_by kind first second) run.old answer.old }
 {
     if answer_words::fit(0, 0, answer) {
-        let given = run_buffer::enter(run, kind, first, second);
-        let encoded = answer_words::of_answer(given);
+        let entered = run_buffer::enter(run, kind, first, second);
+        let encoded = results::encoded(entered, 0);
         answer_words::put(encoded, answer);
         return 0;
     }
@@ -154,8 +151,7 @@ pub extern "C" fn sivorandra_replay(
 {
     if answer_words::fit(0, 0, answer) {
         let replayed = refinement::replay(words, entries, numbers, row);
-        if answer_words::fitted(replayed) {
-            let encoded = answer_words::of_replayed(replayed);
+        if let Some(encoded) = results::replayed(replayed) {
             answer_words::put(encoded, answer);
             return 0;
         }

@@ -2,6 +2,7 @@
 ghost use Rattle.std.specs.Prelude.{◌≡◌, [], ◌∷◌};
 ghost use Rattle.capi.specs.Sentences.{sentence_call, facts_call};
 
+use crate::results;
 use buffers::{answer_words, facts};
 
 // The miss of a table's words in a sentence at the front of `buffer`: case 0 and its length, or 3 Refused number position and the buffer as found.
@@ -11,7 +12,8 @@ pub extern "C" fn sivorandra_sentence(words: &[u32], buffer: &mut [u8], answer: 
 {
     if answer_words::fit(0, 0, answer) {
         let outcome = sentence::sentence(words, buffer);
-        let encoded = answer_words::of_sentence(outcome);
+        let length = outcome.unwrap_or(0) as u32;
+        let encoded = results::encoded(outcome, length);
         answer_words::put(encoded, answer);
         return 0;
     }

@@ -12,13 +12,26 @@ use Rattle.table.proofs.Passed.{passed-valid}
 use Rattle.table.specs.Numbers as numbers
 use Rattle.table.specs.Numbers.{Earlier, place}
 use Rattle.table.specs.Words.{table_of}
-use Rattle.judge.proofs.Contract.{judged-exact}
+use mathlib.Core.Bool.{Bool, cond, true, false}
+use native.Mathlib.Numerals.{add-one}
+use Prim.Native.Nat.{◌+◌}
+use Rattle.std.specs.Prelude.{Result, Ok, Err}
+use Rattle.model.specs.declared.refusal.Refusal.{Refusal}
+use Rattle.model.specs.Task.{rule_of}
+use Rattle.model.specs.Firm.{firm}
+use Rattle.table.specs.declared.Loaded.{Loaded}
+use Rattle.table.specs.Task.{tasks_of}
+use Rattle.table.specs.Fit.{loaded_table}
+use Rattle.table.specs.Load.{LoadOf}
+use Rattle.judge.specs.FirstMiss as judge
+use Rattle.judge.specs.FirstMiss.{missed_before, by_miss}
+use Rattle.judge.proofs.Contract.{judged-exact, run_value, refused-value}
 use Rattle.judge.specs.declared.Verdict.{Verdict}
 use Rattle.judge.specs.declared.Verdict.TheVariants.{Firm, Full, Miss, Refused}
-use Rattle.judge.specs.Judged.{Judged, verdict_of}
+use Rattle.judge.specs.Judged.{Judged, verdict_of, accepted_of}
 use Rattle.judge.specs.JudgeAnswer.{verdict_meaning}
-use Rattle.conflict.specs.declared.ConflictAnswer.{ConflictAnswer}
-use Rattle.conflict.specs.Answer.{ConflictOf, conflict_by, conflict_of, given_conflict, no_conflict}
+use Rattle.conflict.specs.Answer.{ConflictAnswer}
+use Rattle.conflict.specs.Answer.{ConflictOf, answered, conflict_by, conflict_of, given_conflict, no_conflict}
 use Rattle.conflict.specs.Conflict.{conflict_set}
 use Rattle.conflict.specs.Numbers.{Applies, First, NoneApplies, seventeen, words}
 use Rattle.conflict.proofs.Dropping.{conflict-past}
@@ -113,3 +126,25 @@ module _ (ws : List ℕ) where
     where
       is : conflict_by u (conflict_set s) ≡ conflict_of ws
       is = unfold conflict_of in ap (λ (w : Verdict). conflict_by w (conflict_set s)) (sym q ∙ j.value)
+
+  -- OF THE TABLE THAT WAS LOADED
+  module _ (loaded : Result Loaded Refusal) (l : LoadOf ws loaded) where
+    -- by the first miss of one that passed
+    pub by-first-miss :
+        (t : Loaded) → loaded ≡ Ok t → (m : judge.Missed) → m ≡ missed_before (loaded_table t) (t.horizon + 1)
+        → (r : ConflictAnswer) → r ≡ conflict_by (by_miss m (accepted_of t)) (conflict_set s) → ConflictOf ws r
+    by-first-miss t e m q r f =
+        let v = by_miss m (accepted_of t) in
+        by-verdict v v (run_value ws loaded l t e v (ap (λ (x : judge.Missed). by_miss x (accepted_of t)) (q ∙ ap (missed_before (loaded_table t)) (add-one t.horizon)))) refl r f
+
+    -- a refusal of it is the answer
+    pub refused_all : (x : Refusal) → loaded ≡ Err x → ConflictOf ws (answered (Err x))
+    refused_all x e = by-verdict _ _ (refused-value ws loaded l x e) refl (answered (Err x)) refl
+
+-- where none is missed, 17
+pub no-miss : (t : Loaded) (x : ℕ) → conflict_by (accepted_of t) x ≡ no_conflict 17 0
+no-miss t x = go (firm (rule_of t.rule) (tasks_of t.tasks t.count))
+  where
+    go : (b : Bool) → conflict_by (cond b (Firm t.start t.period) (Full t.start t.period)) x ≡ no_conflict 17 0
+    go true = refl
+    go false = refl

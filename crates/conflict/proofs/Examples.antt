@@ -10,7 +10,7 @@ use Rattle.table.proofs.Examples.{chained, words_a}
 use Rattle.table.specs.Answer.{answer_of, by_horizon, by_tasks, by_walk, ending_of, first_out, header_number, last_step}
 use Rattle.table.specs.Words.{chain, count, visited, table_of}
 use Rattle.judge.specs.Judged.{verdict_of}
-use Rattle.conflict.specs.declared.ConflictAnswer.{ConflictAnswer}
+use Rattle.conflict.specs.Answer.{ConflictAnswer}
 use Rattle.conflict.specs.Answer.{conflict_of, given_conflict, no_conflict}
 use Rattle.conflict.specs.Conflict.{conflict_set, conflicts, dropped, pass, passes}
 use Rattle.conflict.specs.SubTable.{chosen}

@@ -3,7 +3,7 @@ use mathlib.Core.Bool.{Bool, cond, false, true}
 use mathlib.Core.List.{List, [], ◌∷◌, ◌++◌}
 use mathlib.Core.Logic.{⊎_elim}
 use mathlib.Core.Path.{ap, ap₂, fun_ext, refl, sym, ◌∙◌, ◌≡◌}
-use Prim.Native.Nat.{ℕ, zero, suc, ◌+◌, ◌-◌, ◌<◌, ◌≤◌}
+use Prim.Native.Nat.{ℕ, suc, ◌+◌, ◌-◌, ◌<◌, ◌≤◌}
 use native.Mathlib.Nat.{add-zero, eq-or-lt_of_le, zero-add}
 use native.Mathlib.Omega.{arith}
 use lib.ListN.{drop, drop_of_length-le, length, replicate, set, take, take-append-drop}
@@ -17,12 +17,6 @@ use Rattle.table.specs.Words.{chain, count, head, visited, next, records}
 use Rattle.conflict.specs.SubTable.{chosen}
 use Rattle.conflict.specs.Relinked.{linked, most_words, next_word_at, padded, relinked}
 use Rattle.conflict.proofs.Linked.{chain-ends, chain-in, linked-length, next-inside}
-
--- zeros behind zeros
-pub zeros-after : (n m : ℕ) → drop {A = ℕ} n (replicate m 0) ≡ replicate (m - n) 0
-zeros-after zero m = let e : m ≡ m - 0 = omega arith in ap (λ (k : ℕ). replicate {A = ℕ} k 0) e
-zeros-after (suc n) zero = let e : 0 ≡ 0 - suc n = omega arith in ap (λ (k : ℕ). replicate {A = ℕ} k 0) e
-zeros-after (suc n) (suc m) = let e : m - n ≡ suc m - suc n = omega arith in zeros-after n m ∙ ap (λ (k : ℕ). replicate {A = ℕ} k 0) e
 
 -- the records kept from place k on
 abbrev rest : List ℕ → ℕ → ℕ → List ℕ

@@ -1,19 +1,25 @@
 -- The answer of `conflict`, and its contract (request 110).
-use Rattle.std.specs.Prelude.{false, List, ◌↔◌, ◌≡◌, ℕ, ◌<◌, ◌≤◌, length}
+use Rattle.std.specs.Prelude.{Result, Ok, Err, false, List, ◌↔◌, ◌≡◌, ℕ, ◌<◌, ◌≤◌, length}
 use Rattle.model.specs.Refusals as book
 use Rattle.model.specs.Search.{bit}
-use Rattle.table.specs.declared.Answer.TheVariants as table
+use Rattle.table.specs.Answer as table
 use Rattle.table.specs.Load.{load_meaning}
 use Rattle.table.specs.Numbers as table-numbers
 use Rattle.table.specs.Words.{table_of}
 use Rattle.judge.specs.declared.Verdict.{Verdict}
 use Rattle.judge.specs.declared.Verdict.TheVariants.{Firm, Full, Miss, Refused}
 use Rattle.judge.specs.Judged.{verdict_of}
-use Rattle.conflict.specs.declared.ConflictAnswer.{ConflictAnswer}
+use Rattle.model.specs.declared.refusal.Refusal.{Refusal}
+use Rattle.model.specs.Refusal.{number_of, position_of}
 use Rattle.conflict.specs.Conflict.{conflict_set, Minimal}
 use Rattle.conflict.specs.Numbers.{First, NoneApplies}
 use Rattle.conflict.specs.SubTable.{sub_table}
 use Rattle.conflict.specs.Relinked.{relinked}
+
+-- the answer, and the set of positions kept, bit 0 for position 1
+pub record ConflictAnswer : Type 0 where
+  pub answer : table.Answer
+  pub kept : ℕ
 
 -- the set of positions kept is given; or it is turned down with number and position, and the set is empty
 abbrev pub given_conflict : ℕ → ConflictAnswer
@@ -21,6 +27,11 @@ given_conflict x = record { answer = table.Passed; kept = x }
 
 abbrev pub no_conflict : ℕ → ℕ → ConflictAnswer
 no_conflict n p = record { answer = table.Refused n p; kept = 0 }
+
+-- as code returns it
+abbrev pub answered : Result ℕ Refusal → ConflictAnswer
+answered (Ok x) = given_conflict x
+answered (Err e) = no_conflict (number_of e) (position_of e)
 
 -- by the judge's verdict: given for a miss, 17 where there is none, and the table's numbers unchanged
 abbrev pub conflict_by : Verdict → ℕ → ConflictAnswer

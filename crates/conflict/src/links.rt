@@ -15,11 +15,7 @@ pub fn copied(words: &[u32]) -> [u32; WORDS]
     ensures { result ≡ padded words.now }
 {
     let mut copy = [0u32; WORDS];
-    let mut i: usize = 0;
-    while i < words.len() {
-        copy[i] = words[i];
-        i += 1;
-    }
+    copy[..words.len()].copy_from_slice(words);
     copy
 }
 
@@ -32,6 +28,7 @@ pub(crate) fn relinked(words: &[u32], kept: u32) -> [u32; WORDS]
     let mut link: usize = 0;
     let mut place: u32 = 0;
     let mut number = words[0];
+    // A `for` over the places is no plainer: the walk goes by the links, and ends at the first that is 0.
     while 0 < number {
         let next = HEADER + (number as usize - 1) * RECORD;
         if (kept >> place) % 2 == 1 {

@@ -1,5 +1,5 @@
 // The passes over a table that passed: from the lowest priority upward, a task is dropped where what is left without it still misses.
-ghost use Rattle.std.specs.Prelude.{◌≡◌, ◌≤◌, ◌<◌, ◌-◌, ◌^◌};
+ghost use Rattle.std.specs.Prelude.{◌≡◌, length, ◌≤◌, ◌<◌, ◌-◌, ◌^◌};
 ghost use Rattle.model.specs.Sizes.{most_tasks};
 ghost use Rattle.table.specs.Numbers.{NoneApplies};
 ghost use Rattle.table.specs.Words.{table_of};
@@ -15,12 +15,7 @@ fn still_misses(words: &[u32], kept: u32) -> bool
     let part = crate::links::relinked(words, kept);
     let size = words.len();
     let verdict = judge::judge(&part[..size]);
-    match verdict {
-        Verdict::Firm(_, _) => false,
-        Verdict::Full(_, _) => false,
-        Verdict::Miss(_, _) => true,
-        Verdict::Refused(_, _) => false,
-    }
+    matches!(verdict, Verdict::Miss(_, _))
 }
 
 // The set without a place, where the place is in it and the rest still misses; else the set.
@@ -43,9 +38,7 @@ fn pass(words: &[u32], count: u32, kept: u32) -> u32
     ensures { result ≡ pass (table_of words.now) count kept }
 {
     let mut left = kept;
-    let mut place = count;
-    while 0 < place {
-        place -= 1;
+    for place in (0..count).rev() {
         left = dropped(words, place, left);
     }
     left
@@ -59,13 +52,12 @@ fn all(count: u32) -> u32
     ((1u64 << count) - 1) as u32
 }
 
-// What the passes leave of the whole table: passes until one drops nothing.
-pub(crate) fn passes(words: &[u32]) -> u32
-    requires { NoneApplies words.now }
+// What the passes leave of the whole table, of this number of tasks: passes until one drops nothing.
+pub(crate) fn passes(words: &[u32], count: u32) -> u32
+    requires passes { NoneApplies words.now }
+    requires count { count ≡ length (table_of words.now).tasks }
     ensures { result ≡ conflict_set (table_of words.now) }
 {
-    let table = table::load(words);
-    let count = table.count as u32;
     let mut kept = all(count);
     loop {
         let left = pass(words, count, kept);

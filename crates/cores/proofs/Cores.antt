@@ -13,8 +13,10 @@ use lib.Dec.{eqb, ltb}
 use lib.Pow.{pow_mono, pow_pos, ones_lt}
 use borrow.Author.Tests.{ltb-false, ltb-true}
 use Rattle.model.specs.Search.{bit, filtered, cons_if, member, up_from}
+use Rattle.model.specs.Members.{members}
 use Rattle.model.specs.Sets.{set_of}
 use Rattle.model.proofs.Digits.{bit_past, bit-zero, bit-suc, even-half, odd-half, half, tz-out, tz-into}
+use Rattle.model.proofs.Members.{members-to}
 use Rattle.cores.specs.Cores.{cores}
 use Rattle.cores.proofs.Ascending.{Range, range-weaken, range-take, range-drop, memb-past, memb-up, memb-kept}
 
@@ -189,6 +191,11 @@ module _ (n w r : ℕ) (h : n < 2 ^ 64) (k : r < 2 ^ 64) where
   front_of e =
       let d : n - r ≡ set_of (take w (cores n)) = omega (arith, whole, set-cores r k, ap set_of e) in
       ap cores d ∙ cores-set (take w (cores n)) (range-take w 0 64 (cores n) (cores-range n))
+
+-- they are the members of the set
+pub cores-members : (n : ℕ) → n < 2 ^ 64 → cores n ≡ members n
+unfolding cores
+cores-members n h = sym (members-to n 64 h)
 
 pub cores-none : cores 0 ≡ []
 unfolding cores filtered up_from

@@ -10,6 +10,7 @@ ghost use Rattle.cores.specs.Cores.{cores};
 use model::MOST_CORES;
 
 // The first `count` cores, of 64.
+// The two cases are plainer than `checked_shl` and a closure.
 pub fn first_cores(count: u32) -> u64
     ensures { cores result ≡ up_from 0 (min count most_cores) }
 {
@@ -18,13 +19,6 @@ pub fn first_cores(count: u32) -> u64
     } else {
         0xffff_ffff_ffff_ffff
     }
-}
-
-// The smaller of two numbers of cores.
-fn fewer(a: u32, b: u32) -> u32
-    ensures { result ≡ min a b }
-{
-    if a < b { a } else { b }
 }
 
 // The set of the `width` lowest-numbered free cores; all of them where there are fewer. A whole run of adjacent free cores is taken in one step.
@@ -36,7 +30,7 @@ pub fn lowest(free: u64, width: u32) -> u64
     while 0 < wanted && 0 < rest {
         let first = u64::trailing_zeros(rest);
         let run = u64::trailing_zeros(!(rest >> first));
-        let piece = fewer(run, wanted);
+        let piece = wanted.min(run);
         rest -= first_cores(piece) << first;
         wanted -= piece;
     }

@@ -8,18 +8,22 @@ use Rattle.model.specs.Task.{Table}
 use Rattle.table.proofs.Exact.{passed-exact, refusal-exact}
 use Rattle.table.proofs.Order.{first-only}
 use Rattle.table.proofs.Passed.{passed-valid}
-use Rattle.table.specs.declared.Answer.{Answer}
-use Rattle.table.specs.declared.Answer.TheVariants.{Passed, Refused}
+use Rattle.table.specs.Answer.{Answer}
+use Rattle.table.specs.Answer.{Passed, Refused}
 use Rattle.table.specs.declared.Loaded.{Loaded}
 use Rattle.table.specs.Answer.{answer_of}
-use Rattle.table.specs.Load.{LoadOf, load_meaning}
+use Rattle.std.specs.Prelude.{Option, Result, Ok, Err}
+use Rattle.model.specs.declared.refusal.Refusal.{Refusal}
+use Rattle.model.specs.Refusal.{number_of, position_of}
+use Rattle.table.proofs.Contract.{load-ok, load-err}
+use Rattle.table.specs.Load.{LoadOf}
 use Rattle.table.specs.Numbers.{Applies, First, NoneApplies}
 use Rattle.table.specs.Words.{table_of}
 use Rattle.table.proofs.Fit.{same-table}
 use Rattle.table.specs.Fit.{loaded_table}
-use Rattle.interference.specs.declared.Bounds.{Bounds}
-use Rattle.interference.specs.declared.Tested.{Tested}
-use Rattle.interference.specs.Bounds.{BoundsOf, bounds_by, bounds_of, no_bounds, tested_of}
+use Rattle.interference.specs.Bounds.{Bounds}
+use Rattle.interference.specs.Bounds.{Tested}
+use Rattle.interference.specs.Bounds.{BoundsOf, answered, bounds_by, bounds_of, tested_in, tested_of}
 use Rattle.interference.proofs.Passing.{tested-promise}
 
 taken_refused : {n p : ℕ} → book.taken ≡ book.refused n p → ⊥
@@ -66,14 +70,13 @@ module _ (ws : List ℕ) where
   by_value : (r : Bounds) → r ≡ bounds_of ws → BoundsOf ws r
   by_value r e = subst (BoundsOf ws) (sym e) bounds-promise
 
-  -- OF THE TABLE THAT WAS LOADED
-  module _ (t : Loaded) (l : LoadOf ws t) where
-    pub loaded-contract : t.answer ≡ Passed → (r : Tested) → r ≡ tested_of (loaded_table t) → BoundsOf ws (record { answer = Passed; tested = r })
-    loaded-contract e r q =
-        by_value (record { answer = Passed; tested = r })
-        (ap (λ (x : Tested). record { answer = Passed; tested = x }) (q ∙ ap tested_of (same-table ws t l e))
-        ∙ is Passed ((passed-exact ws).1 (l.passed.0 (ap load_meaning e))))
+  -- OF THE TABLE THAT WAS LOADED, or of its refusal
+  module _ (loaded : Result Loaded Refusal) (l : LoadOf ws loaded) where
+    pub loaded-contract : (t : Loaded) → loaded ≡ Ok t → (r : Option (List ℕ)) → tested_in r ≡ tested_of (loaded_table t) → BoundsOf ws (answered (Ok r))
+    loaded-contract t e r q =
+        let (h, none, passed) = load-ok ws loaded l t e in
+        by_value (answered (Ok r))
+        (ap (λ (x : Tested). record { answer = Passed; tested = x }) (q ∙ ap tested_of (same-table ws t h none)) ∙ is Passed passed)
 
-    pub refused-contract : (n p : ℕ) → t.answer ≡ Refused n p → (r : Bounds) → r ≡ no_bounds n p → BoundsOf ws r
-    refused-contract n p e r q =
-        by_value r (q ∙ is (Refused n p) ((refusal-exact ws n p).1 ((l.refused n p).0 (ap load_meaning e))))
+    pub refused-contract : (x : Refusal) → loaded ≡ Err x → BoundsOf ws (answered (Err x))
+    refused-contract x e = by_value (answered (Err x)) (is (Refused (number_of x) (position_of x)) (load-err ws loaded l x e).0)

@@ -35,19 +35,6 @@ module _ (s : Table) (ends : List ℕ) (p : ℕ) where
   unfolding suffices
   test-value window given waits wanted short we ge ne = rw (ge, we, ne, le-leb window D short) refl
 
-  -- one halving, by the window in the middle
-  pub shorter-half :
-      (low high : ℕ) → suffices s e p ((low + high) / 2) ≡ true
-      → (low ≡ cond (suffices s e p ((low + high) / 2)) low (suc ((low + high) / 2)))
-      × ((low + high) / 2 ≡ cond (suffices s e p ((low + high) / 2)) ((low + high) / 2) high)
-  shorter-half low high q = (rw q refl, rw q refl)
-
-  pub longer-half :
-      (low high : ℕ) → suffices s e p ((low + high) / 2) ≡ false
-      → ((low + high) / 2 + 1 ≡ cond (suffices s e p ((low + high) / 2)) low (suc ((low + high) / 2)))
-      × (high ≡ cond (suffices s e p ((low + high) / 2)) ((low + high) / 2) high)
-  longer-half low high q = (rw q (add-one ((low + high) / 2)), rw q refl)
-
   -- UPWARDS: the window sought is the first that passes from this one on, in the tries that are left
   pub record Trying (tries window : ℕ) : Type 0 where
     pub rest : ℕ

@@ -26,7 +26,7 @@ use Rattle.table.specs.declared.Loaded.{Loaded}
 use Rattle.table.specs.Task.{no_task, task_of}
 use Rattle.table.proofs.Places.{tasks-length}
 use Rattle.table.specs.Fit.{Fit, loaded_table}
-use Rattle.interference.specs.declared.Tested.{Tested}
+use Rattle.interference.specs.Bounds.{Tested}
 use Rattle.interference.specs.Bounds.{Above, TestedOf, bounds_in, is_met, not_met, tested_of}
 use Rattle.interference.proofs.Sums.{place_at}
 

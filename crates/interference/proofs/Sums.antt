@@ -2,7 +2,7 @@
 use mathlib.Core.List.{List}
 use mathlib.Core.Path.{ap, ap₂, refl, sym, ◌∙◌, ◌≡◌}
 use Prim.Native.Nat.{◌%◌, ◌*◌, ◌+◌, ◌-◌, ◌/◌, ◌<◌, min, ℕ, ◌≤◌}
-use native.Mathlib.Nat.{div-add-mod', div-le_self, div-mul-le_self, le_trans, mod-lt, mul-le-mul_left, mul-le-mul_right}
+use native.Mathlib.Nat.{div-add-mod', mod-lt}
 use native.Mathlib.Numerals.{add-one}
 use native.Mathlib.Omega.{arith}
 use lib.Arith.{digits_div, digits_lt, mod-mul}
@@ -17,7 +17,7 @@ use Rattle.table.specs.Limits.{most_time}
 use Rattle.table.specs.Task.{no_task, task_of}
 use Rattle.table.proofs.Places.{task-at, tasks-length}
 use Rattle.table.specs.Fit.{Fit, loaded_table}
-use Rattle.interference.specs.Bounds.{Above, most_cores_in, most_span}
+use Rattle.interference.specs.Bounds.{most_cores_in}
 
 -- what place i is given at most
 abbrev pub part : List Task → List ℕ → ℕ → ℕ → ℕ → ℕ
@@ -40,20 +40,7 @@ by-one-division τ e L pos =
     ap₂ (λ (a b : ℕ). a * τ.length + min τ.length b) (sym (div-twice (L + e - τ.length) τ.period pos))
     (sym (mod-mul (L + e - τ.length) {m = 2} {c = τ.period} (omega arith) pos))
 
--- whole jobs in a span, all or every second one, take no more ticks than it has
-pub whole-few : (span T C : ℕ) → C ≤ T → span ≤ most_span → (span / T * C ≤ most_span) × (span / T / 2 * C ≤ most_span)
-whole-few span T C a b =
-    let all = le_trans (mul-le-mul_left (span / T) a) (le_trans (div-mul-le_self span T) b) in
-    (all, le_trans (mul-le-mul_right C (div-le_self (span / T) 2)) all)
-
--- a task of one width, and of two
-pub cores-one :
-    (τ : model.Task) (e L n narrow wide a : ℕ) → narrow ≡ narrowest τ → wide ≡ widest τ → wide ≡ narrow
-    → a ≡ min n (workload_in τ τ.period e L) → narrow * a ≡ cores_in τ e L n
-cores-one τ e L n narrow wide a nq wq same aq =
-    let none : widest τ - narrowest τ ≡ 0 = omega arith in
-    ap₂ (λ (x y : ℕ). x * y) nq aq ∙ sym (rw none (omega arith))
-
+-- a task of two widths
 pub cores-two :
     (τ : model.Task) (e L n narrow wide a b : ℕ) → narrow ≡ narrowest τ → wide ≡ widest τ
     → a ≡ min n (workload_in τ τ.period e L) → b ≡ min n (workload_in τ (2 * τ.period) e L) → narrow * a + (wide - narrow) * b ≡ cores_in τ e L n
@@ -90,27 +77,6 @@ module _ (t : Loaded) (fit : Fit t) where
       let D = ap (λ x. x.deadline) τ in
       let C = ap (λ x. x.length) τ in
       (C, D, omega (arith, ok.constrained, fit.short i h), omega (arith, ok.length-pos))
-
-  -- a place above: what its workload needs
-  pub place-ready :
-      (ends : List ℕ) (place i : ℕ) → place ≤ t.count → Above t ends place → i < place
-      → (1 ≤ (get_or t.tasks i no_task).period) × ((get_or t.tasks i no_task).period ≤ most_time)
-      × ((get_or t.tasks i no_task).length ≤ (get_or t.tasks i no_task).period) × ((get_or t.tasks i no_task).length ≤ get_or ends i 0)
-      × (get_or ends i 0 ≤ most_time)
-  place-ready ends place i l above h =
-      let here : i < t.count = omega arith in
-      let τ = place_at i here in
-      let ok = fit.valid i (omega (arith, tasks-length t.tasks t.count (omega (arith, fit.few, fit.places)))) in
-      let a = above i h in
-      let T = ap (λ x. x.period) τ in
-      let C = ap (λ x. x.length) τ in
-      let short = fit.short i here in (
-        omega (arith, ok.deadline-pos, ok.constrained),
-        omega arith,
-        omega (arith, a.0, a.1, ok.constrained),
-        omega (arith, a.0),
-        omega (arith, a.1, ok.constrained),
-      )
 
   -- over all places above it is what the definition says
   pub summed-all :

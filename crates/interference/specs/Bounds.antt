@@ -1,21 +1,21 @@
 -- What the interference test answers, and what is promised of it.
-use Rattle.std.specs.Prelude.{cond, false, true, List, map, ◌++◌, ◌↔◌, ◌≡◌, ℕ, ◌-◌, ◌≤◌, ◌<◌, get_or, length, replicate}
+use Rattle.std.specs.Prelude.{Option, None, Some, Result, Ok, Err, Bool, cond, false, true, List, map, ◌++◌, ◌↔◌, ◌≡◌, ℕ, ◌-◌, ◌≤◌, ◌<◌, get_or, length, replicate}
 use Rattle.model.specs.Refusals as book
 use Rattle.model.specs.Lists.{NeverMissed}
 use Rattle.model.specs.Interference.{EndsWithin, interference_test_passes, need, response_bound}
 use Rattle.model.specs.Search.{up_from}
 use Rattle.model.specs.Sizes.{most_tasks}
 use Rattle.model.specs.Task.{Table, task}
-use Rattle.table.specs.declared.Answer.{Answer}
-use Rattle.table.specs.declared.Answer.TheVariants.{Passed, Refused}
+use Rattle.table.specs.Answer.{Answer}
+use Rattle.table.specs.Answer.{Passed, Refused}
 use Rattle.table.specs.declared.Loaded.{Loaded}
 use Rattle.table.specs.Answer.{answer_of}
 use Rattle.table.specs.Load.{load_meaning}
 use Rattle.table.specs.Numbers.{First, NoneApplies}
 use Rattle.table.specs.Words.{table_of}
 use Rattle.table.specs.Fit.{Fit, loaded_table}
-use Rattle.interference.specs.declared.Bounds.{Bounds}
-use Rattle.interference.specs.declared.Tested.{Tested}
+use Rattle.model.specs.declared.refusal.Refusal.{Refusal}
+use Rattle.model.specs.Refusal.{number_of, position_of}
 
 -- the most ticks of a window and a bound together
 abbrev pub most_span : ℕ
@@ -46,12 +46,22 @@ pub record Sought (t : Loaded) (ends : List ℕ) (place wanted : ℕ) : Type 0 w
 unfoldable pub bounds_in : Table → List ℕ
 bounds_in s = map (response_bound s) (up_from 0 (length s.tasks)) ++ replicate (most_tasks - length s.tasks) 0
 
+-- whether a table passes, and the bound of each place, 0 past the count
+pub record Tested : Type 0 where
+  pub met : Bool
+  pub bounds : List ℕ
+
 -- the table passes, or it does not, and all bounds are 0
 abbrev pub is_met : List ℕ → Tested
 is_met xs = record { met = true; bounds = xs }
 
 abbrev pub not_met : Tested
 not_met = record { met = false; bounds = replicate most_tasks 0 }
+
+-- as code returns it
+abbrev pub tested_in : Option (List ℕ) → Tested
+tested_in None = not_met
+tested_in (Some xs) = is_met xs
 
 -- the test of a table
 unfoldable pub tested_of : Table → Tested
@@ -67,9 +77,19 @@ pub record TestedOf (s : Table) (r : Tested) : Type 0 where
   pub bounds : r.met ≡ true → (p : ℕ) → p < length s.tasks → get_or r.bounds p 0 ≡ response_bound s p
   pub ends : r.met ≡ true → (p : ℕ) → p < length s.tasks → EndsWithin s p (get_or r.bounds p 0)
 
+-- the table's answer, and its test
+pub record Bounds : Type 0 where
+  pub answer : Answer
+  pub tested : Tested
+
 -- a refusal: the table does not pass
 abbrev pub no_bounds : ℕ → ℕ → Bounds
 no_bounds n p = record { answer = Refused n p; tested = not_met }
+
+-- as code returns it
+abbrev pub answered : Result (Option (List ℕ)) Refusal → Bounds
+answered (Ok tested) = record { answer = Passed; tested = tested_in tested }
+answered (Err e) = no_bounds (number_of e) (position_of e)
 
 -- by the table's answer: the test, or the table's number as it is there
 abbrev pub bounds_by : Answer → Table → Bounds

@@ -23,89 +23,81 @@ struct Range {
     high: u32,
 }
 
-// Whether a window of a place passes the test; `wanted` cores at least are given to the places above in a tick in which a job of it waits.
-fn passes(table: Loaded, ends: [u32; MOST_TASKS], place: usize, wanted: u32, window: u32) -> bool
-    requires { Sought table ends place wanted × ((task (loaded_table table) place).length ≤ window) × (window ≤ (task (loaded_table table) place).deadline) }
-    ensures { result ≡ suffices (loaded_table table) (λ i. get_or ends i 0) place window }
-{
-    let tasks = table.tasks;
-    let task = tasks[place];
-    let waits = window + 1 - task.length;
-    let given = workload::interference_in(table, ends, place, window, waits);
-    given < waits as u64 * wanted as u64
+// A search for the window of a place: its table, the windows of the places above it, and how many cores these are given at least in a tick in which a job of it
+// waits.
+#[derive(Clone, Copy)]
+pub(crate) struct Search {
+    pub(crate) table: Loaded,
+    pub(crate) ends: [u32; MOST_TASKS],
+    pub(crate) place: usize,
+    pub(crate) wanted: u32,
+    ghost sought: { Sought table ends place wanted },
 }
 
-// The first window of a place that passes, from its length on with twice the ticks of waiting each time, or one more than its deadline.
-fn first_window(table: Loaded, ends: [u32; MOST_TASKS], place: usize, wanted: u32) -> u32
-    requires { Sought table ends place wanted }
-    ensures { result ≡ first_window (loaded_table table) (λ i. get_or ends i 0) place most_tries (task (loaded_table table) place).length }
-{
-    let tasks = table.tasks;
-    let task = tasks[place];
-    let length = task.length;
-    let deadline = task.deadline;
-    if deadline < length {
-        return deadline + 1;
+impl Search {
+    // Whether a window passes the test.
+    fn passes(&self, window: u32) -> bool
+        requires { ((task (loaded_table self.now.table) self.now.place).length ≤ window) × (window ≤ (task (loaded_table self.now.table) self.now.place).deadline) }
+        ensures { result ≡ suffices (loaded_table self.now.table) (λ i. get_or self.now.ends i 0) self.now.place window }
+    {
+        let waits = window + 1 - self.table.tasks[self.place].length;
+        let given = workload::interference_in(self.table, self.ends, self.place, window, waits);
+        given < waits as u64 * self.wanted as u64
     }
-    let mut window = length;
-    let mut tries: u32 = 0;
-    while tries < MOST_TRIES {
-        if passes(table, ends, place, wanted, window) {
-            return window;
-        }
-        if deadline <= window {
+
+    // The first window that passes, from the job's length on with twice the ticks of waiting each time, or one more than its deadline.
+    // No Option: one more than the deadline is the upper end that the halvings take.
+    fn first_window(&self) -> u32
+        ensures { result ≡ first_window (loaded_table self.now.table) (λ i. get_or self.now.ends i 0) self.now.place most_tries (task (loaded_table self.now.table) self.now.place).length }
+    {
+        let length = self.table.tasks[self.place].length;
+        let deadline = self.table.tasks[self.place].deadline;
+        if deadline < length {
             return deadline + 1;
         }
-        window = workload::smaller(deadline, window + (window + 1 - length));
-        tries += 1;
-    }
-    deadline + 1
-}
-
-// One halving: the shorter half where the window in the middle passes, else the longer.
-fn halve(
-    table: Loaded,
-    ends: [u32; MOST_TASKS],
-    place: usize,
-    wanted: u32,
-    low: u32,
-    high: u32,
-) -> Range
-    requires { Sought table ends place wanted × ((task (loaded_table table) place).length ≤ low) × (low < high) × (high ≤ suc (task (loaded_table table) place).deadline) }
-    ensures { (result.low ≡ cond (suffices (loaded_table table) (λ i. get_or ends i 0) place ((low + high) / 2)) low (suc ((low + high) / 2)))
-        × (result.high ≡ cond (suffices (loaded_table table) (λ i. get_or ends i 0) place ((low + high) / 2)) ((low + high) / 2) high) }
-{
-    let middle = (low + high) / 2;
-    if passes(table, ends, place, wanted, middle) {
-        return Range {
-            low: low,
-            high: middle,
-        };
-    }
-    Range {
-        low: middle + 1,
-        high: high,
-    }
-}
-
-// A window of a place: one that passes, or one more than its deadline where none is found.
-pub(crate) fn bound_from(table: Loaded, ends: [u32; MOST_TASKS], place: usize, wanted: u32) -> u32
-    requires { Sought table ends place wanted }
-    ensures { result ≡ bound_from (loaded_table table) (λ i. get_or ends i 0) place }
-{
-    let tasks = table.tasks;
-    let task = tasks[place];
-    let mut low = task.length;
-    let mut high = first_window(table, ends, place, wanted);
-    let mut tries: u32 = 0;
-    while tries < MOST_HALVINGS {
-        if high <= low {
-            return high;
+        let mut window = length;
+        for _ in 0..MOST_TRIES {
+            if self.passes(window) {
+                return window;
+            }
+            if deadline <= window {
+                return deadline + 1;
+            }
+            window = deadline.min(window + (window + 1 - length));
         }
-        let next = halve(table, ends, place, wanted, low, high);
-        low = next.low;
-        high = next.high;
-        tries += 1;
+        deadline + 1
     }
-    high
+
+    // One halving: the shorter half where the window in the middle passes, else the longer.
+    fn halve(&self, low: u32, high: u32) -> Range
+        requires { ((task (loaded_table self.now.table) self.now.place).length ≤ low) × (low < high) × (high ≤ suc (task (loaded_table self.now.table) self.now.place).deadline) }
+        ensures { (result.low ≡ cond (suffices (loaded_table self.now.table) (λ i. get_or self.now.ends i 0) self.now.place ((low + high) / 2)) low (suc ((low + high) / 2)))
+            × (result.high ≡ cond (suffices (loaded_table self.now.table) (λ i. get_or self.now.ends i 0) self.now.place ((low + high) / 2)) ((low + high) / 2) high) }
+    {
+        let middle = (low + high) / 2;
+        if self.passes(middle) {
+            return Range { low, high: middle };
+        }
+        Range {
+            low: middle + 1,
+            high,
+        }
+    }
+
+    // The window of the place: one that passes, or one more than its deadline where none is found.
+    pub(crate) fn bound(&self) -> u32
+        ensures { result ≡ bound_from (loaded_table self.now.table) (λ i. get_or self.now.ends i 0) self.now.place }
+    {
+        let mut low = self.table.tasks[self.place].length;
+        let mut high = self.first_window();
+        for _ in 0..MOST_HALVINGS {
+            if high <= low {
+                return high;
+            }
+            let next = self.halve(low, high);
+            low = next.low;
+            high = next.high;
+        }
+        high
+    }
 }

@@ -1,5 +1,5 @@
 // The interference on a place: how many cores the places above are given in a window at most.
-ghost use Rattle.std.specs.Prelude.{◌≡◌, ◌+◌, ◌*◌, ◌≤◌, max, min, get_or};
+ghost use Rattle.std.specs.Prelude.{◌≡◌, ◌+◌, ◌*◌, ◌≤◌, min, get_or};
 ghost use Rattle.model.specs.Interference.{cores_in, interference_in};
 ghost use Rattle.table.specs.Limits.{most_time};
 ghost use Rattle.table.specs.Task.{task_of};
@@ -9,27 +9,12 @@ ghost use Rattle.interference.specs.Bounds.{Above, most_cores_in, most_interfere
 use model::MOST_TASKS;
 use table::{Loaded, Task};
 
-// The larger of two numbers.
-pub(crate) fn larger(a: u32, b: u32) -> u32
-    ensures { result ≡ max a b }
-{
-    if a < b { b } else { a }
-}
-
-// The smaller of two numbers.
-pub(crate) fn smaller(a: u32, b: u32) -> u32
-    ensures { result ≡ min a b }
-{
-    if a < b { a } else { b }
-}
-
 // In how many ticks jobs of this length are given cores at most, where `whole` jobs are in the window and `rest` ticks of one more.
 fn ticks_of(length: u32, whole: u32, rest: u32) -> u32
     requires { (whole * length ≤ most_span) × (length ≤ most_time) }
     ensures { result ≡ whole * length + min length rest }
 {
-    let last = smaller(length, rest);
-    whole * length + last
+    whole * length + length.min(rest)
 }
 
 // How many cores a task is given at most in `waits` ticks of a window, summed over the ticks; one division gives the workload of all jobs and of every second one.
@@ -39,24 +24,22 @@ fn cores_in(task: Task, end: u32, window: u32, waits: u32) -> u64
 {
     let length = task.length;
     let period = task.period;
-    let narrow = smaller(task.width, task.second);
-    let wide = larger(task.width, task.second);
+    let narrow = task.width.min(task.second);
+    let wide = task.width.max(task.second);
     let span = window + end - length;
     let whole = span / period;
     let rest = span % period;
-    let all = smaller(waits, ticks_of(length, whole, rest));
+    let all = waits.min(ticks_of(length, whole, rest));
     let sum = narrow as u64 * all as u64;
     if wide == narrow {
         return sum;
     }
-    let second = smaller(
-        waits,
-        ticks_of(length, whole / 2, whole % 2 * period + rest),
-    );
+    let second = waits.min(ticks_of(length, whole / 2, whole % 2 * period + rest));
     sum + (wide - narrow) as u64 * second as u64
 }
 
 // How many cores the places above one are given at most in `waits` ticks of a window, summed over the ticks.
+// By one index, since the bounds above are found one after another.
 pub(crate) fn interference_in(
     table: Loaded,
     ends: [u32; MOST_TASKS],
@@ -67,13 +50,9 @@ pub(crate) fn interference_in(
     requires { Fit table × (place ≤ table.count) × Above table ends place × (window ≤ most_time) × (waits ≤ most_time) }
     ensures { (result ≡ interference_in (loaded_table table) (λ i. get_or ends i 0) place window waits) × (result ≤ most_interference) }
 {
-    let tasks = table.tasks;
     let mut sum: u64 = 0;
-    let mut i: usize = 0;
-    while i < place {
-        let task = tasks[i];
-        sum += cores_in(task, ends[i], window, waits);
-        i += 1;
+    for i in 0..place {
+        sum += cores_in(table.tasks[i], ends[i], window, waits);
     }
     sum
 }

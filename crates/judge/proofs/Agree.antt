@@ -10,11 +10,11 @@ use Rattle.model.specs.Verdict as model
 use Rattle.model.proofs.Bools.{not-true-false}
 use Rattle.table.specs.Load.{load_meaning}
 use Rattle.judge.specs.declared.Verdict.{Verdict}
-use Rattle.judge.specs.declared.Missed.{Missed}
+use Rattle.judge.specs.FirstMiss.{Missed}
 use Rattle.judge.specs.FirstMiss.{MissedOf}
 use Rattle.judge.specs.JudgeAnswer.{judged, verdict_meaning}
 use Rattle.judge.specs.Judged.{Judged}
-use Rattle.interference.specs.declared.Bounds.{Bounds}
+use Rattle.interference.specs.Bounds.{Bounds}
 use Rattle.interference.specs.Bounds.{BoundsOf}
 
 -- two judges give the same answer to every list of words, and find the same first miss: the contract of each gives its value

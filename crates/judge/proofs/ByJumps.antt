@@ -23,8 +23,8 @@ use Rattle.simulation.specs.TickState.{loaded_numbers}
 use Rattle.simulation.proofs.AreEvents.{jumps-land, jumps-represent, unmissed-more}
 use Rattle.simulation.proofs.AtTick.{few}
 use Rattle.simulation.proofs.JumpLands.{due-inside, missed-due}
-use Rattle.judge.specs.declared.Missed as declared
-use Rattle.judge.specs.declared.Missed.TheVariants.{Never, At}
+use Rattle.judge.specs.FirstMiss as declared
+use Rattle.judge.specs.FirstMiss.{Never, At}
 use Rattle.judge.specs.FirstMiss.{MissedByJumps, MissedOf, late_in_state, missed_by_jumps, missed_from}
 use Rattle.judge.proofs.FirstMiss.{by-none, by_first}
 use Rattle.judge.proofs.LateByEvents.{late-first}

@@ -10,14 +10,18 @@ use Rattle.model.specs.Firm.{FirmRule}
 use Rattle.model.specs.Verdict.{Exact, verdict}
 use Rattle.model.specs.Verdict as model
 use Rattle.model.proofs.Verdict.{verdict-exact}
-use Rattle.table.specs.declared.Answer.{Answer}
-use Rattle.table.specs.declared.Answer.TheVariants.{Passed}
-use Rattle.table.specs.declared.Answer.TheVariants as table
+use Rattle.table.specs.Answer.{Answer}
+use Rattle.table.specs.Answer.{Passed}
+use Rattle.table.specs.Answer as table
 use Rattle.table.specs.declared.Loaded.{Loaded}
 use Rattle.table.specs.Words.{rule, table_of}
 use Rattle.table.specs.Numbers.{NoneApplies}
 use Rattle.table.specs.Answer.{answer_of}
-use Rattle.table.specs.Load.{LoadOf, load_meaning}
+use Rattle.table.specs.Load.{LoadOf}
+use Rattle.table.proofs.Contract.{load-ok, load-err}
+use Rattle.std.specs.Prelude.{Result, Ok, Err}
+use Rattle.model.specs.declared.refusal.Refusal.{Refusal}
+use Rattle.model.specs.Refusal.{number_of, position_of}
 use Rattle.table.proofs.Exact.{refusal-exact, passed-exact}
 use Rattle.table.proofs.Passed.{passed-rule, passed-valid}
 use Rattle.table.proofs.Fit.{fit, same-table}
@@ -177,14 +181,15 @@ judged-exact ws = go (answer_of ws) refl
 
 -- one that passed has the verdict of the words
 pub run_value :
-    (ws : List ℕ) (r : Loaded) → LoadOf ws r → r.answer ≡ Passed → (v : Verdict)
-    → v ≡ by_miss (missed_before (loaded_table r) (suc r.horizon)) (accepted_of r) → Judged ws v
-run_value ws r l e v q =
+    (ws : List ℕ) (r : Result Loaded Refusal) → LoadOf ws r → (t : Loaded) → r ≡ Ok t → (v : Verdict)
+    → v ≡ by_miss (missed_before (loaded_table t) (suc t.horizon)) (accepted_of t) → Judged ws v
+run_value ws r l t e v q =
+    let (h, none, passed) = load-ok ws r l t e in
     subst (Judged ws)
-    (passed_is ws ((passed-exact ws).1 (l.passed.0 (ap load_meaning e)))
-    ∙ (ap (λ (s : Table). verdict_case (judged (verdict s))) (sym (same-table ws r l e)) ∙ sym (q ∙ verdict-by r (fit ws r l e))))
+    (passed_is ws passed
+    ∙ (ap (λ (s : Table). verdict_case (judged (verdict s))) (sym (same-table ws t h none)) ∙ sym (q ∙ verdict-by t (fit ws t h none))))
     (judged-exact ws)
 
 -- a refusal is the verdict of the words
-pub refused-value : (ws : List ℕ) (r : Loaded) → LoadOf ws r → (n p : ℕ) → r.answer ≡ table.Refused n p → Judged ws (Refused n p)
-refused-value ws r l n p e = subst (Judged ws) (refused-is ws n p ((refusal-exact ws n p).1 ((l.refused n p).0 (ap load_meaning e)))) (judged-exact ws)
+pub refused-value : (ws : List ℕ) (r : Result Loaded Refusal) → LoadOf ws r → (x : Refusal) → r ≡ Err x → Judged ws (Refused (number_of x) (position_of x))
+refused-value ws r l x e = subst (Judged ws) (refused-is ws (number_of x) (position_of x) (load-err ws r l x e).0) (judged-exact ws)

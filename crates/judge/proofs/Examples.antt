@@ -5,7 +5,6 @@ use Prim.Native.Nat.{ℕ}
 use lib.ListN.{replicate}
 use Rattle.model.specs.Firm.{firm, parallelism_monotonic}
 use Rattle.model.proofs.Computing.{computing}
-use Rattle.table.specs.declared.Answer.TheVariants.{Passed}
 use Rattle.table.specs.declared.Loaded.{Loaded}
 use Rattle.table.specs.Answer.{answer_of, by_horizon, by_tasks, by_walk, ending_of, first_out, header_number, last_step}
 use Rattle.table.specs.Task.{no_task}
@@ -16,7 +15,6 @@ use Rattle.judge.specs.Judged.{accepted_of, verdict_of}
 -- a table of two tasks with the same times, the first with widths v and w, the second with v' and w', on 8 cores
 abbrev pair : ℕ → ℕ → ℕ → ℕ → ℕ → Loaded
 pair rule v w v' w' = record {
-  answer = Passed;
   count = 2;
   cores = 8;
   fence = 0;

@@ -16,8 +16,8 @@ use Rattle.model.proofs.Search.{any_of, none_any, least-is}
 use Rattle.model.proofs.Faithful.{missed-exact, missed-in-exact}
 use Rattle.table.specs.declared.Loaded.{Loaded}
 use Rattle.judge.specs.declared.Verdict.TheVariants.{Firm, Full}
-use Rattle.judge.specs.declared.Missed as missed
-use Rattle.judge.specs.declared.Missed.TheVariants.{Never, At}
+use Rattle.judge.specs.FirstMiss as missed
+use Rattle.judge.specs.FirstMiss.{Never, At}
 use Rattle.judge.specs.JudgeAnswer.{judged, verdict_case}
 use Rattle.table.specs.Fit.{loaded_table, Fit}
 use Rattle.judge.specs.Judged.{accepted_of}

@@ -3,7 +3,7 @@ use mathlib.Core.List.{List}
 use mathlib.Core.Path.{◌≡◌, refl}
 use Prim.Native.Nat.{ℕ}
 use Rattle.model.specs.Task.{Table}
-use Rattle.table.specs.declared.Answer.{Answer}
+use Rattle.table.specs.Answer.{Answer}
 use Rattle.table.specs.OffChain.{SameOnChain}
 use Rattle.table.proofs.OffChain.{off-chain-by}
 use Rattle.judge.specs.JudgeAnswer.{verdict_case}

@@ -12,8 +12,8 @@ use Rattle.simulation.specs.TickState.{Numbers, TickState, next_tick_state}
 use Rattle.simulation.specs.EventState.{EventState}
 use Rattle.simulation.specs.Jump.{jumped, JumpStarts, JumpLands, JumpOf}
 use Rattle.simulation.proofs.JumpLands.{jump-lands}
-use Rattle.judge.specs.declared.Missed.{Missed}
-use Rattle.judge.specs.declared.Missed.TheVariants.{Never, At}
+use Rattle.judge.specs.FirstMiss.{Missed}
+use Rattle.judge.specs.FirstMiss.{Never, At}
 use Rattle.judge.specs.FirstMiss.{MissedOf, miss_meaning, no_miss}
 use Rattle.judge.specs.RunOn.{ticks_on, TicksBegin, stop_tick, TicksRun, jumps_on, JumpsBegin, StopsAt, JumpsRun}
 

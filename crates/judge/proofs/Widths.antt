@@ -1,22 +1,21 @@
 -- Widths that never fall, place by place.
+use native.Mathlib.Numerals.{add-one}
 use native.Mathlib.Omega.{arith}
-use mathlib.Core.Path.{◌≡◌, refl, sym, ap, ◌∙◌, subst, subst₂}
-use mathlib.Core.Bool.{true, false, ◌&&◌, false≢true}
-use mathlib.Core.List.{List}
-use mathlib.Core.Logic.{⊎_elim}
-use native.Mathlib.Nat.{eq-or-lt_of_le}
-use Prim.Native.Nat.{ℕ, zero, suc, ◌+◌, ◌-◌, ◌≤◌, ◌<◌, max, min}
+use mathlib.Core.Path.{◌≡◌, refl, sym, ap, ◌∙◌, subst₂}
+use mathlib.Core.Bool.{Bool, true, false, ◌&&◌, false≢true}
+use mathlib.Core.List.{List, map}
+use Rattle.std.specs.Prelude.{◌↔◌}
+use Prim.Native.Nat.{ℕ, zero, suc, ◌+◌, ◌≤◌, ◌<◌, max, min}
 use lib.Dec.{leb}
-use lib.ListN.{length, get_or}
+use lib.ListN.{length, get_or, get_or-map, length-map}
 use Rattle.model.specs.Task.{narrowest, absent_task, rule_of, widest}
 use Rattle.model.specs.Task as model
 use Rattle.model.specs.Firm.{ParallelismMonotonic, parallelism_monotonic, firm}
 use borrow.Author.Tests.{leb-true, ne_eqb}
-use Rattle.model.proofs.Bools.{and_left, and_right, not-true-false}
+use Rattle.model.proofs.Bools.{and_left, and_right, same_test}
 use Rattle.model.proofs.Verdict.{monotonic-exact}
 use Rattle.table.specs.declared.Task.{Task}
-use Rattle.table.specs.Task.{no_task, tasks_of}
-use Rattle.table.proofs.Places.{tasks-length, task-at}
+use Rattle.table.specs.Task.{no_task, task_of}
 
 -- the larger and the smaller width at a place
 abbrev pub widest_at : List Task → ℕ → ℕ
@@ -25,46 +24,34 @@ widest_at tasks p = max (get_or tasks p no_task).width (get_or tasks p no_task).
 abbrev pub narrowest_at : List Task → ℕ → ℕ
 narrowest_at tasks p = min (get_or tasks p no_task).width (get_or tasks p no_task).second
 
--- widths never fall over the first i places
-abbrev pub MonotonicTo : List Task → ℕ → Type 0
-MonotonicTo tasks i = (p : ℕ) → suc p < i → widest_at tasks p ≤ narrowest_at tasks (suc p)
+-- the test of widths along a list, where it is true exactly if none falls
+pub monotonic-known :
+    (tasks : List Task) (r : Bool) → (r ≡ true) ↔ ((p : ℕ) → p + 1 < length tasks → widest_at tasks p ≤ narrowest_at tasks (p + 1))
+    → r ≡ parallelism_monotonic (map task_of tasks)
+monotonic-known tasks r h = same_test r (parallelism_monotonic τs) (λ e. exact.1 (rises (h.0 e))) (λ e. h.1 (risen (exact.0 e)))
+  where
+    τs : List model.Task
+    τs = map task_of tasks
 
--- one place more
-pub monotonic-more : (tasks : List Task) (i : ℕ) → 1 ≤ i → MonotonicTo tasks i → widest_at tasks (i - 1) ≤ narrowest_at tasks i → MonotonicTo tasks (i + 1)
-monotonic-more tasks i some so_far le p l =
-    ⊎_elim
-    (λ (e : suc p ≡ i). let d : i - 1 ≡ p = omega arith in subst₂ (λ (a b : ℕ). widest_at tasks a ≤ narrowest_at tasks b) d (sym e) le)
-    (λ (h : suc p < i). so_far p h)
-    (eq-or-lt_of_le (omega arith))
+    exact : (parallelism_monotonic τs ≡ true) ↔ ParallelismMonotonic τs
+    exact = monotonic-exact τs
 
-module _ (tasks : List Task) (count : ℕ) (few : count ≤ length tasks) where
-  -- the widths of the model's tasks
-  wide : (p : ℕ) → p < count → widest (get_or (tasks_of tasks count) p absent_task) ≡ widest_at tasks p
-  wide p l = ap widest (task-at tasks count p l)
+    -- the widths of the model's tasks
+    wide : (p : ℕ) → widest (get_or τs p absent_task) ≡ widest_at tasks p
+    wide p = ap widest (get_or-map task_of tasks p no_task)
 
-  narrow : (p : ℕ) → p < count → narrowest (get_or (tasks_of tasks count) p absent_task) ≡ narrowest_at tasks p
-  narrow p l = ap narrowest (task-at tasks count p l)
+    narrow : (p : ℕ) → narrowest (get_or τs p absent_task) ≡ narrowest_at tasks p
+    narrow p = ap narrowest (get_or-map task_of tasks p no_task)
 
-  -- no width falls up to the count
-  pub all-rise : (i : ℕ) → count ≤ i → MonotonicTo tasks i → true ≡ parallelism_monotonic (tasks_of tasks count)
-  all-rise i past so_far = sym ((monotonic-exact (tasks_of tasks count)).1 rises)
-    where
-      rises : ParallelismMonotonic (tasks_of tasks count)
-      rises p l =
-          let n : length (tasks_of tasks count) ≡ count = tasks-length tasks count few in
-          subst₂ (λ (a b : ℕ). a ≤ b) (sym (wide p (omega arith))) (sym (narrow (suc p) (omega arith))) (so_far p (omega arith))
+    rises : ((p : ℕ) → p + 1 < length tasks → widest_at tasks p ≤ narrowest_at tasks (p + 1)) → ParallelismMonotonic τs
+    rises g p l =
+        let inside : p + 1 < length tasks = omega (arith, length-map tasks task_of) in
+        subst₂ (λ (a b : ℕ). a ≤ b) (sym (wide p)) (sym (narrow (suc p) ∙ ap (narrowest_at tasks) (sym (add-one p)))) (g p inside)
 
-  -- a width falls
-  pub one-falls : (i : ℕ) → 1 ≤ i → i < count → narrowest_at tasks i < widest_at tasks (i - 1) → false ≡ parallelism_monotonic (tasks_of tasks count)
-  one-falls i some inside less =
-      sym (not-true-false (parallelism_monotonic (tasks_of tasks count)) (λ e.
-      let n : length (tasks_of tasks count) ≡ count = tasks-length tasks count few in
-      let s : suc (i - 1) ≡ i = omega arith in
-      let h = (monotonic-exact (tasks_of tasks count)).0 e (i - 1) (omega arith) in
-      let g : widest_at tasks (i - 1) ≤ narrowest_at tasks i =
-      subst₂ (λ (a b : ℕ). a ≤ b) (wide (i - 1) (omega arith)) (narrow i inside)
-      (subst (λ (k : ℕ). widest (get_or (tasks_of tasks count) (i - 1) absent_task) ≤ narrowest (get_or (tasks_of tasks count) k absent_task)) s h) in
-      omega arith))
+    risen : ParallelismMonotonic τs → (p : ℕ) → p + 1 < length tasks → widest_at tasks p ≤ narrowest_at tasks (p + 1)
+    risen g p l =
+        let inside : suc p < length τs = omega (arith, length-map tasks task_of) in
+        subst₂ (λ (a b : ℕ). a ≤ b) (wide p) (narrow (suc p) ∙ ap (narrowest_at tasks) (sym (add-one p))) (g p inside)
 
 -- FIRM by the rule's number: 2, 3 and 4 are, any other where widths never fall
 pub firm-numbers : (n : ℕ) (τs : List model.Task) → leb 2 n && leb n 4 ≡ true → firm (rule_of n) τs ≡ true

@@ -1,19 +1,28 @@
 -- The first missed deadline before a tick, and its contract; the event judge's search for it.
-use Rattle.std.specs.Prelude.{◌≡◌, ◌↔◌, Bool, ◌&&◌, cond, ℕ, zero, suc, ◌<◌, leb, ltb, get_or, length}
+use Rattle.std.specs.Prelude.{Option, None, Some, ◌≡◌, ◌↔◌, Bool, ◌&&◌, cond, ℕ, zero, suc, ◌+◌, ◌≤◌, ◌<◌, leb, ltb, get_or, length}
 use Rattle.model.specs.Search.{any, bit, least}
 use Rattle.model.specs.Sizes.{most_tasks}
 use Rattle.model.specs.Task.{Table}
 use Rattle.model.specs.Lists as book
 use Rattle.model.specs.Verdict.{missed_at, missed_in, FirstMiss}
 use Rattle.table.specs.declared.Loaded.{Loaded}
-use Rattle.table.specs.Fit.{loaded_table}
+use Rattle.table.specs.Fit.{Fit, loaded_table}
 use Rattle.simulation.specs.EventState.{EventState, initial_event_state}
 use Rattle.simulation.specs.Jump.{jumped}
 use Rattle.simulation.specs.TickState.{Numbers, loaded_numbers}
 use Rattle.judge.specs.declared.Verdict.{Verdict}
 use Rattle.judge.specs.declared.Verdict.TheVariants.{Miss}
-use Rattle.judge.specs.declared.Missed.{Missed}
-use Rattle.judge.specs.declared.Missed.TheVariants.{Never, At}
+use Rattle.judge.specs.declared.Miss as code
+
+-- the first deadline missed: none, or its tick and position
+pub data Missed : Type 0 where
+  Never : Missed
+  At : ℕ → ℕ → Missed
+
+-- as code returns it
+abbrev pub miss_of : Option code.Miss → Missed
+miss_of None = Never
+miss_of (Some m) = At m.tick m.position
 
 -- the first deadline missed before tick b, at equal ticks that of the first task in priority: the search of the model's `verdict`, which goes
 -- up to and including the horizon
@@ -41,6 +50,11 @@ pub record MissedOf (s : Table) (b : ℕ) (m : Missed) : Type 0 where
   pub first : (t p : ℕ) → (miss_meaning m ≡ first_at t p) ↔ (FirstMiss s t p × (t < b))
   -- none exactly if no deadline is missed before b
   pub none : (miss_meaning m ≡ no_miss) ↔ ((p t : ℕ) → t < b → ¬ book.Missed s p t)
+
+-- a function that finds the first miss of every table that is fit, before any tick up to the one after the horizon: when it may be called, and what
+-- it returns
+abbrev pub FindsFirstMiss : (Loaded → ℕ → Type 0) → (Loaded → ℕ → Option code.Miss → Type 0) → Type 0
+FindsFirstMiss pre post = (t : Loaded) (end : ℕ) → Fit t → end ≤ t.horizon + 1 → pre t end × ((m : Option code.Miss) → post t end m → MissedOf (loaded_table t) end (miss_of m))
 
 -- THE EVENT JUDGE'S SEARCH (request 103), over the states at the events
 

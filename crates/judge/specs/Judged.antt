@@ -6,9 +6,9 @@ use Rattle.model.specs.Horizon.{last_s, hyperperiod}
 use Rattle.model.specs.Firm.{firm, ParallelismMonotonic}
 use Rattle.model.specs.Verdict.{FirstMiss, verdict}
 use Rattle.model.specs.Verdict as model
-use Rattle.table.specs.declared.Answer.{Answer}
-use Rattle.table.specs.declared.Answer.TheVariants.{Passed}
-use Rattle.table.specs.declared.Answer.TheVariants as table
+use Rattle.table.specs.Answer.{Answer}
+use Rattle.table.specs.Answer.{Passed}
+use Rattle.table.specs.Answer as table
 use Rattle.table.specs.declared.Loaded.{Loaded}
 use Rattle.table.specs.Task.{tasks_of}
 use Rattle.table.specs.Words.{rule, table_of}

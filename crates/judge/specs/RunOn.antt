@@ -6,8 +6,8 @@ use Rattle.simulation.specs.TickState.{Numbers, loaded_numbers, TickState, next_
 use Rattle.simulation.specs.EventState.{EventState, StateRepresents}
 use Rattle.simulation.specs.Jump.{jumped}
 use Rattle.simulation.proofs.RefinesTick.{RefinesTick}
-use Rattle.judge.specs.declared.Missed.{Missed}
-use Rattle.judge.specs.declared.Missed.TheVariants.{Never, At}
+use Rattle.judge.specs.FirstMiss.{Missed}
+use Rattle.judge.specs.FirstMiss.{Never, At}
 use Rattle.judge.specs.FirstMiss.{MissedOf}
 
 -- TICK BY TICK

@@ -4,11 +4,12 @@ ghost use Rattle.table.specs.declared.Loaded.{Loaded};
 ghost use Rattle.table.specs.Fit.{Fit};
 ghost use Rattle.simulation.specs.TickState.{numbers_by};
 ghost use Rattle.simulation.specs.EventState.{event_state_of};
-ghost use Rattle.judge.specs.FirstMiss.{MissedByJumps};
+ghost use Rattle.judge.specs.FirstMiss.{MissedByJumps, miss_of};
 ghost use Rattle.judge.specs.Judged.{Judged};
 ghost use Rattle.judge.specs.RunOn.{JumpsBegin, JumpsRun};
 
-use crate::{Missed, Verdict, Way};
+use crate::{Miss, Verdict};
+use model::sets::Members;
 use rule::PAIR;
 use simulation::TRIPLE;
 use simulation::columns::Setting;
@@ -19,7 +20,7 @@ use table::Loaded;
 #[derive(Clone, Copy)]
 pub struct Ran {
     pub registers: Registers,
-    pub missed: Missed,
+    pub missed: Option<Miss>,
 }
 
 // The full-length run from an event on, to the first event at tick `end` or later, or to the first deadline that it misses before `end`. All that goes from
@@ -34,35 +35,35 @@ pub fn run_on(
 ) -> Ran
     requires { (t : Loaded) × JumpsBegin t (numbers_by setting widths.now times.now) (event_state_of start places.old) end }
     ensures { JumpsRun (numbers_by setting widths.now times.now) (event_state_of start places.old) end
-        result.missed (event_state_of result.registers places.new) }
+        (miss_of result.missed) (event_state_of result.registers places.new) }
 {
     let mut registers = start;
     'jumps: loop {
         if end <= registers.tick {
             break 'jumps Ran {
                 registers: registers,
-                missed: Missed::Never,
+                missed: None,
             };
         }
-        let mut rest = registers.claiming & registers.due;
-        while 0 < rest {
-            let place = u32::trailing_zeros(rest);
-            if 0 < places[place as usize] {
+        for place in Members::from(registers.claiming & registers.due) {
+            if 0 < places[place] {
                 break 'jumps Ran {
                     registers: registers,
-                    missed: Missed::At(registers.tick, place + 1),
+                    missed: Some(Miss {
+                        tick: registers.tick,
+                        position: place as u32 + 1,
+                    }),
                 };
             }
-            rest &= rest - 1;
         }
         registers = simulation::events::jump(setting, widths, times, registers, places);
     }
 }
 
 // The first deadline that the full-length run misses before tick `end`, at equal ticks the first in priority.
-pub fn first_miss(table: Loaded, end: u32) -> Missed
+pub fn first_miss(table: Loaded, end: u32) -> Option<Miss>
     requires { Fit table × (end ≤ table.horizon + 1) }
-    ensures { MissedByJumps table end result }
+    ensures { MissedByJumps table end (miss_of result) }
 {
     let columns = simulation::columns::columns_of(table);
     let setting = columns.setting;
@@ -85,5 +86,5 @@ pub fn first_miss(table: Loaded, end: u32) -> Missed
 pub fn judge(words: &[u32]) -> Verdict
     ensures { Judged words.now result }
 {
-    crate::judge_by(Way::Events, words)
+    crate::judge_by(first_miss, words)
 }

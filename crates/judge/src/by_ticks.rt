@@ -3,11 +3,12 @@ ghost use Rattle.std.specs.Prelude.{◌+◌, ◌≤◌};
 ghost use Rattle.table.specs.declared.Loaded.{Loaded};
 ghost use Rattle.table.specs.Fit.{loaded_table, Fit};
 ghost use Rattle.simulation.specs.TickState.{numbers_by, tick_state_of};
-ghost use Rattle.judge.specs.FirstMiss.{MissedOf};
+ghost use Rattle.judge.specs.FirstMiss.{MissedOf, miss_of};
 ghost use Rattle.judge.specs.Judged.{Judged};
 ghost use Rattle.judge.specs.RunOn.{TicksBegin, TicksRun};
 
-use crate::{Missed, Verdict, Way};
+use crate::{Miss, Verdict};
+use model::sets::Members;
 use rule::PAIR;
 use simulation::TRIPLE;
 use simulation::columns::Setting;
@@ -18,7 +19,7 @@ use table::Loaded;
 #[derive(Clone, Copy)]
 pub struct Ran {
     pub registers: Registers,
-    pub missed: Missed,
+    pub missed: Option<Miss>,
 }
 
 // The full-length run from a tick on, to tick `end` or to the first deadline that it misses before. All that goes tick by tick in a program goes through this
@@ -33,28 +34,27 @@ pub fn run_on(
 ) -> Ran
     requires { (t : Loaded) × TicksBegin t (numbers_by setting widths.now times.now) (tick_state_of start places.old) end }
     ensures { TicksRun (numbers_by setting widths.now times.now) (tick_state_of start places.old) end
-        result.missed (tick_state_of result.registers places.new) }
+        (miss_of result.missed) (tick_state_of result.registers places.new) }
 {
     let mut registers = start;
     'ticks: loop {
         if registers.tick == end {
             break 'ticks Ran {
                 registers: registers,
-                missed: Missed::Never,
+                missed: None,
             };
         }
         if registers.event <= registers.tick {
-            let mut rest = registers.claiming;
-            while 0 < rest {
-                let place = u32::trailing_zeros(rest);
-                let at = place as usize;
-                if places[simulation::EVENT + at] == registers.tick {
+            for place in Members::from(registers.claiming) {
+                if places[simulation::EVENT + place] == registers.tick {
                     break 'ticks Ran {
                         registers: registers,
-                        missed: Missed::At(registers.tick, place + 1),
+                        missed: Some(Miss {
+                            tick: registers.tick,
+                            position: place as u32 + 1,
+                        }),
                     };
                 }
-                rest &= rest - 1;
             }
         }
         registers = simulation::ticks::step(setting, widths, times, registers, places);
@@ -62,9 +62,9 @@ pub fn run_on(
 }
 
 // The first deadline that the full-length run misses before tick `end`, at equal ticks the first in priority.
-pub fn first_miss(table: Loaded, end: u32) -> Missed
+pub fn first_miss(table: Loaded, end: u32) -> Option<Miss>
     requires { Fit table × (end ≤ table.horizon + 1) }
-    ensures { MissedOf (loaded_table table) end result }
+    ensures { MissedOf (loaded_table table) end (miss_of result) }
 {
     let columns = simulation::columns::columns_of(table);
     let setting = columns.setting;
@@ -87,5 +87,5 @@ pub fn first_miss(table: Loaded, end: u32) -> Missed
 pub fn judge(words: &[u32]) -> Verdict
     ensures { Judged words.now result }
 {
-    crate::judge_by(Way::Ticks, words)
+    crate::judge_by(first_miss, words)
 }

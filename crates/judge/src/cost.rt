@@ -2,7 +2,6 @@
 ghost use Rattle.std.specs.Prelude.{◌≡◌, ◌≤◌};
 ghost use Rattle.judge.specs.Cost.{jobs_of, event_cost, tick_cost, ticks_cheaper};
 
-use model::MOST_TASKS;
 use table::{Loaded, Task};
 
 // The sample of ticks in which events and work are counted.
@@ -53,15 +52,11 @@ fn tick_cost(task: Task) -> u64
 pub(crate) fn ticks_cheaper(table: Loaded) -> bool
     ensures { result ≡ ticks_cheaper table }
 {
-    let tasks = table.tasks;
     let mut work: u64 = 0;
     let mut events: u64 = 0;
-    let mut i: usize = 0;
-    while i < MOST_TASKS {
-        let task = tasks[i];
-        work += tick_cost(task);
-        events += event_cost(task) as u64;
-        i += 1;
+    for task in &table.tasks {
+        work += tick_cost(*task);
+        events += event_cost(*task) as u64;
     }
     TICKS + work <= events
 }

@@ -3,19 +3,18 @@
 // ticks. Where nearly every tick is an event, the tick judge is faster, else the event judge.
 ghost use Rattle.std.specs.Prelude.{◌+◌, ◌≤◌};
 ghost use Rattle.table.specs.Fit.{loaded_table, Fit};
-ghost use Rattle.judge.specs.FirstMiss.{MissedOf};
+ghost use Rattle.judge.specs.FirstMiss.{MissedOf, miss_of};
 
-use crate::Missed;
+use crate::Miss;
 use table::Loaded;
 
 // The first deadline that the full-length run misses before tick `end`, at equal ticks the first in priority.
-pub fn first_miss(table: Loaded, end: u32) -> Missed
+pub fn first_miss(table: Loaded, end: u32) -> Option<Miss>
     requires { Fit table × (end ≤ table.horizon + 1) }
-    ensures { MissedOf (loaded_table table) end result }
+    ensures { MissedOf (loaded_table table) end (miss_of result) }
 {
-    let tested = interference::test(table);
-    if tested.met {
-        return Missed::Never;
+    if interference::test(table).is_some() {
+        return None;
     }
     if crate::cost::ticks_cheaper(table) {
         return crate::by_ticks::first_miss(table, end);

@@ -7,11 +7,11 @@ ghost use Rattle.model.specs.Firm.{parallelism_monotonic, firm};
 ghost use Rattle.model.specs.Sizes.{most_tasks};
 ghost use Rattle.table.specs.Task.{tasks_of};
 ghost use Rattle.table.specs.Fit.{loaded_table, Fit};
-ghost use Rattle.judge.specs.FirstMiss.{MissedOf, missed_before, by_miss};
+ghost use Rattle.judge.specs.FirstMiss.{FindsFirstMiss, missed_before, miss_of, by_miss};
 ghost use Rattle.judge.specs.Judged.{Judged, accepted_of};
 
 use model::MOST_TASKS;
-use table::{Answer, Loaded, Task};
+use table::{Loaded, Task};
 
 pub mod by_events; // by_events.rt: the first miss, from event to event
 pub mod by_ticks; // by_ticks.rt: the first miss, tick by tick
@@ -19,6 +19,7 @@ mod cost; // cost.rt: which of the two is the faster one for a table
 pub mod fastest; // fastest.rt: the first miss, by the interference test or by the faster of the two
 
 // The judge's answer: Firm with S and P, Full with S and P, Miss with tick and position, or Refused with number and position.
+// No Result: the first line of an output is made of any of the four, with any two numbers in a refusal (`first_line`).
 #[derive(Clone, Copy)]
 pub enum Verdict {
     Firm(u32, u32),
@@ -27,33 +28,25 @@ pub enum Verdict {
     Refused(u32, u32),
 }
 
-// Tick and position of the first deadline missed, or none.
-#[derive(Clone, Copy)]
-pub enum Missed {
-    Never,
-    At(u32, u32),
-}
-
-// How the first miss of a table is found.
-#[derive(Clone, Copy)]
-pub enum Way {
-    Ticks,
-    Events,
-    Fastest,
+// A deadline missed: its tick, and the position of the task.
+#[derive(Clone, Copy, PartialEq, Eq)]
+pub struct Miss {
+    pub tick: u32,
+    pub position: u32,
 }
 
 // The larger of a task's two widths.
 pub fn wider(a: u32, b: u32) -> u32
     ensures { result ≡ max a b }
 {
-    if a < b { b } else { a }
+    a.max(b)
 }
 
 // The smaller of a task's two widths.
 pub fn narrower(a: u32, b: u32) -> u32
     ensures { result ≡ min a b }
 {
-    if a < b { a } else { b }
+    a.min(b)
 }
 
 // Whether widths never fall along the first `count` tasks: the larger of each is at most the smaller of the next.
@@ -61,16 +54,11 @@ fn parallelism_monotonic(tasks: [Task; MOST_TASKS], count: usize) -> bool
     requires { count ≤ most_tasks }
     ensures { result ≡ parallelism_monotonic (tasks_of tasks count) }
 {
-    let mut i: usize = 1;
-    while i < count {
-        let above = tasks[i - 1];
-        let here = tasks[i];
-        if narrower(here.width, here.second) < wider(above.width, above.second) {
-            return false;
-        }
-        i += 1;
-    }
-    true
+    tasks[..count].windows(2).all(|pair| {
+        let above = &pair[0];
+        let here = &pair[1];
+        wider(above.width, above.second) <= narrower(here.width, here.second)
+    })
 }
 
 // Whether the rule and the widths of the first `count` tasks are firm, that is predictable for shorter jobs too: rules 2, 3 and 4, and any other where widths
@@ -98,40 +86,24 @@ pub fn accepted(table: Loaded) -> Verdict
 }
 
 // The verdict on a table by the first miss of its full-length run up to and including the horizon: that miss, or accepted.
-fn verdict_by(table: Loaded, missed: Missed) -> Verdict
+fn verdict_by(table: Loaded, missed: Option<Miss>) -> Verdict
     requires { table.count ≤ most_tasks }
-    ensures { result ≡ by_miss missed (accepted_of table) }
+    ensures { result ≡ by_miss (miss_of missed) (accepted_of table) }
 {
     match missed {
-        Missed::Never => accepted(table),
-        Missed::At(tick, position) => Verdict::Miss(tick, position),
+        None => accepted(table),
+        Some(miss) => Verdict::Miss(miss.tick, miss.position),
     }
 }
 
-// The first deadline that the full-length run misses before tick `end`, at equal ticks the first in priority: found in this way.
-fn first_miss_by(way: Way, table: Loaded, end: u32) -> Missed
-    requires { Fit table × (end ≤ table.horizon + 1) }
-    ensures { MissedOf (loaded_table table) end result }
-{
-    match way {
-        Way::Ticks => by_ticks::first_miss(table, end),
-        Way::Events => by_events::first_miss(table, end),
-        Way::Fastest => fastest::first_miss(table, end),
-    }
-}
-
-// The verdict on a table's words, with its first miss found in this way.
-pub fn judge_by(way: Way, words: &[u32]) -> Verdict
+// The verdict on a table's words, with its first miss found by this function.
+fn judge_by<F: Fn(Loaded, u32) -> Option<Miss>>(first_miss: F, words: &[u32]) -> Verdict
+    requires { FindsFirstMiss (F.pre first_miss) (F.post first_miss) }
     ensures { Judged words.now result }
 {
-    let table = table::load(words);
-    let answer = table.answer;
-    match answer {
-        Answer::Passed => {
-            let missed = first_miss_by(way, table, table.horizon + 1);
-            verdict_by(table, missed)
-        }
-        Answer::Refused(number, position) => Verdict::Refused(number, position),
+    match table::load(words) {
+        Ok(table) => verdict_by(table, first_miss(table, table.horizon + 1)),
+        Err(refusal) => Verdict::Refused(refusal.number(), refusal.position()),
     }
 }
 
@@ -139,5 +111,5 @@ pub fn judge_by(way: Way, words: &[u32]) -> Verdict
 pub fn judge(words: &[u32]) -> Verdict
     ensures { Judged words.now result }
 {
-    judge_by(Way::Fastest, words)
+    judge_by(fastest::first_miss, words)
 }

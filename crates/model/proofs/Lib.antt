@@ -13,6 +13,7 @@ pub mod Bools
 pub mod Search
 pub mod Lists
 pub mod Digits
+pub mod Members
 pub mod Jobs
 pub mod Grants
 pub mod Lending
@@ -43,3 +44,4 @@ pub mod Interference
 pub mod Tries
 pub mod Windows
 pub mod InterferenceExamples
+pub mod Exits

@@ -2,6 +2,7 @@
 -- which rules and widths are firm, the book in five files (jobs, claims, an advance, refusals, lists), its rows as sets, who works, the horizon and the verdict.
 pub mod Sizes
 pub mod Search
+pub mod Members
 pub mod Task
 pub mod Fence
 pub mod Grants
@@ -11,6 +12,7 @@ pub mod Firm
 pub mod Jobs
 pub mod Claims
 pub mod Advance
+pub mod Refusal
 pub mod Refusals
 pub mod Lists
 pub mod WithdrawSet

@@ -1,4 +1,5 @@
 // The task of the table that a task is, the limits of it and of its phase, and lateness.
+// A rule is a number here: a task answers under the rule of any run, and number 14 is what tests it (`run_out`).
 ghost use Rattle.std.specs.Prelude.{◌≡◌};
 ghost use Rattle.model.specs.Task.{rule_of};
 ghost use Rattle.table.specs.Task as table;
@@ -26,8 +27,7 @@ impl Task {
     fn phase_in(self, rule: u32) -> bool
         ensures { result ≡ phase_in (rule_of rule) (task_of self) self.even self.phase }
     {
-        let phase = self.phase;
-        match phase {
+        match self.phase {
             Phase::Coming(left) => ((1 <= left) & (left <= self.offset)) & !self.even,
             Phase::Working(z, had, reserved) => {
                 let alike = (rule == 4) | (reserved == had);
@@ -46,20 +46,13 @@ impl Task {
     pub fn out(self, rule: u32, wide: u32) -> bool
         ensures { result ≡ out_in wide (rule_of rule) self }
     {
-        let plain = self.parameters();
-        !(table::limits::task_number(wide, plain) == 0) | !self.phase_in(rule)
+        (table::limits::task_number(wide, self.parameters()) != 0) | !self.phase_in(rule)
     }
 
     // Whether the task is Working at its deadline.
     pub fn late(self) -> bool
         ensures { result ≡ late_in self.deadline self.phase }
     {
-        let phase = self.phase;
-        match phase {
-            Phase::Coming(_) => false,
-            Phase::Working(z, _, _) => z == self.deadline,
-            Phase::Holding(_, _) => false,
-            Phase::Resting(_) => false,
-        }
+        matches!(self.phase, Phase::Working(z, _, _) if z == self.deadline)
     }
 }

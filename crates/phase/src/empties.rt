@@ -1,4 +1,5 @@
 // A phase as it is seen when cores are chosen: whether its job is released in this tick, and an empty job.
+// A rule is a number here: a task answers under the rule of any run, and number 14 is what tests it (`run_out`).
 ghost use Rattle.std.specs.Prelude.{◌≡◌};
 ghost use Rattle.model.specs.Task.{rule_of};
 ghost use Rattle.phase.specs.Phase.{released, phase_emptied};
@@ -10,12 +11,7 @@ impl Phase {
     pub fn released(self) -> bool
         ensures { result ≡ released self }
     {
-        match self {
-            Phase::Coming(_) => false,
-            Phase::Working(z, had, _) => (z == 0) & (had == 0),
-            Phase::Holding(_, _) => false,
-            Phase::Resting(_) => false,
-        }
+        matches!(self, Phase::Working(0, 0, _))
     }
 
     // The phase as cores are chosen, by whether a job released in this tick is empty.

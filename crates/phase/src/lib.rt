@@ -13,7 +13,7 @@ pub mod starts; // starts.rt: a task as it starts, and a place past the count
 // The phase of a task in the run, with its counts: Coming(ticks left to the first release; the field: not yet released), Working(ticks since release, ticks
 // had, ticks reserved; the field: pending), Holding(ticks since release, ticks reserved; the field: completed early, processors reserved),
 // Resting(ticks since release; the field: completed).
-#[derive(Clone, Copy)]
+#[derive(Clone, Copy, PartialEq, Eq)]
 pub enum Phase {
     Coming(u32),
     Working(u32, u32, u32),
@@ -43,6 +43,7 @@ pub struct Task {
 }
 
 // Whether a job that ended holds its cores: under rules 3 and 4.
+// A rule is a number here: a task answers under the rule of any run (`run_out`).
 fn idles(rule: u32) -> bool
     ensures { result ≡ idles (rule_of rule) }
 {
@@ -54,23 +55,13 @@ impl Phase {
     pub fn claims(self) -> bool
         ensures { result ≡ claiming self }
     {
-        match self {
-            Phase::Coming(_) => false,
-            Phase::Working(_, _, _) => true,
-            Phase::Holding(_, _) => true,
-            Phase::Resting(_) => false,
-        }
+        matches!(self, Phase::Working(_, _, _) | Phase::Holding(_, _))
     }
 
     // Whether a task in this phase is Working.
     pub fn works(self) -> bool
         ensures { result ≡ working self }
     {
-        match self {
-            Phase::Coming(_) => false,
-            Phase::Working(_, _, _) => true,
-            Phase::Holding(_, _) => false,
-            Phase::Resting(_) => false,
-        }
+        matches!(self, Phase::Working(_, _, _))
     }
 }

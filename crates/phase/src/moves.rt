@@ -1,4 +1,5 @@
 // One tick of a task: its next state.
+// A rule is a number here: a task answers under the rule of any run, and number 14 is what tests it (`run_out`).
 ghost use Rattle.std.specs.Prelude.{◌≡◌, cond, ◌+◌, ◌<◌};
 ghost use Rattle.model.specs.Sizes.{most_word};
 ghost use Rattle.model.specs.Task.{rule_of};
@@ -116,19 +117,12 @@ impl Task {
         requires { NoOverflow self.phase }
         ensures { result ≡ next_task (rule_of rule) empty given lent reported self }
     {
-        let old = self.phase;
-        let seen = old.emptied(rule, empty);
+        let seen = self.phase.emptied(rule, empty);
         let state = self.stepped(rule, given, lent, reported, seen);
-        let phase = state.phase;
         Task {
-            offset: self.offset,
-            width: self.width,
-            length: self.length,
-            deadline: self.deadline,
-            period: self.period,
-            second: self.second,
             even: state.even,
-            phase: phase,
+            phase: state.phase,
+            ..self
         }
     }
 }

@@ -7,6 +7,7 @@ ghost use Rattle.phase.specs.Task.{unused, start_task};
 use crate::{Phase, Task};
 
 // A place past the count: zeros, odd and Resting(0).
+// No derived Default: the phase of zeros is Resting(0).
 pub fn unused() -> Task
     ensures { result ≡ unused }
 {
@@ -37,7 +38,6 @@ fn start_phase(offset: u32) -> Phase
 pub fn start_task(task: table::Task) -> Task
     ensures { result ≡ start_task (table.task_of task) }
 {
-    let phase = start_phase(task.offset);
     Task {
         offset: task.offset,
         width: task.width,
@@ -46,6 +46,6 @@ pub fn start_task(task: table::Task) -> Task
         period: task.period,
         second: task.second,
         even: false,
-        phase: phase,
+        phase: start_phase(task.offset),
     }
 }

@@ -8,7 +8,7 @@ use Rattle.model.specs.Search.{any}
 use Rattle.model.specs.Task.{Table}
 use Rattle.model.specs.Horizon.{horizon}
 use Rattle.model.specs.Verdict.{missed_in}
-use Rattle.plan.specs.declared.Planned.TheVariants.{Written, Refused}
+use Rattle.plan.specs.Plan.{Written, Refused}
 use Rattle.plan.specs.Plan.{by_plan}
 
 module _ (s : Table) (a b bytes : ℕ) where

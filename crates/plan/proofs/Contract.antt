@@ -11,18 +11,21 @@ use Rattle.model.specs.Lists.{book, no_reports, full}
 use Rattle.model.specs.Refusals as model
 use Rattle.model.proofs.FullLength.{full-length}
 use Rattle.model.specs.Sizes.{most_cores}
-use Rattle.table.specs.declared.Answer.{Answer}
-use Rattle.table.specs.declared.Answer.TheVariants as answer
+use Rattle.table.specs.Answer.{Answer}
 use Rattle.table.specs.declared.Loaded.{Loaded}
 use Rattle.table.specs.Words.{table_of}
-use Rattle.table.specs.Load.{LoadOf, load_meaning}
-use Rattle.table.proofs.Exact.{refusal-exact, passed-exact}
+use Rattle.std.specs.Prelude.{Result, Ok, Err}
+use Rattle.model.specs.declared.refusal.Refusal.{Refusal}
+use Rattle.model.specs.Refusal.{number_of, position_of}
+use Rattle.table.specs.Numbers as numbers
+use Rattle.table.proofs.Contract.{load-ok, load-err}
+use Rattle.table.specs.Load.{LoadOf, LoadedAs}
 use Rattle.table.proofs.Passed.{passed-cores, passed-valid}
 use Rattle.table.specs.Fit.{loaded_table}
 use Rattle.judge.proofs.FirstMiss.{found}
 use Rattle.table.proofs.Fit.{same-table}
-use Rattle.plan.specs.declared.Planned.{Planned}
-use Rattle.plan.specs.declared.Planned.TheVariants.{Written, Refused}
+use Rattle.plan.specs.Plan.{Planned}
+use Rattle.plan.specs.Plan.{Written, Refused}
 use Rattle.plan.specs.Numbers.{NoneApplies, words, eleven, twelve}
 use Rattle.plan.specs.Plan.{by_plan, planned_by, planned_of, with_rows, plan_meaning, buffer_of, PlanOf}
 use Rattle.plan.proofs.Late.{miss-decides}
@@ -85,27 +88,29 @@ module _ (ws : List ℕ) (a b : ℕ) (old new : List ℕ) where
       go (Refused n p) x = ap length (found n p (ap plan_meaning x))
 
 -- a table that passed has at most 64 cores
-pub cores-most : (ws : List ℕ) (r : Loaded) → LoadOf ws r → r.answer ≡ answer.Passed → r.cores ≤ most_cores
-cores-most ws r l e = omega (arith, (l.holds (ap load_meaning e)).cores, (passed-cores ws (l.passed.0 (ap load_meaning e))).1)
+pub cores-most : (ws : List ℕ) (t : Loaded) → LoadedAs ws t → numbers.NoneApplies ws → t.cores ≤ most_cores
+cores-most ws t h none = omega (arith, h.cores, (passed-cores ws none).1)
 
-module _ (ws : List ℕ) (r : Loaded) (l : LoadOf ws r) (a b : ℕ) (old new : List ℕ) where
+module _ (ws : List ℕ) (loaded : Result Loaded Refusal) (l : LoadOf ws loaded) (a b : ℕ) (old new : List ℕ) where
   -- what is answered of it is answered of the words
   pub passed-plan :
-      (v : Planned) → r.answer ≡ answer.Passed
-      → (v ≡ by_plan (loaded_table r) a b (length old)) × (new ≡ buffer_of (plan_meaning v) (loaded_table r) a b old) → PlanOf ws a b old new v
-  passed-plan v e x =
+      (t : Loaded) → loaded ≡ Ok t → (v : Planned)
+      → (v ≡ by_plan (loaded_table t) a b (length old)) × (new ≡ buffer_of (plan_meaning v) (loaded_table t) a b old) → PlanOf ws a b old new v
+  passed-plan t e v x =
       by_value ws a b old new v (x.0 ∙ (ap (λ (s : Table). by_plan s a b (length old)) same ∙ sym is))
       (x.1 ∙ ap (λ (s : Table). buffer_of (plan_meaning v) s a b old) same)
     where
-      same : loaded_table r ≡ table_of ws
-      same = same-table ws r l e
+      same : loaded_table t ≡ table_of ws
+      same = let (h, none, passed) = load-ok ws loaded l t e in same-table ws t h none
 
       is : planned_of ws a b (length old) ≡ by_plan (table_of ws) a b (length old)
-      is = unfold planned_of in ap (λ (y : Answer). planned_by y (by_plan (table_of ws) a b (length old))) ((passed-exact ws).1 (l.passed.0 (ap load_meaning e)))
+      is =
+          let (h, none, passed) = load-ok ws loaded l t e in
+          unfold planned_of in ap (λ (y : Answer). planned_by y (by_plan (table_of ws) a b (length old))) passed
 
   -- a refusal of the table is the plan's, and the buffer is as found
-  pub refused-plan : (n p : ℕ) → r.answer ≡ answer.Refused n p → new ≡ old → PlanOf ws a b old new (Refused n p)
-  refused-plan n p e same = by_value ws a b old new (Refused n p) (sym is) same
+  pub refused-plan : (x : Refusal) → loaded ≡ Err x → new ≡ old → PlanOf ws a b old new (Refused (number_of x) (position_of x))
+  refused-plan x e same = by_value ws a b old new (Refused (number_of x) (position_of x)) (sym is) same
     where
-      is : planned_of ws a b (length old) ≡ Refused n p
-      is = unfold planned_of in ap (λ (y : Answer). planned_by y (by_plan (table_of ws) a b (length old))) ((refusal-exact ws n p).1 ((l.refused n p).0 (ap load_meaning e)))
+      is : planned_of ws a b (length old) ≡ Refused (number_of x) (position_of x)
+      is = unfold planned_of in ap (λ (y : Answer). planned_by y (by_plan (table_of ws) a b (length old))) (load-err ws loaded l x e).0

@@ -10,8 +10,8 @@ use Rattle.model.specs.Search.{any}
 use Rattle.model.specs.Task.{Table}
 use Rattle.model.specs.Horizon.{horizon}
 use Rattle.model.specs.Verdict.{missed_in}
-use Rattle.table.specs.declared.Answer.{Answer}
-use Rattle.table.specs.declared.Answer.TheVariants as answer
+use Rattle.table.specs.Answer.{Answer}
+use Rattle.table.specs.Answer as answer
 use Rattle.table.specs.Words.{table_of}
 use Rattle.table.specs.Numbers.{place, Earlier}
 use Rattle.table.specs.Numbers as table
@@ -20,8 +20,8 @@ use Rattle.table.proofs.Decide.{Decides, fails, decides-lt, decides_or}
 use Rattle.table.proofs.Order.{not-before-itself, later, number-most, first-only}
 use Rattle.table.proofs.Exact.{refusal-exact, passed-exact}
 use Rattle.table.proofs.Passed.{passed-valid}
-use Rattle.plan.specs.declared.Planned.{Planned}
-use Rattle.plan.specs.declared.Planned.TheVariants.{Written, Refused}
+use Rattle.plan.specs.Plan.{Planned}
+use Rattle.plan.specs.Plan.{Written, Refused}
 use Rattle.plan.specs.Numbers.{RangeOut, BufferShort, MissBefore, Applies, words, ten, eleven, twelve, First, NoneApplies}
 use Rattle.plan.specs.Plan.{by_plan, planned_by, planned_of}
 use Rattle.plan.proofs.Late.{miss-decides}

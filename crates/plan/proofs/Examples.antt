@@ -9,8 +9,8 @@ use Rattle.model.proofs.Computing.{computing}
 use Rattle.table.specs.Words.{visited, count, chain, table_of}
 use Rattle.table.specs.Answer.{header_number, last_step, ending_of, first_out, by_horizon, by_tasks, by_walk, answer_of}
 use Rattle.table.proofs.Examples.{words_a}
-use Rattle.plan.specs.declared.Planned.{Planned}
-use Rattle.plan.specs.declared.Planned.TheVariants.{Written, Refused}
+use Rattle.plan.specs.Plan.{Planned}
+use Rattle.plan.specs.Plan.{Written, Refused}
 use Rattle.plan.specs.Rows.{full_rows_from}
 use Rattle.plan.specs.Plan.{by_plan, planned_of, plan_meaning, buffer_of}
 

@@ -4,7 +4,7 @@ use mathlib.Core.Path.{◌≡◌, refl}
 use Prim.Native.Nat.{ℕ}
 use lib.ListN.{length}
 use Rattle.model.specs.Task.{Table}
-use Rattle.table.specs.declared.Answer.{Answer}
+use Rattle.table.specs.Answer.{Answer}
 use Rattle.table.specs.OffChain.{SameOnChain}
 use Rattle.table.specs.Words.{table_of}
 use Rattle.table.proofs.OffChain.{off-chain-by}

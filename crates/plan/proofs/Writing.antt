@@ -75,14 +75,6 @@ filled-pass t a tick at old out f h =
       size = f.size;
     }
 
--- the next row is within the buffer
-pub filled-room :
-    (t : Loaded) (a b tick at : ℕ) (old out : List ℕ) → Filled t a tick at old out → a ≤ tick → tick < b → (b - a) * t.cores ≤ length old
-    → at + t.cores ≤ length out
-filled-room t a b tick at old out f h k enough =
-    let e : suc (tick - a) ≤ b - a = omega arith in
-    omega (arith, f.next, f.size, suc-mul (tick - a) t.cores, mul-le-mul_right t.cores e)
-
 -- a tick from a on
 pub filled_more :
     (t : Loaded) (a b tick at at' : ℕ) (old out out' row : List ℕ) → Filled t a tick at old out → a ≤ tick → tick < b → (b - a) * t.cores ≤ length old

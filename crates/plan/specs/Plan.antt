@@ -1,5 +1,5 @@
 -- The plan's answer, and the contract of it and of the buffer (scope, 'The plan').
-use Rattle.std.specs.Prelude.{◌≡◌, ◌||◌, cond, List, ◌++◌, ◌↔◌, ℕ, ◌+◌, ◌-◌, ◌*◌, ◌≤◌, ◌<◌, length, get_or, drop, replicate, ltb}
+use Rattle.std.specs.Prelude.{Result, Ok, Err, ◌≡◌, ◌||◌, cond, List, ◌++◌, ◌↔◌, ℕ, ◌+◌, ◌-◌, ◌*◌, ◌≤◌, ◌<◌, length, get_or, drop, replicate, ltb}
 use Rattle.model.specs.Search.{any}
 use Rattle.model.specs.Task.{Table}
 use Rattle.model.specs.Claims.{book_row}
@@ -7,14 +7,24 @@ use Rattle.model.specs.Lists.{book, no_reports}
 use Rattle.model.specs.Refusals as model
 use Rattle.model.specs.Horizon.{horizon}
 use Rattle.model.specs.Verdict.{missed_in}
-use Rattle.table.specs.declared.Answer.{Answer}
-use Rattle.table.specs.declared.Answer.TheVariants as table
+use Rattle.table.specs.Answer.{Answer}
+use Rattle.table.specs.Answer as table
 use Rattle.table.specs.Words.{table_of}
 use Rattle.table.specs.Answer.{answer_of}
-use Rattle.plan.specs.declared.Planned.{Planned}
-use Rattle.plan.specs.declared.Planned.TheVariants.{Written, Refused}
+use Rattle.model.specs.declared.refusal.Refusal.{Refusal}
+use Rattle.model.specs.Refusal.{number_of, position_of}
 use Rattle.plan.specs.Rows.{rows_of}
 use Rattle.plan.specs.Numbers.{First, NoneApplies}
+
+-- the plan's answer: the rows are written, or refused with number and position
+pub data Planned : Type 0 where
+  Written : Planned
+  Refused : ℕ → ℕ → Planned
+
+-- as code returns it
+abbrev pub planned : {T : Type 0} → Result T Refusal → Planned
+planned (Ok x) = Written
+planned (Err e) = Refused (number_of e) (position_of e)
 
 -- for a table that passes: 10, 11 and 12 in this order, by their tests, each with position 0; else written
 unfoldable pub by_plan : Table → ℕ → ℕ → ℕ → Planned

@@ -15,11 +15,7 @@ fn put(row: [u8; ROW], count: usize, at: usize, out: &mut [u8])
     requires { (count ≤ most_cores) × (at + count ≤ length out.old) }
     ensures { out.new ≡ paste out.old at row count }
 {
-    let mut i: usize = 0;
-    while i < count {
-        out[at + i] = row[i];
-        i += 1;
-    }
+    out[at..at + count].copy_from_slice(&row[..count]);
 }
 
 // Writes rows `a` up to but not including `b` of a full-length run that meets every deadline before `b`.
@@ -47,6 +43,7 @@ pub(crate) fn write(table: Loaded, a: u32, b: u32, out: &mut [u8])
     let mut shown: u32 = 0;
     let mut even: u32 = 0;
     let mut row = idle;
+    // An iterator over the rows of `out` is no plainer: the ticks before `a` are run too, and none of them takes a row.
     let mut at: usize = 0;
     while registers.tick < b {
         let tick = registers.tick;

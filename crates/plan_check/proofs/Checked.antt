@@ -23,7 +23,7 @@ use Rattle.plan.specs.Plan.{buffer_of}
 use Rattle.plan.specs.Rows.{full_rows_from, rows_of}
 use Rattle.table.proofs.Exact.{passed-exact}
 use Rattle.table.proofs.Passed.{passed-count, passed-horizon, passed-valid}
-use Rattle.table.specs.declared.Answer.{Answer}
+use Rattle.table.specs.Answer.{Answer}
 use Rattle.table.specs.Limits.{horizon_out, most_horizon}
 use Rattle.table.specs.Numbers.{NoneApplies}
 use Rattle.table.specs.Words.{table_of}

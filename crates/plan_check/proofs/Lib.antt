@@ -15,6 +15,7 @@ pub mod OneTick
 pub mod StateByRows
 pub mod Passing
 pub mod SamePhase
+pub mod AnyPlace
 pub mod StateTests
 pub mod Deciding
 pub mod Counting

@@ -4,13 +4,13 @@ use mathlib.Core.Path.{◌≡◌, refl, ap, ◌∙◌}
 use Prim.Native.Nat.{ℕ}
 use native.Mathlib.Omega.{arith}
 use Rattle.model.specs.Task.{Table}
-use Rattle.table.specs.declared.Answer.{Answer}
+use Rattle.table.specs.Answer.{Answer}
 use Rattle.table.specs.Answer.{answer_of}
 use Rattle.table.specs.OffChain.{SameOnChain}
 use Rattle.table.specs.Words.{rule, table_of}
 use Rattle.table.proofs.OffChain.{off-chain-by}
 use Rattle.run.specs.Start.{started_run}
-use Rattle.plan_check.specs.declared.Begun.{Begun}
+use Rattle.plan_check.specs.Begin.{Begun}
 use Rattle.plan_check.specs.Begin.{begin_of, begun_by}
 use Rattle.plan_check.specs.State.{blank, state_at}
 

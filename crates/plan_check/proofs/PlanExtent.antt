@@ -8,8 +8,11 @@ use lib.ListN.{get_or-map, get_or, length, take}
 use lib.Seq.{get_or-take}
 use borrow.Author.Tests.{ltb-false, ne_eqb}
 use Rattle.model.specs.Horizon.{horizon, hyperperiod, last_s}
+use Rattle.model.specs.Refusal.{number_of}
 use Rattle.model.specs.Sizes.{most_tasks}
 use Rattle.model.specs.Task as model
+use Rattle.model.specs.declared.refusal.Refusal.{Refusal}
+use Rattle.model.specs.declared.refusal.Refusal.TheVariants.{NotATable, BadCores, BadRule, NoHead, NoRecord, RecordAgain, BadWidth, BadTime, LongHorizon, BadRange, ShortRows, PastMiss, TableMisses, NotARun, Late, BadReport, NoMiss, ShortBuffer, BadFence, BadEmpty, NotFirm, NoPosition, SlackNotGiven, BadRow, DeadlineMissed, PhasesDiffer}
 use Rattle.table.proofs.Hyperperiods.{capped-exact}
 use Rattle.table.proofs.Inside.{inside-test}
 use Rattle.table.proofs.Loads.{horizon-test}
@@ -77,6 +80,35 @@ number-9 r e f = rw (e, f)
 pub number-none : (r : Run) → state_out r ≡ false → horizon_out (horizon_in r) ≡ false → first_number r ≡ 0
 unfolding first_number
 number-none r e f = rw (e, f)
+
+-- no refusal has number 0
+pub number-some : (e : Refusal) → ¬ (number_of e ≡ 0)
+number-some NotATable h = absurd (omega arith)
+number-some BadCores h = absurd (omega arith)
+number-some BadRule h = absurd (omega arith)
+number-some NoHead h = absurd (omega arith)
+number-some NoRecord h = absurd (omega arith)
+number-some RecordAgain h = absurd (omega arith)
+number-some (BadWidth p) h = absurd (omega arith)
+number-some (BadTime p) h = absurd (omega arith)
+number-some LongHorizon h = absurd (omega arith)
+number-some BadRange h = absurd (omega arith)
+number-some ShortRows h = absurd (omega arith)
+number-some PastMiss h = absurd (omega arith)
+number-some TableMisses h = absurd (omega arith)
+number-some NotARun h = absurd (omega arith)
+number-some (Late p) h = absurd (omega arith)
+number-some BadReport h = absurd (omega arith)
+number-some NoMiss h = absurd (omega arith)
+number-some ShortBuffer h = absurd (omega arith)
+number-some BadFence h = absurd (omega arith)
+number-some BadEmpty h = absurd (omega arith)
+number-some NotFirm h = absurd (omega arith)
+number-some NoPosition h = absurd (omega arith)
+number-some SlackNotGiven h = absurd (omega arith)
+number-some (BadRow p) h = absurd (omega arith)
+number-some (DeadlineMissed p) h = absurd (omega arith)
+number-some (PhasesDiffer p) h = absurd (omega arith)
 
 -- the extent: zeros beside a number ..
 pub extent-refused : (r : Run) (n : ℕ) → first_number r ≡ n → ¬ (n ≡ 0) → record { number = n; start = 0; horizon = 0 } ≡ extent_of r

@@ -10,14 +10,15 @@ use Rattle.model.specs.Horizon.{last_s}
 use Rattle.model.specs.Sizes.{most_tasks}
 use Rattle.model.specs.Task as model
 use Rattle.table.proofs.Decide.{fails}
-use Rattle.table.proofs.Contract.{load-answer, contract-of, meaning-passed, meaning-refused}
+use Rattle.table.proofs.Contract.{meaning-passed, meaning-refused}
 use Rattle.table.specs.Answer.{answer_of}
-use Rattle.table.specs.Load.{LoadedAs, LoadOf, load_of, load_meaning, table_with}
+use Rattle.table.proofs.Exact.{refusal-exact, passed-exact}
+use Rattle.table.specs.Load.{LoadedAs, load_meaning, table_with}
 use Rattle.table.specs.Numbers.{NoneApplies}
 use Rattle.table.specs.Task.{tasks_of}
 use Rattle.table.specs.Words.{rule, table_of}
-use Rattle.table.specs.declared.Answer.{Answer}
-use Rattle.table.specs.declared.Answer.TheVariants.{Passed, Refused}
+use Rattle.table.specs.Answer.{Answer}
+use Rattle.table.specs.Answer.{Passed, Refused}
 use Rattle.table.specs.declared.Loaded.{Loaded}
 use Rattle.phase.specs.Task.{start_task, task_of, unused}
 use Rattle.run.proofs.ByVerdict.{loaded-table}
@@ -28,7 +29,7 @@ use Rattle.run.specs.declared.Run.{Run}
 use Rattle.plan_check.specs.Begin.{BeginOf, begin_of, begun_by, empty_state, first_state}
 use Rattle.plan_check.specs.Numbers.{StateOut, state_out}
 use Rattle.plan_check.specs.State.{start_in}
-use Rattle.plan_check.specs.declared.Begun.{Begun}
+use Rattle.plan_check.specs.Begin.{Begun}
 use Rattle.plan_check.specs.declared.SuppliedPlan.{SuppliedPlan}
 use Rattle.plan_check.proofs.Deciding.{state-decides}
 use Rattle.plan_check.proofs.Passing.{started-state, state-passes}
@@ -81,31 +82,28 @@ module _ (ws : List ℕ) where
   unfolding begin_of
   begin-refused n p e = ap (λ (a : Answer). begun_by a (first_state ws)) e
 
-  promised : LoadOf ws (load_of ws)
-  promised = contract-of ws (load_of ws) refl
-
-  same_answer : (begin_of ws).answer ≡ (load_of ws).answer
-  same_answer = unfold begin_of in begun-answer (answer_of ws) (first_state ws) ∙ sym (load-answer ws)
+  same_answer : (begin_of ws).answer ≡ answer_of ws
+  same_answer = unfold begin_of in begun-answer (answer_of ws) (first_state ws)
 
   -- the beginning by the table's answer
   passed-answer : load_meaning (begin_of ws).answer ≡ book.taken → answer_of ws ≡ Passed
-  passed-answer e = sym (load-answer ws) ∙ meaning-passed (load_of ws).answer (sym (ap load_meaning same_answer) ∙ e)
+  passed-answer e = meaning-passed (answer_of ws) (sym (ap load_meaning same_answer) ∙ e)
 
   refused-answer : (n p : ℕ) → load_meaning (begin_of ws).answer ≡ book.refused n p → answer_of ws ≡ Refused n p
-  refused-answer n p e = sym (load-answer ws) ∙ meaning-refused (load_of ws).answer n p (sym (ap load_meaning same_answer) ∙ e)
+  refused-answer n p e = meaning-refused (answer_of ws) n p (sym (ap load_meaning same_answer) ∙ e)
 
   none-applies : load_meaning (begin_of ws).answer ≡ book.taken → NoneApplies ws
-  none-applies e = promised.passed.0 (sym (ap load_meaning same_answer) ∙ e)
+  none-applies e = (passed-exact ws).0 (passed-answer e)
 
   -- a value that is the beginning's by definition meets the contract of a beginning
   pub begin-of : (b : Begun) → b ≡ begin_of ws → BeginOf ws b
   begin-of b e = rw e record {
     value = refl;
     refused = λ n p. (
-      λ q. (promised.refused n p).0 (sym (ap load_meaning same_answer) ∙ q),
-      λ f. ap load_meaning same_answer ∙ (promised.refused n p).1 f,
+      λ q. (refusal-exact ws n p).0 (refused-answer n p q),
+      λ f. ap load_meaning (same_answer ∙ (refusal-exact ws n p).1 f),
     );
-    passed = (none-applies, λ none. ap load_meaning same_answer ∙ promised.passed.1 none);
+    passed = (none-applies, λ none. ap load_meaning (same_answer ∙ (passed-exact ws).1 none));
     begun = begun;
     zeros = zeros;
     passes = λ q.

@@ -21,9 +21,8 @@ use Rattle.run.specs.Numbers.{past_count, run_out}
 use Rattle.run.specs.Run.{map_first}
 use Rattle.run.specs.Start.{started_run}
 use Rattle.plan_check.specs.declared.Note.{Note}
-use Rattle.plan_check.specs.declared.extent.Extent.{Extent}
 use Rattle.plan_check.specs.declared.SuppliedPlan.{SuppliedPlan}
-use Rattle.plan_check.specs.Extent.{extent_of, first_number}
+use Rattle.plan_check.specs.Extent.{Extent, extent_of, first_number}
 use Rattle.plan_check.specs.Begin.{begin_of}
 use Rattle.plan_check.specs.Numbers.{differs, missed, state_out}
 use Rattle.plan_check.specs.Plan.{cell_count}

@@ -1,14 +1,15 @@
 -- The beginning of a supplied plan, for any table that passes 9, with any verdict (request 112).
-use Rattle.std.specs.Prelude.{List, ◌↔◌, ◌≡◌, ℕ}
+use Rattle.std.specs.Prelude.{Result, Ok, Err, List, ◌↔◌, ◌≡◌, ℕ}
 use Rattle.model.specs.Refusals as book
-use Rattle.table.specs.declared.Answer.{Answer}
-use Rattle.table.specs.declared.Answer.TheVariants.{Passed, Refused}
+use Rattle.table.specs.Answer.{Answer}
+use Rattle.table.specs.Answer.{Passed, Refused}
 use Rattle.table.specs.Answer.{answer_of}
 use Rattle.table.specs.Load.{load_meaning}
 use Rattle.table.specs.Numbers.{First, NoneApplies}
 use Rattle.table.specs.Words.{rule, table_of}
 use Rattle.run.specs.Start.{empty_run, started_run}
-use Rattle.plan_check.specs.declared.Begun.{Begun}
+use Rattle.model.specs.declared.refusal.Refusal.{Refusal}
+use Rattle.model.specs.Refusal.{number_of, position_of}
 use Rattle.plan_check.specs.declared.SuppliedPlan.{SuppliedPlan}
 use Rattle.plan_check.specs.Numbers.{StateOut}
 use Rattle.plan_check.specs.State.{state_at, blank}
@@ -20,6 +21,16 @@ first_state ws = state_at (started_run (rule ws) (table_of ws)) 0 blank
 -- all zeros and Resting(0), which 14 turns down
 abbrev pub empty_state : SuppliedPlan
 empty_state = record { run = empty_run; tick = 0; noted = blank }
+
+-- the table's answer, and the state
+pub record Begun : Type 0 where
+  pub answer : Answer
+  pub plan : SuppliedPlan
+
+-- as code returns it: all zeros in a refusal
+abbrev pub beginning : Result SuppliedPlan Refusal → Begun
+beginning (Ok w) = record { answer = Passed; plan = w }
+beginning (Err e) = record { answer = Refused (number_of e) (position_of e); plan = empty_state }
 
 -- by the table's answer
 abbrev pub begun_by : Answer → SuppliedPlan → Begun

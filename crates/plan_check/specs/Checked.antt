@@ -6,7 +6,7 @@ use Rattle.model.specs.Horizon.{horizon}
 use Rattle.model.specs.Search.{up_from}
 use Rattle.model.specs.Task.{Table}
 use Rattle.table.specs.Words.{table_of}
-use Rattle.plan.specs.declared.Planned.{Planned}
+use Rattle.plan.specs.Plan.{Planned}
 use Rattle.plan.specs.Plan.{PlanOf, plan_meaning}
 use Rattle.plan.specs.Rows.{rows_of}
 use Rattle.plan_check.specs.declared.SuppliedPlan.{SuppliedPlan}

@@ -1,10 +1,23 @@
 -- The extent of a supplied plan, as code keeps it between rows: the last S and the horizon of its run, computed once.
-use Rattle.std.specs.Prelude.{cond, false, ◌≡◌, ℕ, ◌≤◌, eqb}
+use Rattle.std.specs.Prelude.{cond, false, ◌≡◌, ℕ, ◌≤◌, eqb, Result, Ok, Err}
+use Rattle.model.specs.declared.refusal.Refusal.{Refusal}
+use Rattle.model.specs.Refusal.{number_of}
 use Rattle.table.specs.Limits.{horizon_out, most_horizon}
 use Rattle.run.specs.declared.Run.{Run}
-use Rattle.plan_check.specs.declared.extent.Extent.{Extent}
+use Rattle.plan_check.specs.declared.extent.Extent as code
 use Rattle.plan_check.specs.Numbers.{state_out}
 use Rattle.plan_check.specs.State.{horizon_in, start_in}
+
+-- the number that turns every row down, 14 or 9, with zeros; or 0, with the last S and the horizon
+pub record Extent : Type 0 where
+  pub number : ℕ
+  pub start : ℕ
+  pub horizon : ℕ
+
+-- as code returns it
+abbrev pub extent_in : Result code.Extent Refusal → Extent
+extent_in (Ok a) = record { number = 0; start = a.start; horizon = a.horizon }
+extent_in (Err e) = record { number = number_of e; start = 0; horizon = 0 }
 
 -- the run passes 14 and 9, and these are its last S and its horizon
 pub record Ready (r : Run) (s h : ℕ) : Type 0 where

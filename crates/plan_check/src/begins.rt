@@ -8,6 +8,7 @@ use model::MOST_TASKS;
 use phase::Phase;
 
 // Nothing recorded.
+// No derived Default: the phase of zeros is Resting(0).
 pub(crate) fn blank() -> [Note; MOST_TASKS]
     ensures { result ≡ blank }
 {
@@ -18,15 +19,12 @@ pub(crate) fn blank() -> [Note; MOST_TASKS]
 }
 
 // A state of all zeros, which 14 turns down: its run is that of a refused start.
-pub(crate) fn empty() -> SuppliedPlan
+pub fn empty() -> SuppliedPlan
     ensures { result ≡ empty_state }
 {
-    let refused = run::starts::refused(0, 0);
-    let run = refused.run;
-    let noted = blank();
     SuppliedPlan {
-        run: run,
+        run: run::starts::empty(),
         tick: 0,
-        noted: noted,
+        noted: blank(),
     }
 }

@@ -3,7 +3,7 @@ ghost use Rattle.std.specs.Prelude.{◌≡◌, ◌&&◌, ◌≤◌, eqb};
 ghost use Rattle.model.specs.Sizes.{most_tasks};
 ghost use Rattle.run.specs.Run.{phase_at};
 ghost use Rattle.model.specs.Search.{any};
-ghost use Rattle.plan_check.specs.Numbers.{unreachable_phase, state_out, missed, same_phase, differs};
+ghost use Rattle.plan_check.specs.Numbers.{unreachable_phase, state_out, missed, differs};
 ghost use Rattle.plan_check.specs.State.{horizon_in};
 ghost use Rattle.plan_check.specs.CheckRow.{answer_at, final_answer};
 
@@ -16,10 +16,9 @@ fn unreachable(phase: Phase) -> bool
     ensures { result ≡ unreachable_phase phase }
 {
     match phase {
-        Phase::Coming(_) => false,
         Phase::Working(_, had, reserved) => reserved != had,
         Phase::Holding(_, _) => true,
-        Phase::Resting(_) => false,
+        Phase::Coming(_) | Phase::Resting(_) => false,
     }
 }
 
@@ -28,30 +27,16 @@ fn any_unreachable(run: Run) -> bool
     requires { run.count ≤ most_tasks }
     ensures { result ≡ any run.count (λ p. unreachable_phase (phase_at run p)) }
 {
-    let count = run.count;
-    let mut i: usize = 0;
-    while i < count {
-        let task = run.tasks[i];
-        let phase = task.phase;
-        if unreachable(phase) {
-            return true;
-        }
-        i += 1;
-    }
-    false
+    run.tasks[..run.count]
+        .iter()
+        .any(|task| unreachable(task.phase))
 }
 
 // Whether 14 turns the state down: the run, a withdrawn position, a task Holding or with unequal counts.
 pub(crate) fn out(run: Run) -> bool
     ensures { result ≡ state_out run }
 {
-    if run.out() {
-        return true;
-    }
-    if run.withdrawn != 0 {
-        return true;
-    }
-    any_unreachable(run)
+    run.out() || run.withdrawn != 0 || any_unreachable(run)
 }
 
 // Whether some task is Working at its deadline (number 25).
@@ -59,49 +44,7 @@ pub(crate) fn missed(run: Run) -> bool
     requires { run.count ≤ most_tasks }
     ensures { result ≡ missed run }
 {
-    let count = run.count;
-    let mut i: usize = 0;
-    while i < count {
-        let task = run.tasks[i];
-        if task.late() {
-            return true;
-        }
-        i += 1;
-    }
-    false
-}
-
-// Whether two phases are the same.
-fn same(a: Phase, b: Phase) -> bool
-    ensures { result ≡ same_phase a b }
-{
-    match a {
-        Phase::Coming(left) => match b {
-            Phase::Coming(other) => left == other,
-            Phase::Working(_, _, _) => false,
-            Phase::Holding(_, _) => false,
-            Phase::Resting(_) => false,
-        },
-        Phase::Working(z, had, reserved) => match b {
-            Phase::Coming(_) => false,
-            Phase::Working(since, ticks, own) => (z == since)
-                & ((had == ticks) & (reserved == own)),
-            Phase::Holding(_, _) => false,
-            Phase::Resting(_) => false,
-        },
-        Phase::Holding(z, reserved) => match b {
-            Phase::Coming(_) => false,
-            Phase::Working(_, _, _) => false,
-            Phase::Holding(since, own) => (z == since) & (reserved == own),
-            Phase::Resting(_) => false,
-        },
-        Phase::Resting(z) => match b {
-            Phase::Coming(_) => false,
-            Phase::Working(_, _, _) => false,
-            Phase::Holding(_, _) => false,
-            Phase::Resting(since) => z == since,
-        },
-    }
+    run.tasks[..run.count].iter().any(|task| task.late())
 }
 
 impl SuppliedPlan {
@@ -110,22 +53,11 @@ impl SuppliedPlan {
         requires { self.run.count ≤ most_tasks }
         ensures { result ≡ differs self }
     {
-        let run = self.run;
-        let noted = self.noted;
-        let count = run.count;
-        let mut i: usize = 0;
-        while i < count {
-            let task = run.tasks[i];
-            let note = noted[i];
-            let now = task.phase;
-            let then = note.phase;
-            if same(now, then) {
-                i += 1;
-            } else {
-                return true;
-            }
-        }
-        false
+        let tasks = &self.run.tasks[..self.run.count];
+        tasks
+            .iter()
+            .zip(&self.noted)
+            .any(|(task, note)| task.phase != note.phase)
     }
 
     // The answer after the last row: 25 and then 26, or the plan is accepted.
@@ -133,13 +65,11 @@ impl SuppliedPlan {
         requires { self.run.count ≤ most_tasks }
         ensures { result ≡ final_answer self }
     {
-        let run = self.run;
-        let tick = self.tick;
-        if missed(run) {
-            return Answer::Refused(25, tick);
+        if missed(self.run) {
+            return Answer::Refused(25, self.tick);
         }
         if self.differs() {
-            return Answer::Refused(26, tick);
+            return Answer::Refused(26, self.tick);
         }
         Answer::Accepted
     }

@@ -4,17 +4,17 @@
 ghost use Rattle.std.specs.Prelude.{◌≡◌, ◌<◌, length};
 ghost use Rattle.plan_check.specs.declared.Answer.TheVariants.{Refused};
 ghost use Rattle.plan_check.specs.Extent.{Ready};
-ghost use Rattle.plan_check.specs.Begin.{BeginOf};
+ghost use Rattle.plan_check.specs.Begin.{BeginOf, beginning};
 ghost use Rattle.plan_check.specs.RowAnswer.{state_by_answer};
 ghost use Rattle.plan_check.specs.CheckRow.{CheckRowOf, check_row_of};
 
-mod extent; // extent.rt: the extent of a plan, and numbers 14 and 9
-mod begins; // begins.rt: a state of all zeros
+pub mod extent; // extent.rt: the extent of a plan, and numbers 14 and 9
+pub mod begins; // begins.rt: a state of all zeros
 mod bounds; // bounds.rt: number 14 of a state, 25 and 26
 mod moves; // moves.rt: one tick, and the phases recorded
 mod rows; // rows.rt: the cells of a row, and number 24
 
-use model::MOST_TASKS;
+use model::{MOST_TASKS, Refusal};
 use phase::Phase;
 use run::Run;
 
@@ -32,13 +32,6 @@ pub struct SuppliedPlan {
     pub noted: [Note; MOST_TASKS],
 }
 
-// The result of the beginning: the table's answer, and the state at tick 0.
-#[derive(Clone, Copy)]
-pub struct Begun {
-    pub answer: table::Answer,
-    pub plan: SuppliedPlan,
-}
-
 // The answer to a row: taken; taken as the last, and the plan accepted; or refused with number and tick.
 #[derive(Clone, Copy)]
 pub enum Answer {
@@ -54,31 +47,13 @@ pub struct Entered {
     pub plan: SuppliedPlan,
 }
 
-// The state at tick 0 for the words of a table, with any verdict; or the first of 1 to 9 and 19 that applies, and a state of all zeros.
-pub fn begin(words: &[u32]) -> Begun
-    ensures { BeginOf words.now result }
+// The state at tick 0 for the words of a table, with any verdict; or the first of 1 to 9 and 19 that applies.
+pub fn begin(words: &[u32]) -> Result<SuppliedPlan, Refusal>
+    ensures { BeginOf words.now (beginning result) }
 {
-    let loaded = table::load(words);
-    let answer = loaded.answer;
-    match answer {
-        table::Answer::Passed => {
-            let begun = run::starts::begun(words);
-            let run = begun.run;
-            let noted = begins::blank();
-            let plan = moves::state_at(run, 0, loaded.start, noted);
-            Begun {
-                answer: table::Answer::Passed,
-                plan: plan,
-            }
-        }
-        table::Answer::Refused(number, position) => {
-            let plan = begins::empty();
-            Begun {
-                answer: table::Answer::Refused(number, position),
-                plan: plan,
-            }
-        }
-    }
+    let table = table::load(words)?;
+    let run = run::starts::begun(table);
+    Ok(moves::state_at(run, 0, table.start, begins::blank()))
 }
 
 impl SuppliedPlan {
@@ -151,10 +126,9 @@ impl SuppliedPlan {
     pub fn check_row(self, row: &[u8]) -> Entered
         ensures { CheckRowOf self row.now result }
     {
-        let found = self.extent();
-        if found.number != 0 {
-            return self.refused(found.number, 0);
+        match self.extent() {
+            Ok(extent) => self.enter(extent.start, extent.horizon, row),
+            Err(refusal) => self.refused(refusal.number(), 0),
         }
-        self.enter(found.start, found.horizon, row)
     }
 }

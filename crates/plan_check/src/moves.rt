@@ -16,14 +16,8 @@ fn worked(run: Run, cells: &[u8; BYTES]) -> Run
     ensures { result ≡ worked_with run cells.now }
 {
     let mut next = run;
-    let rule = run.rule;
-    let count = run.count;
-    let mut i: usize = 0;
-    while i < count {
-        let task = next.tasks[i];
-        let moved = task.next(rule, false, 0 < cells[i + 1], false, false);
-        next.tasks[i] = moved;
-        i += 1;
+    for i in 0..run.count {
+        next.tasks[i] = run.tasks[i].next(run.rule, false, 0 < cells[i + 1], false, false);
     }
     next
 }
@@ -34,13 +28,8 @@ fn noting(run: Run, noted: [Note; MOST_TASKS]) -> [Note; MOST_TASKS]
     ensures { result ≡ noting run noted }
 {
     let mut notes = noted;
-    let count = run.count;
-    let mut i: usize = 0;
-    while i < count {
-        let task = run.tasks[i];
-        let phase = task.phase;
-        notes[i] = Note { phase: phase };
-        i += 1;
+    for i in 0..run.count {
+        notes[i].phase = run.tasks[i].phase;
     }
     notes
 }
@@ -51,18 +40,14 @@ pub(crate) fn state_at(run: Run, tick: u32, start: u32, noted: [Note; MOST_TASKS
     requires fact_2 { start ≡ start_in run }
     ensures { result ≡ state_at run tick noted }
 {
-    if tick == start {
-        let notes = noting(run, noted);
-        return SuppliedPlan {
-            run: run,
-            tick: tick,
-            noted: notes,
-        };
-    }
     SuppliedPlan {
-        run: run,
-        tick: tick,
-        noted: noted,
+        run,
+        tick,
+        noted: if tick == start {
+            noting(run, noted)
+        } else {
+            noted
+        },
     }
 }
 
@@ -74,9 +59,6 @@ impl SuppliedPlan {
         requires fact_3 { self.tick < most_word }
         ensures { result ≡ state_at (worked_with self.run cells.now) (suc self.tick) self.noted }
     {
-        let run = self.run;
-        let noted = self.noted;
-        let next = worked(run, cells);
-        state_at(next, self.tick + 1, start, noted)
+        state_at(worked(self.run, cells), self.tick + 1, start, self.noted)
     }
 }

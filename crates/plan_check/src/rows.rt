@@ -47,21 +47,18 @@ pub(crate) fn counted(row: &[u8], fence: u64, count: usize) -> Shown
     ensures { ShownOf fence count row.now result }
 {
     let mut cells = [0u8; BYTES];
-    let mut core: usize = 0;
-    while core < row.len() {
-        let byte = row[core];
-        if unknown_byte(fence, count, core as u32, byte) {
+    for (core, byte) in row.iter().enumerate() {
+        if unknown_byte(fence, count, core as u32, *byte) {
             return Shown {
                 unknown: true,
-                cells: cells,
+                cells,
             };
         }
-        add(&mut cells, byte);
-        core += 1;
+        add(&mut cells, *byte);
     }
     Shown {
         unknown: false,
-        cells: cells,
+        cells,
     }
 }
 
@@ -76,8 +73,7 @@ fn width_of(task: Task) -> u32
 fn wrong(task: Task, cells: u8) -> bool
     ensures { result ≡ wrong_with task cells }
 {
-    let phase = task.phase;
-    (0 < cells) & !((cells as u32 == width_of(task)) & phase.works())
+    (0 < cells) & !((cells as u32 == width_of(task)) & task.phase.works())
 }
 
 // Whether some task of the run is wrong in a row with these counts of cells.
@@ -85,14 +81,9 @@ pub(crate) fn any_wrong(run: Run, cells: &[u8; BYTES]) -> bool
     requires { run.count ≤ most_tasks }
     ensures { result ≡ any_wrong run cells.now }
 {
-    let count = run.count;
-    let mut i: usize = 0;
-    while i < count {
-        let task = run.tasks[i];
-        if wrong(task, cells[i + 1]) {
-            return true;
-        }
-        i += 1;
-    }
-    false
+    let tasks = &run.tasks[..run.count];
+    tasks
+        .iter()
+        .zip(&cells[1..])
+        .any(|(task, cells)| wrong(*task, *cells))
 }

@@ -88,7 +88,7 @@ fn receive<R: Read, W: Write, E: Write>(
     }
 }
 
-// A proved loop has to end, and no contract ensures that standard input does: the rounds are counted down from a number that no run uses up.
+// A proved loop has to end, and no contract ensures that standard input does: no run uses up this number of rounds.
 fn main(rt: HostRuntime) {
     let mut input = rt.stdin();
     let mut out = rt.stdout();
@@ -96,15 +96,12 @@ fn main(rt: HostRuntime) {
     let mut check = Check::new();
     let mut buffer = io::buffer();
     let mut held: usize = 0;
-    let mut rounds = u64::MAX;
-    while rounds > 0 {
+    for _ in 0..u64::MAX {
         let received = receive(&mut input, &mut out, &mut log, check, &mut buffer, held);
-        if received.again {} else {
+        if !received.again {
             return;
         }
-        let next = received.check;
-        check = next;
+        check = received.check;
         held = received.held;
-        rounds -= 1;
     }
 }

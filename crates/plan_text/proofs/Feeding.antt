@@ -7,15 +7,16 @@ use Prim.Native.Nat.{◌+◌, ◌-◌, ◌<◌, ℕ, ◌≤◌}
 use native.Mathlib.Omega.{arith}
 use lib.ListN.{drop, drop_of_length-le, length, length-drop, take}
 use lib.Seq.{drop-drop, take_all}
+use Rattle.std.specs.Prelude.{Option}
 use Rattle.splitter.specs.declared.Part.{Part}
 use Rattle.splitter.specs.Split.{InputEnd, lines_from, nothing, split, unknown}
 use Rattle.splitter.specs.Parts.{Comes, OneLine, LineOf, TableOf, ends, goes}
 use Rattle.splitter.proofs.Splits.{lines_none, lines-waits}
 use Rattle.splitter.proofs.Tables.{part-rest}
 use Rattle.plan_check.specs.declared.Entered.{Entered}
+use Rattle.plan_check.specs.declared.extent.Extent.{Extent}
 use Rattle.plan_text.specs.declared.Check.{Check}
 use Rattle.plan_text.specs.declared.Fed.{Fed}
-use Rattle.plan_text.specs.declared.KnownExtent.{KnownExtent}
 use Rattle.plan_text.specs.declared.PlanProgress.{PlanProgress}
 use Rattle.plan_text.specs.declared.PlanAnswer.{PlanAnswer}
 use Rattle.plan_text.specs.declared.Stage.{Stage}
@@ -51,7 +52,7 @@ fed-over f from ended bs rows said taken h x = record {
 }
 
 -- a row that was taken, or not, leaves a plan that goes as far
-pub extent-known-on : (a : KnownExtent) (x : Entered) (n : ℕ) (t : LineAnswer) → t ≡ row_entered x.answer x.plan n → ExtentKnown a x.plan → ExtentKnown a t.rows.plan
+pub extent-known-on : (a : Option Extent) (x : Entered) (n : ℕ) (t : LineAnswer) → t ≡ row_entered x.answer x.plan n → ExtentKnown a x.plan → ExtentKnown a t.rows.plan
 extent-known-on a x n t e w = subst⁻¹ (λ (u : LineAnswer). ExtentKnown a u.rows.plan) e (subst⁻¹ (ExtentKnown a) (entered-plan x.answer x.plan n) w)
 
 -- THE PLAN
@@ -197,9 +198,9 @@ module _ (c : Check) (ended : Bool) (bs : List ℕ) (p : Part) (w : TableOf bs e
             opens-more e (take p.end bs) (lines_from e [] (drop p.next bs ++ more)) needed
             ∙ ap (λ (u : LineAnswer). plan_answer u.rows e (drop p.next bs ++ more)) (sym o)
 
-    pub table-over : is_more t.answer ≡ false → FedBy (answer_in Table c) 0 ended bs (over_with t.rows t.answer (length bs))
-    table-over m =
-        fed-over (answer_in Table c) 0 ended bs t.rows t.answer (length bs) (omega arith)
+    pub table-over : (rows : PlanProgress) → is_more t.answer ≡ false → FedBy (answer_in Table c) 0 ended bs (over_with rows t.answer (length bs))
+    table-over rows m =
+        fed-over (answer_in Table c) 0 ended bs rows t.answer (length bs) (omega arith)
         (λ more x.
         all-opens (split nothing (bs ++ more)) (take p.end bs) (lines_from nothing [] (drop p.next bs ++ more)) (w.text h nothing more x)
         ∙ opens-end nothing (take p.end bs) (lines_from nothing [] (drop p.next bs ++ more)) (sym (ap is_more answer-of) ∙ m) ∙ sym answer-of)

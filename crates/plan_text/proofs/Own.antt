@@ -19,8 +19,8 @@ use Rattle.model.proofs.Verdict.{verdict-exact}
 use Rattle.table.specs.Answer.{answer_of}
 use Rattle.table.specs.Numbers.{NoneApplies}
 use Rattle.table.specs.Words.{table_of}
-use Rattle.table.specs.declared.Answer.{Answer}
-use Rattle.table.specs.declared.Answer.TheVariants.{Passed}
+use Rattle.table.specs.Answer.{Answer}
+use Rattle.table.specs.Answer.{Passed}
 use Rattle.table.proofs.Exact.{passed-exact}
 use Rattle.table.proofs.Passed.{passed-cores, passed-count, passed-horizon, passed-valid}
 use Rattle.judge.specs.JudgeAnswer.{judged}

@@ -7,12 +7,10 @@ use lib.ListN.{drop, length, set, take}
 use lib.Seq.{take-length}
 use Rattle.text.specs.Decimal.{decimal}
 use Rattle.text.specs.Format.{newline}
-use Rattle.text.specs.Output.{fields, letters, line_of, longest_line, space}
+use Rattle.text.specs.Output.{fields, line_of, longest_line, space}
 use Rattle.text.specs.Written.{Put}
-use Rattle.text.proofs.Writing.{put-length, put-none, put_one, put_then}
-use Rattle.plan_text.specs.declared.PlanAnswer.{PlanAnswer}
-use Rattle.plan_text.specs.declared.PlanAnswer.TheVariants.{Accepted, Fault, More, Refused, Unfinished, Unread}
-use Rattle.plan_text.specs.Printed.{longest_answer, plan_answer_line}
+use Rattle.text.proofs.Writing.{put-length, put_one, put_then}
+use Rattle.plan_text.specs.Printed.{longest_answer}
 
 -- a word that was copied ends where its letters do
 pub word-put :
@@ -38,39 +36,3 @@ one-put before word middle after n start end e p q =
     let same : length after ≡ longest_line = put-length both (omega (arith, p.1, q.1, e)) ∙ e in
     let last = put_then both (put_one after end newline (omega (arith, p.1, q.1, same))) (omega (arith, p.1, q.1, e)) in
     (subst (λ (s : List ℕ). Put before 0 s (set after end newline) (end + 1)) (one-text word n) last, omega (arith, p.1, q.1))
-
--- THE ANSWER
-
-pub answer-more : (s : PlanAnswer) (line : List ℕ) → s ≡ More → (Put line 0 (plan_answer_line s) line 0) × (0 ≤ longest_answer)
-unfolding plan_answer_line
-answer-more s line e = rw e (put-none line 0, omega arith)
-
-pub answer-accepted :
-    (s : PlanAnswer) (before after : List ℕ) (n : ℕ) → s ≡ Accepted → Put before 0 (letters "accepted" ++ (newline ∷ [])) after n
-    → (Put before 0 (plan_answer_line s) after n) × (n ≤ longest_answer)
-unfolding plan_answer_line
-answer-accepted s before after n e p = rw e (p, omega (arith, p.ends))
-
-pub answer-unfinished :
-    (s : PlanAnswer) (t : ℕ) (before after : List ℕ) (n : ℕ) → s ≡ Unfinished t → (Put before 0 (line_of (letters "unfinished") (t ∷ [])) after n) × (n ≤ longest_answer)
-    → (Put before 0 (plan_answer_line s) after n) × (n ≤ longest_answer)
-unfolding plan_answer_line
-answer-unfinished s t before after n e p = rw e p
-
-pub answer-fault :
-    (s : PlanAnswer) (k t : ℕ) (before after : List ℕ) (n : ℕ) → s ≡ Fault k t → (Put before 0 (line_of (letters "fault") (k ∷ t ∷ [])) after n) × (n ≤ longest_answer)
-    → (Put before 0 (plan_answer_line s) after n) × (n ≤ longest_answer)
-unfolding plan_answer_line
-answer-fault s k t before after n e p = rw e p
-
-pub answer-refused :
-    (s : PlanAnswer) (k t : ℕ) (before after : List ℕ) (n : ℕ) → s ≡ Refused k t → (Put before 0 (line_of (letters "refused") (k ∷ t ∷ [])) after n) × (n ≤ longest_answer)
-    → (Put before 0 (plan_answer_line s) after n) × (n ≤ longest_answer)
-unfolding plan_answer_line
-answer-refused s k t before after n e p = rw e p
-
-pub answer-unread :
-    (s : PlanAnswer) (k : ℕ) (before after : List ℕ) (n : ℕ) → s ≡ Unread k → (Put before 0 (line_of (letters "unread") (k ∷ [])) after n) × (n ≤ longest_answer)
-    → (Put before 0 (plan_answer_line s) after n) × (n ≤ longest_answer)
-unfolding plan_answer_line
-answer-unread s k before after n e p = rw e p

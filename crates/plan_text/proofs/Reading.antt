@@ -14,7 +14,8 @@ use Rattle.text.specs.Decimal.{all, value}
 use Rattle.text.specs.Format.{is_number}
 use Rattle.text.specs.Input.{parse_number, length_to}
 use Rattle.text.specs.Output.{space}
-use Rattle.text.specs.declared.line.ParsedNumber.TheVariants.{Nothing, Value}
+use Rattle.std.proofs.Common.{Option, None, Some, Result, Ok, Err}
+use Rattle.std.specs.Result.{OkIff, result_ok}
 use Rattle.text.proofs.Lines.{mark-within}
 use Rattle.text.proofs.Numbers.{nothing-found, value_found}
 use Rattle.splitter.specs.Words.{words_in}
@@ -58,17 +59,26 @@ behind-none l at h = ap words_after (drop_of_length-le l h)
 
 -- BYTES
 
-pub byte-none : (w : List ℕ) → parse_number w ≡ Nothing → is_byte w ≡ false
+pub byte-none : (w : List ℕ) → parse_number w ≡ None → is_byte w ≡ false
 unfolding is_byte
 byte-none w e = rw (nothing-found w e)
 
-pub byte-large : (w : List ℕ) (n : ℕ) → parse_number w ≡ Value n → 255 < n → is_byte w ≡ false
+pub byte-large : (w : List ℕ) (n : ℕ) → parse_number w ≡ Some n → 255 < n → is_byte w ≡ false
 unfolding is_byte
 byte-large w n e h = let v = value_found w n e in rw v.0 (lt-leb (value w) 255 (omega (arith, h, v.1)))
 
-pub byte-found : (w : List ℕ) (n : ℕ) → parse_number w ≡ Value n → n ≤ 255 → is_byte w ≡ true
+pub byte-found : (w : List ℕ) (n : ℕ) → parse_number w ≡ Some n → n ≤ 255 → is_byte w ≡ true
 unfolding is_byte
 byte-found w n e h = let v = value_found w n e in rw v.0 (le-leb (value w) 255 (omega (arith, h, v.1)))
+
+-- a number as it is converted to a byte, or not
+pub converted : {E : Type 0} (r : Result ℕ E) (n b : ℕ) → OkIff r (n < 256) n → result_ok r ≡ Some b → (n < 256) × (b ≡ n)
+converted (Ok x) n b h e = let q : x ≡ b = cc in (h.0, sym q ∙ h.1)
+converted (Err x) n b h e = absurd cc
+
+pub not-converted : {E : Type 0} (r : Result ℕ E) (n : ℕ) → OkIff r (n < 256) n → result_ok r ≡ None → ¬ (n < 256)
+not-converted (Ok x) n h e = λ _. absurd cc
+not-converted (Err x) n h e = h
 
 -- NUMBERS READ AND WORDS LEFT
 
@@ -113,8 +123,8 @@ placed-more ns n h =
 -- the numbers in their places and their count are the whole row
 pub line_of :
     (t : ℕ) (ns places : List ℕ) (count : ℕ) → places ≡ pad_cells ns → count ≡ length ns
-    → ◌≡◌ {A = Line} (record { found = true; tick = t; count = count; cells = places }) (read_line (row_read t ns))
-line_of t ns places count p q = λ i. record { found = true; tick = t; count = q i; cells = p i }
+    → ◌≡◌ {A = Option Line} (Some (record { tick = t; count = count; cells = places })) (read_line (row_read t ns))
+line_of t ns places count p q = λ i. Some (record { tick = t; count = q i; cells = p i })
 
 -- THE FIRST WORD
 
@@ -122,11 +132,11 @@ pub row-split : (l : List ℕ) → row_in l ≡ cond (is_number (take (length_to
 unfolding row_of_words
 row-split l = ap row_of_words (words-split l)
 
-pub row-none : (l : List ℕ) → parse_number (take (length_to space l) l) ≡ Nothing → row_in l ≡ no_row
+pub row-none : (l : List ℕ) → parse_number (take (length_to space l) l) ≡ None → row_in l ≡ no_row
 row-none l e = row-split l ∙ rw (nothing-found (take (length_to space l) l) e)
 
 pub row-some :
-    (l : List ℕ) (t : ℕ) → parse_number (take (length_to space l) l) ≡ Value t
+    (l : List ℕ) (t : ℕ) → parse_number (take (length_to space l) l) ≡ Some t
     → row_in l ≡ cells_of t (take most_cells (words_after (drop (length_to space l) l)))
 row-some l t e =
     let v = value_found (take (length_to space l) l) t e in

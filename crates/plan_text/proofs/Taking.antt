@@ -11,7 +11,7 @@ use borrow.Author.Tests.{ne_eqb}
 use Rattle.model.specs.Sizes.{most_cores}
 use Rattle.table.specs.Answer.{answer_of, header_number}
 use Rattle.table.specs.Limits.{horizon_out}
-use Rattle.table.specs.declared.Answer.TheVariants as table
+use Rattle.table.specs.Answer as table
 use Rattle.table.proofs.Decide.{fails}
 use Rattle.plan_check.specs.Begin.{begin_of}
 use Rattle.plan_check.specs.Numbers.{StateOut, after_row, missed, state_out}

@@ -10,8 +10,8 @@ use lib.Seq.{take-length}
 use borrow.Author.Tests.{ne_eqb}
 use Rattle.model.specs.Sizes.{most_word}
 use Rattle.table.specs.Answer.{answer_of}
-use Rattle.table.specs.declared.Answer.{Answer}
-use Rattle.table.specs.declared.Answer.TheVariants as table
+use Rattle.table.specs.Answer.{Answer}
+use Rattle.table.specs.Answer as table
 use Rattle.text.specs.Decimal.{Digits, decimal}
 use Rattle.text.specs.Format.{largest, most_numbers, newline, numbers_in, text_of, words_of}
 use Rattle.text.proofs.Canonical.{text-read}

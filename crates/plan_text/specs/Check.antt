@@ -1,12 +1,12 @@
 -- The state of a check between two parts of its input, and its answer to the bytes to come.
-use Rattle.std.specs.Prelude.{Bool, false, true, List, [], ◌++◌, ◌≡◌, ◌-◌, ◌<◌, ℕ, ◌≤◌, drop, length}
+use Rattle.std.specs.Prelude.{Bool, false, true, Option, MatchOption, ⊤, List, [], ◌++◌, ◌≡◌, ◌-◌, ◌<◌, ℕ, ◌≤◌, drop, length}
 use Rattle.plan_check.specs.Extent.{Ready}
+use Rattle.plan_check.specs.declared.extent.Extent.{Extent}
 use Rattle.plan_check.specs.declared.SuppliedPlan.{SuppliedPlan}
 use Rattle.splitter.specs.Split.{InputEnd, lines_from, nothing, split, too_many, unknown}
 use Rattle.splitter.specs.Parts.{Comes}
 use Rattle.plan_text.specs.declared.Check.{Check}
 use Rattle.plan_text.specs.declared.Fed.{Fed}
-use Rattle.plan_text.specs.declared.KnownExtent.{KnownExtent}
 use Rattle.plan_text.specs.declared.PlanProgress.{PlanProgress}
 use Rattle.plan_text.specs.declared.PlanAnswer.{PlanAnswer}
 use Rattle.plan_text.specs.declared.PlanAnswer.TheVariants.{More}
@@ -15,8 +15,8 @@ use Rattle.plan_text.specs.declared.Stage.TheVariants.{Over, Plan, Table}
 use Rattle.plan_text.specs.Checked.{checked_of, answer_so_far, rows_answer, split_answer}
 
 -- this is the extent of the plan, where it is known
-abbrev pub ExtentKnown : KnownExtent → SuppliedPlan → Type 0
-ExtentKnown a w = a.known ≡ true → Ready w.run a.start a.horizon
+abbrev pub ExtentKnown : Option Extent → SuppliedPlan → Type 0
+ExtentKnown e w = MatchOption e ⊤ (λ a. Ready w.run a.start a.horizon)
 
 -- the answer to the bytes of a plan
 abbrev pub plan_answer : PlanProgress → InputEnd → List ℕ → PlanAnswer

@@ -1,10 +1,12 @@
 -- The answer to a table and a supplied plan: the table's text, a line `--`, and the lines of the plan, whose rows are taken one after another.
-use Rattle.std.specs.Prelude.{Bool, ◌&&◌, ◌||◌, cond, false, true, List, [], ◌∷◌, suc, ℕ, eqb, leb, ltb, length}
+use Rattle.std.specs.Prelude.{Bool, ◌&&◌, ◌||◌, cond, false, true, Result, Ok, Err, List, [], ◌∷◌, suc, ℕ, eqb, leb, ltb, length}
 use Rattle.model.specs.Sizes.{most_word}
-use Rattle.table.specs.declared.Answer.{Answer}
-use Rattle.table.specs.declared.Answer.TheVariants as table
+use Rattle.model.specs.declared.refusal.Refusal.{Refusal}
+use Rattle.model.specs.Refusal.{number_of, position_of}
+use Rattle.table.specs.Answer.{Answer}
+use Rattle.table.specs.Answer as table
 use Rattle.text.specs.Format.{numbers_in, words_of}
-use Rattle.plan_check.specs.Begin.{begin_of}
+use Rattle.plan_check.specs.Begin.{begin_of, empty_state}
 use Rattle.plan_check.specs.CheckRow.{check_row_of}
 use Rattle.plan_check.specs.declared.Answer as plan_check
 use Rattle.plan_check.specs.declared.Answer.TheVariants as answer
@@ -92,6 +94,11 @@ opened_by (table.Refused n p) plan = line_answer (rows_at plan 0 false) (Refused
 -- the answer to a table's text
 unfoldable pub opened_of : List ℕ → LineAnswer
 opened_of d = opened_by (begin_of (numbers_in (words_of d))).answer (begin_of (numbers_in (words_of d))).plan
+
+-- as code returns it: the plan before its first row; in a refusal one of all zeros
+abbrev pub opening : Result PlanProgress Refusal → LineAnswer
+opening (Ok r) = line_answer r More
+opening (Err e) = line_answer (rows_at empty_state 0 false) (Refused (number_of e) (position_of e))
 
 -- the answer to it and to the lines of a plan
 unfoldable pub opens : InputEnd → List ℕ → List (List ℕ) → PlanAnswer

@@ -1,5 +1,5 @@
 -- A line of a supplied plan: a row as the program prints it, the first line that it prints, or something else.
-use Rattle.std.specs.Prelude.{Bool, ◌&&◌, ◌||◌, cond, false, true, List, [], ◌++◌, map, ◌∷◌, ◌*◌, ◌+◌, ◌-◌, ℕ, leb, ltb, length, replicate, take}
+use Rattle.std.specs.Prelude.{Bool, ◌&&◌, ◌||◌, cond, Option, None, Some, List, [], ◌++◌, map, ◌∷◌, ◌*◌, ◌+◌, ◌-◌, ℕ, leb, ltb, length, replicate, take}
 use Rattle.model.specs.Sizes.{most_cores}
 use Rattle.text.specs.Decimal.{all, value}
 use Rattle.text.specs.Format.{is_number, most_digits}
@@ -51,7 +51,7 @@ is_verdict l = ltb (length l) long_line && (starts_with (letters "firm") l || (s
 abbrev pub pad_cells : List ℕ → List ℕ
 pad_cells ns = ns ++ replicate (most_cells - length ns) 0
 
--- a row with its numbers and their count; of a line that is none all is zero
-abbrev pub read_line : Read → Line
-read_line (row_read t ns) = record { found = true; tick = t; count = length ns; cells = pad_cells ns }
-read_line no_row = record { found = false; tick = 0; count = 0; cells = replicate most_cells 0 }
+-- a row with its numbers and their count; of a line that is none there is nothing
+abbrev pub read_line : Read → Option Line
+read_line (row_read t ns) = Some (record { tick = t; count = length ns; cells = pad_cells ns })
+read_line no_row = None

@@ -1,4 +1,5 @@
 // The line that is printed for an answer.
+// By hand: the bytes go into the caller's slice from a place on. The library's text without a heap, `InlineText`, has its own buffer.
 ghost use Rattle.std.specs.Prelude.{[], ◌∷◌, ◌≤◌, length};
 ghost use Rattle.text.specs.Output.{line_of};
 ghost use Rattle.text.specs.Written.{Put};
@@ -20,6 +21,7 @@ fn put_one(line: &mut [u8; LINE], word: &[u8], number: u32) -> usize
 }
 
 // Writes an answer; returns where it ends.
+#[tactic(auto, unfolding(crate::specs::Printed::plan_answer_line))]
 pub fn put(line: &mut [u8; LINE], answer: PlanAnswer) -> usize
     ensures { (Put line.old 0 (plan_answer_line answer) line.new result) × (result ≤ longest_answer) }
 {

@@ -1,17 +1,19 @@
 // A supplied plan as text, checked as it comes: the table, a line `--`, and the plan's lines, whose rows are taken one after another.
 #![tactic(auto)]
 
-ghost use Rattle.std.specs.Prelude.{◌≡◌, ◌≤◌, length};
+ghost use Rattle.std.specs.Prelude.{false, ◌≡◌, ◌≤◌, length};
 ghost use Rattle.plan_check.specs.CheckRow.{check_row_of};
 ghost use Rattle.splitter.specs.Split.{nothing};
 ghost use Rattle.plan_text.specs.declared.Stage.TheVariants.{Table};
-ghost use Rattle.plan_text.specs.Checked.{next_line, skipped, refusal_answer, row_entered, step_of, is_more, opened_of, end_answer};
+ghost use Rattle.plan_text.specs.Checked.{next_line, skipped, refusal_answer, row_entered, step_of, is_more, opened_of, opening, rows_at, end_answer};
 ghost use Rattle.plan_text.specs.Check.{ExtentKnown, plan_answer, answer_in, is_over, over_with, plan_with, FedBy, FedOf, NewOf};
 
 pub mod line; // line.rt: the row in a line
 pub mod answer_text; // answer_text.rt: the line that is printed
 
-use plan_check::{Answer, Entered, SuppliedPlan};
+use model::Refusal;
+use plan_check::extent::Extent;
+use plan_check::{Answer, Entered, SuppliedPlan, begins};
 
 // The answer: more lines are needed; the plan is accepted; rows are missing from this tick on; a fault with its number and tick; refused with number
 // and position; or the line with this number is no row.
@@ -40,15 +42,8 @@ pub struct LineAnswer {
     pub answer: PlanAnswer,
 }
 
-// The extent of a plan, computed once for all its rows: the last S and the horizon, known where neither 14 nor 9 turns it down.
-#[derive(Clone, Copy)]
-pub struct KnownExtent {
-    pub known: bool,
-    pub start: u32,
-    pub horizon: u32,
-}
-
 // What the next bytes are read as: the table, the plan, or nothing any more.
+// Like session's, but what follows the table differs.
 #[derive(Clone, Copy)]
 pub enum Stage {
     Table,
@@ -75,10 +70,11 @@ pub struct Fed {
 fn next_line(lines: u32) -> u32
     ensures { result ≡ next_line lines }
 {
-    if lines < u32::MAX { lines + 1 } else { lines }
+    lines.saturating_add(1)
 }
 
 // Whether a line is skipped: the first where it is a verdict's, and an empty one after the last row.
+#[tactic(auto, unfolding(crate::specs::Checked::skipped))]
 fn passes(rows: PlanProgress, line: &[u8]) -> bool
     ensures { result ≡ skipped rows line.now }
 {
@@ -100,90 +96,59 @@ fn refusal_of(number: u32, tick: u32) -> PlanAnswer
 fn enter(row: Entered, lines: u32) -> LineAnswer
     ensures { result ≡ row_entered row.answer row.plan lines }
 {
-    let answer = row.answer;
-    let plan = row.plan;
-    match answer {
-        Answer::Taken => LineAnswer {
-            rows: PlanProgress {
-                plan: plan,
-                lines: lines,
-                accepted: false,
-            },
-            answer: PlanAnswer::More,
+    let (accepted, answer) = match row.answer {
+        Answer::Taken => (false, PlanAnswer::More),
+        Answer::Accepted => (true, PlanAnswer::More),
+        Answer::Refused(number, tick) => (false, refusal_of(number, tick)),
+    };
+    LineAnswer {
+        rows: PlanProgress {
+            plan: row.plan,
+            lines,
+            accepted,
         },
-        Answer::Accepted => LineAnswer {
-            rows: PlanProgress {
-                plan: plan,
-                lines: lines,
-                accepted: true,
-            },
-            answer: PlanAnswer::More,
-        },
-        Answer::Refused(number, tick) => {
-            let answer = refusal_of(number, tick);
-            LineAnswer {
-                rows: PlanProgress {
-                    plan: plan,
-                    lines: lines,
-                    accepted: false,
-                },
-                answer: answer,
-            }
-        }
+        answer,
     }
 }
 
-// The extent of a plan.
-fn extent_of(plan: SuppliedPlan) -> KnownExtent
+// The extent of a plan, computed once for all its rows; none where 14 or 9 turns it down.
+fn extent_of(plan: SuppliedPlan) -> Option<Extent>
     ensures { ExtentKnown result plan }
 {
-    let found = plan.extent();
-    KnownExtent {
-        known: found.number == 0,
-        start: found.start,
-        horizon: found.horizon,
-    }
+    plan.extent().ok()
 }
 
 // Takes a row of a plan with this extent.
-fn take(plan: SuppliedPlan, extent: KnownExtent, row: &[u8]) -> Entered
+fn take(plan: SuppliedPlan, extent: Option<Extent>, row: &[u8]) -> Entered
     requires { ExtentKnown extent plan }
     ensures { (result ≡ check_row_of plan row.now) × ExtentKnown extent result.plan }
 {
-    if extent.known {
-        return plan.enter(extent.start, extent.horizon, row);
+    match extent {
+        Some(known) => plan.enter(known.start, known.horizon, row),
+        None => plan.check_row(row),
     }
-    plan.check_row(row)
 }
 
 // The answer to a line of a plan with this extent, and the plan after it.
-fn step(rows: PlanProgress, extent: KnownExtent, bytes: &[u8]) -> LineAnswer
+fn step(rows: PlanProgress, extent: Option<Extent>, bytes: &[u8]) -> LineAnswer
     requires { ExtentKnown extent rows.plan }
     ensures { (result ≡ step_of rows bytes.now) × ExtentKnown extent result.rows.plan }
 {
-    let plan = rows.plan;
     let lines = next_line(rows.lines);
     if passes(rows, bytes) {
         return LineAnswer {
-            rows: PlanProgress {
-                plan: plan,
-                lines: lines,
-                accepted: rows.accepted,
-            },
+            rows: PlanProgress { lines, ..rows },
             answer: PlanAnswer::More,
         };
     }
-    let read = line::read(bytes);
-    if read.found {
-        if read.tick == plan.tick {
-            let cells = read.cells;
-            let count = read.count;
-            return enter(take(plan, extent, &cells[..count]), lines);
+    match line::read(bytes) {
+        Some(row) if row.tick == rows.plan.tick => {
+            enter(take(rows.plan, extent, &row.cells[..row.count]), lines)
         }
-    }
-    LineAnswer {
-        rows: rows,
-        answer: PlanAnswer::Unread(lines),
+        _ => LineAnswer {
+            rows,
+            answer: PlanAnswer::Unread(lines),
+        },
     }
 }
 
@@ -191,14 +156,7 @@ fn step(rows: PlanProgress, extent: KnownExtent, bytes: &[u8]) -> LineAnswer
 pub fn is_more(answer: PlanAnswer) -> bool
     ensures { result ≡ is_more answer }
 {
-    match answer {
-        PlanAnswer::More => true,
-        PlanAnswer::Accepted => false,
-        PlanAnswer::Unfinished(_) => false,
-        PlanAnswer::Fault(_, _) => false,
-        PlanAnswer::Refused(_, _) => false,
-        PlanAnswer::Unread(_) => false,
-    }
+    matches!(answer, PlanAnswer::More)
 }
 
 // A check with its answer.
@@ -208,10 +166,10 @@ fn over(rows: PlanProgress, answer: PlanAnswer, taken: usize) -> Fed
     Fed {
         check: Check {
             stage: Stage::Over,
-            rows: rows,
-            answer: answer,
+            rows,
+            answer,
         },
-        taken: taken,
+        taken,
     }
 }
 
@@ -222,22 +180,22 @@ fn going(rows: PlanProgress, taken: usize) -> Fed
     Fed {
         check: Check {
             stage: Stage::Plan,
-            rows: rows,
+            rows,
             answer: PlanAnswer::More,
         },
-        taken: taken,
+        taken,
     }
 }
 
 // The answer after the last line.
+#[tactic(auto, unfolding(crate::specs::Checked::end_answer))]
 fn end_rows(rows: PlanProgress) -> PlanAnswer
     ensures { result ≡ end_answer nothing rows }
 {
     if rows.accepted {
         return PlanAnswer::Accepted;
     }
-    let plan = rows.plan;
-    PlanAnswer::Unfinished(plan.tick)
+    PlanAnswer::Unfinished(rows.plan.tick)
 }
 
 // The plan's lines from a place on: each line that has ended, one that is so long that it is decided, and at the end of the input the last one.
@@ -248,18 +206,17 @@ fn feed_plan(start: PlanProgress, bytes: &[u8], from: usize, ended: bool) -> Fed
     let extent = extent_of(start.plan);
     let mut rows = start;
     let mut at = from;
+    // A loop over the lines is no plainer: what is left begins where the last whole line ends, and is returned.
     while at < bytes.len() {
         let part = splitter::line(&bytes[at..], line::LONG, ended);
-        if part.whole {} else {
+        if !part.whole {
             return going(rows, at);
         }
         let reply = step(rows, extent, &bytes[at..at + part.end]);
-        let next = reply.rows;
-        let answer = reply.answer;
-        if is_more(answer) {} else {
-            return over(next, answer, at + part.next);
+        if !is_more(reply.answer) {
+            return over(reply.rows, reply.answer, at + part.next);
         }
-        rows = next;
+        rows = reply.rows;
         at += part.next;
     }
     if ended {
@@ -268,34 +225,24 @@ fn feed_plan(start: PlanProgress, bytes: &[u8], from: usize, ended: bool) -> Fed
     going(rows, at)
 }
 
-// The answer to a table's text, and its plan before the first row.
-fn begin(table: &[u8]) -> LineAnswer
-    ensures { result ≡ opened_of table.now }
+// A plan before its first row.
+fn before_rows(plan: SuppliedPlan) -> PlanProgress
+    ensures { result ≡ rows_at plan 0 false }
+{
+    PlanProgress {
+        plan,
+        lines: 0,
+        accepted: false,
+    }
+}
+
+// The plan of a table's text before its first row, or why the table is refused.
+fn begin(table: &[u8]) -> Result<PlanProgress, Refusal>
+    ensures { opening result ≡ opened_of table.now }
 {
     let input = text::read(table);
-    let words = input.words;
-    let count = input.count;
-    let begun = plan_check::begin(&words[..count]);
-    let answer = begun.answer;
-    let plan = begun.plan;
-    match answer {
-        table::Answer::Passed => LineAnswer {
-            rows: PlanProgress {
-                plan: plan,
-                lines: 0,
-                accepted: false,
-            },
-            answer: PlanAnswer::More,
-        },
-        table::Answer::Refused(number, position) => LineAnswer {
-            rows: PlanProgress {
-                plan: plan,
-                lines: 0,
-                accepted: false,
-            },
-            answer: PlanAnswer::Refused(number, position),
-        },
-    }
+    let plan = plan_check::begin(&input.words[..input.count])?;
+    Ok(before_rows(plan))
 }
 
 // The table and the line `--`, once it has ended, and the bytes of the plan after it.
@@ -304,19 +251,16 @@ fn feed_table(check: Check, bytes: &[u8], ended: bool) -> Fed
     ensures { FedBy (answer_in Table check) 0 ended bytes.now result }
 {
     let part = splitter::table(bytes, ended);
-    if part.whole {
-        let end = part.end;
-        let opened = begin(&bytes[..end]);
-        let rows = opened.rows;
-        let answer = opened.answer;
-        if is_more(answer) {
-            return feed_plan(rows, bytes, part.next, ended);
-        }
-        return over(rows, answer, bytes.len());
+    if !part.whole {
+        return Fed { check, taken: 0 };
     }
-    Fed {
-        check: check,
-        taken: 0,
+    match begin(&bytes[..part.end]) {
+        Ok(rows) => feed_plan(rows, bytes, part.next, ended),
+        Err(refusal) => over(
+            check.rows,
+            PlanAnswer::Refused(refusal.number(), refusal.position()),
+            bytes.len(),
+        ),
     }
 }
 
@@ -325,12 +269,9 @@ impl Check {
     pub fn new() -> Check
         ensures { NewOf result }
     {
-        let none = [0u8; 1];
-        let opened = begin(&none);
-        let rows = opened.rows;
         Check {
             stage: Stage::Table,
-            rows: rows,
+            rows: before_rows(begins::empty()),
             answer: PlanAnswer::More,
         }
     }
@@ -340,8 +281,7 @@ impl Check {
     pub fn feed(self, bytes: &[u8], ended: bool) -> Fed
         ensures { FedOf self ended bytes.now result }
     {
-        let stage = self.stage;
-        match stage {
+        match self.stage {
             Stage::Table => feed_table(self, bytes, ended),
             Stage::Plan => feed_plan(self.rows, bytes, 0, ended),
             Stage::Over => Fed {
@@ -355,11 +295,6 @@ impl Check {
     pub fn is_over(self) -> bool
         ensures { result ≡ is_over self.stage }
     {
-        let stage = self.stage;
-        match stage {
-            Stage::Table => false,
-            Stage::Plan => false,
-            Stage::Over => true,
-        }
+        matches!(self.stage, Stage::Over)
     }
 }

@@ -14,6 +14,7 @@ use Rattle.table.specs.Answer.{header_number, last_step, ending_of, first_out, b
 use Rattle.table.specs.Load.{load_of}
 use Rattle.table.specs.Words.{visited, count, chain, table_of}
 use Rattle.table.specs.declared.Loaded.{Loaded}
+use Rattle.std.specs.Prelude.{Result, Ok, Err}
 use Rattle.simulation.specs.Machine.{with_release, released_due, earliest, worked_tick}
 use Rattle.simulation.specs.Places.{map_places, set_where}
 use Rattle.simulation.specs.TickState.{paired_in, loaded_numbers, initial_tick_state, after_events, next_event_after, even_at_tick, granted_at, next_tick_state}
@@ -70,10 +71,15 @@ texts = refl
 abbrev pub stepped : Loaded → ℕ → List ℕ
 stepped t k = lines_in (loaded_numbers t) k (initial_tick_state t) (row_text_of (loaded_numbers t) 0 (initial_tick_state t).even)
 
+-- .. of a table that passes
+abbrev pub stepped_in : Result Loaded (ℕ × ℕ) → ℕ → List ℕ
+stepped_in (Ok t) k = stepped t k
+stepped_in (Err e) k = []
+
 abbrev rows : Print → List ℕ
 rows p = letters p.lines
 
-pub runs : map (λ p. stepped (load_of p.words) p.rows) prints ≡ map (λ p. letters p.lines) prints
+pub runs : map (λ p. stepped_in (load_of p.words) p.rows) prints ≡ map (λ p. letters p.lines) prints
 unfolding lines_in line_in text_in cells next_tick_state after_events next_event_after even_at_tick granted_at paired_in with_release released_due earliest worked_tick map_places set_where widths_in fields decimal
     last_digits digit_count digits_within load_of answer_of by_walk by_tasks by_horizon first_out ending_of last_step header_number table_of chain count visited horizon S
     hyperperiod lcm least any filtered member up_from owner row given left grants claimants

@@ -1,12 +1,15 @@
 -- The meaning of a valid printer: its numbers in their limits, and its run one that can be stepped.
-use mathlib.Core.Path.{◌≡◌, refl}
+use mathlib.Core.Path.{◌≡◌, refl, sym, ap, ap₂, ◌∙◌}
 use mathlib.Core.Bool.{Bool, true, false, not, ◌&&◌}
 use mathlib.Core.List.{map}
 use Prim.Native.Nat.{ℕ, ◌≤◌, ◌<◌}
 use native.Mathlib.Omega.{arith}
-use lib.Dec.{leb}
-use lib.ListN.{length, get_or, get_or-map}
-use borrow.Author.Tests.{leb-true, le-leb, lt-leb, not-true}
+use lib.Dec.{leb, eqb}
+use lib.Seq.{get_or-take, length-take-le}
+use lib.ListN.{length, get_or, take, get_or-map}
+use Rattle.std.specs.Bool.{MatchBool}
+use Rattle.std.specs.List.{AllWithin, HoldsAt}
+use borrow.Author.Tests.{leb-true, le-leb, lt-leb, not-true, ne_eqb}
 use Rattle.model.specs.Fence.{unfenced_count}
 use Rattle.model.specs.Search.{any}
 use Rattle.model.proofs.Bools.{and_left, and_right, and_both}
@@ -16,7 +19,7 @@ use Rattle.table.specs.declared.Loaded.{Loaded}
 use Rattle.table.specs.declared.Task.{Task}
 use Rattle.table.specs.Task.{task_of, no_task}
 use Rattle.table.proofs.Inside.{inside-test}
-use Rattle.table.specs.Limits.{most_horizon, most_time}
+use Rattle.table.specs.Limits.{task_number, most_horizon, most_time}
 use Rattle.simulation.specs.Places.{segment}
 use Rattle.simulation.specs.Machine.{machine_of, Sized}
 use Rattle.simulation.specs.TickState.{loaded_numbers}
@@ -119,6 +122,28 @@ module _ (t : Loaded) where
 
   pub none_out : t.count ≤ most_tasks → t.cores ≤ most_cores → ((i : ℕ) → i < t.count → out_at t i ≡ false) → table_valid t ≡ true
   none_out k l f = table-by true true false (le-leb t.count most_tasks k) (le-leb t.cores most_cores l) (none_any t.count (out_at t) f)
+
+  -- .. of the tasks below the count at once
+  pub valid_all :
+      (wide : ℕ) (r : Bool) → t.count ≤ most_tasks → t.cores ≤ most_cores → t.count ≤ length t.tasks → wide ≡ unfenced_count t.fence t.cores
+      → MatchBool r (AllWithin (λ x. task_number wide (task_of x) ≡ 0) (take t.count t.tasks) 0 (length (take t.count t.tasks)))
+      ((k : ℕ) × (k < length (take t.count t.tasks)) × HoldsAt (λ x. task_number wide (task_of x) ≡ 0 → ⊥) (take t.count t.tasks) k)
+      → r ≡ table_valid t
+  valid_all wide r k l n e h = go r h
+    where
+      here : (i : ℕ) → i < t.count → task_number wide (task_of (get_or (take t.count t.tasks) i no_task)) ≡ task_number (unfenced_count t.fence t.cores) (task_of (get_or t.tasks i no_task))
+      here i b = ap₂ (λ (m : ℕ) (x : Task). task_number m (task_of x)) e (get_or-take t.count t.tasks i no_task b)
+
+      go :
+          (r : Bool)
+          → MatchBool r (AllWithin (λ x. task_number wide (task_of x) ≡ 0) (take t.count t.tasks) 0 (length (take t.count t.tasks)))
+          ((k : ℕ) × (k < length (take t.count t.tasks)) × HoldsAt (λ x. task_number wide (task_of x) ≡ 0 → ⊥) (take t.count t.tasks) k)
+          → r ≡ table_valid t
+      go true h =
+          sym (none_out k l (λ i b. ap (λ (m : ℕ). not (eqb m 0)) (sym (here i b) ∙ h i no_task (omega arith) (omega (arith, length-take-le t.count t.tasks n)))))
+      go false h =
+          let b : h.0 < t.count = omega (arith, h.1, length-take-le t.count t.tasks n) in
+          sym (task-out k l h.0 b (ap not (ne_eqb (task_number (unfenced_count t.fence t.cores) (task_of (get_or t.tasks h.0 no_task))) 0 (λ z. h.2 no_task (here h.0 b ∙ z)))))
 
 -- A VALID RUN
 

@@ -22,13 +22,14 @@ use Rattle.model.specs.Verdict as model
 use Rattle.model.proofs.Horizon.{horizon-enough}
 use Rattle.model.proofs.Verdict.{verdict-exact}
 use Rattle.model.specs.Sizes.{most_cores, most_tasks}
-use Rattle.table.specs.declared.Answer.{Answer}
-use Rattle.table.specs.declared.Answer.TheVariants.{Passed, Refused}
+use Rattle.table.specs.Answer.{Answer}
+use Rattle.table.specs.Answer.{Passed, Refused}
 use Rattle.table.specs.declared.Loaded.{Loaded}
 use Rattle.table.specs.Words.{core_count, fence, table_of}
 use Rattle.table.specs.Answer.{answer_of, header_number}
-use Rattle.table.specs.Load.{load_meaning, LoadOf, refusal}
-use Rattle.table.proofs.Exact.{refusal-exact, passed-exact}
+use Rattle.table.specs.Load.{LoadedAs}
+use Rattle.table.specs.Numbers.{NoneApplies}
+use Rattle.table.proofs.Exact.{passed-exact}
 use Rattle.table.specs.Limits.{InRange, OneOut, task_out}
 use Rattle.table.specs.Task.{task_of, no_task}
 use Rattle.table.proofs.Inside.{Inside}
@@ -55,7 +56,7 @@ use Rattle.printer.specs.Cells.{cells}
 use Rattle.text.specs.FirstLine.{end_of}
 use Rattle.printer.specs.Rows.{row_text_of, lines_in}
 use Rattle.printer.specs.Valid.{out_at, table_valid, owed, within, valid}
-use Rattle.printer.specs.Printer.{run_state_of, text_kept, remaining, PrinterStartOf, WordsPrinter, MadeFrom}
+use Rattle.printer.specs.Printer.{run_state_of, text_kept, remaining, PrinterStartOf, WordsPrinter, MadeFrom, no_table}
 use Rattle.text.specs.declared.Input.{Input}
 use Rattle.printer.specs.declared.Printer.{Printer}
 use Rattle.text.proofs.Writing.{put_front}
@@ -135,16 +136,8 @@ module _
 -- THE WORDS
 
 -- what was loaded is small enough to be printed
-pub load-small : (ws : List ℕ) (r : Loaded) → LoadOf ws r → (r.cores ≤ most_cores) × (r.count ≤ most_tasks)
-load-small ws r l = go r.answer refl
-  where
-    go : (a : Answer) → r.answer ≡ a → (r.cores ≤ most_cores) × (r.count ≤ most_tasks)
-    go Passed e =
-        let h = l.holds (ap load_meaning e) in
-        (omega (arith, h.cores, (passed-cores ws (l.passed.0 (ap load_meaning e))).1), h.count-from.1)
-    go (Refused n p) e =
-        let z : r ≡ refusal n p = l.zeros n p (ap load_meaning e) in
-        (omega (arith, ap (λ (x : Loaded). x.cores) z), omega (arith, ap (λ (x : Loaded). x.count) z))
+pub load-small : (ws : List ℕ) (r : Loaded) → LoadedAs ws r → NoneApplies ws → (r.cores ≤ most_cores) × (r.count ≤ most_tasks)
+load-small ws r h none = (omega (arith, h.cores, (passed-cores ws none).1), h.count-from.1)
 
 -- a width that is within its limits
 one_in : (m v : ℕ) → InRange 1 m v → ¬ OneOut m v
@@ -160,20 +153,20 @@ inside-in m τ i =
     ((task-decides m τ).0 e))
 
 -- and what was loaded is valid
-load-valid : (ws : List ℕ) (r : Loaded) → LoadOf ws r → table_valid r ≡ true
-load-valid ws r l = go r.answer refl
+load-valid : (ws : List ℕ) (r : Loaded) → LoadedAs ws r → NoneApplies ws → table_valid r ≡ true
+load-valid ws r h none = none_out r (load-small ws r h none).1 (load-small ws r h none).0 in-limits
   where
-    go : (a : Answer) → r.answer ≡ a → table_valid r ≡ true
-    go Passed e = none_out r (load-small ws r l).1 (load-small ws r l).0 in-limits
-      where
-        in-limits : (p : ℕ) → p < r.count → out_at r p ≡ false
-        in-limits p b =
-            let h = l.holds (ap load_meaning e) in
-            let i = passed-inside ws (l.passed.0 (ap load_meaning e)) p (omega (arith, h.count)) in
-            let same : task_of (get_or r.tasks p no_task) ≡ task (table_of ws) p =
-            sym (task-at r.tasks r.count p b) ∙ ap (λ (τs : List plain.Task). get_or τs p plain.absent_task) h.tasks in
-            ap₂ (λ (m : ℕ) (τ : plain.Task). task_out m τ) (ap₂ unfenced_count h.fence h.cores) same ∙ inside-in (unfenced_count (fence ws) (core_count ws)) (task (table_of ws) p) i
-    go (Refused n p) e = subst⁻¹ (λ (x : Loaded). table_valid x ≡ true) (l.zeros n p (ap load_meaning e)) (unfold table_valid any in refl)
+    in-limits : (p : ℕ) → p < r.count → out_at r p ≡ false
+    in-limits p b =
+        let i = passed-inside ws none p (omega (arith, h.count)) in
+        let same : task_of (get_or r.tasks p no_task) ≡ task (table_of ws) p =
+        sym (task-at r.tasks r.count p b) ∙ ap (λ (τs : List plain.Task). get_or τs p plain.absent_task) h.tasks in
+        ap₂ (λ (m : ℕ) (τ : plain.Task). task_out m τ) (ap₂ unfenced_count h.fence h.cores) same ∙ inside-in (unfenced_count (fence ws) (core_count ws)) (task (table_of ws) p) i
+
+-- so is one without tasks
+none-valid : table_valid no_table ≡ true
+unfolding table_valid any
+none-valid = refl
 
 end-case : (v : model.Verdict) (h : ℕ) → end_of (verdict_case (judged v)) h ≡ rows_printed v h
 end-case (model.Firm a b) h = refl
@@ -196,65 +189,62 @@ rows-met s ok (model.Miss t p) e = (inside, first.no-earlier)
         let near : ¬ (horizon s < t) = λ far. horizon-enough s ok (λ q u l. first.no-earlier q u (omega arith)) first.place.0 t first.missed in
         omega arith
 
-pub words-made :
-    (ws : List ℕ) (r : Loaded) (v : Verdict) (p : Printer) → LoadOf ws r → Judged ws v → PrinterStartOf r (end_of v r.horizon) v p → WordsPrinter ws p
-words-made ws r v p l j s = go r.answer refl
+-- of words that pass: the verdict's line, and the rows
+pub passed-made :
+    (ws : List ℕ) (r : Loaded) (v : Verdict) (p : Printer) → LoadedAs ws r → NoneApplies ws → Judged ws v → PrinterStartOf r (end_of v r.horizon) v p
+    → WordsPrinter ws p
+passed-made ws r v p h free j s = record {
+  valid = ok;
+  whole =
+      rest-valid p ok ∙ s.whole (λ l. (f, near, λ q u b. rows.1 q u (subst (λ (x : ℕ). u < x) ends b)))
+      ∙ ap₂ (λ (x : Verdict) (n : ℕ). first_line (verdict_meaning x) ++ row_lines (loaded_table r) 0 n) is ends
+      ∙ ap (λ (x : JudgeAnswer). first_line x ++ row_lines (loaded_table r) 0 (rows_printed (verdict (loaded_table r)) (horizon (loaded_table r)))) (meaning-case (judged (verdict (loaded_table r))))
+      ∙ printed-is (loaded_table r) ∙ ap printed (same-table ws r h free)
+      ∙ sym (ap (λ (a : Answer). printed_by a (table_of ws)) passes);
+}
   where
-    go : (a : Answer) → r.answer ≡ a → WordsPrinter ws p
-    go Passed e = record {
-      valid = ok;
-      whole =
-          rest-valid p ok ∙ s.whole (λ h. (f, near, λ q u b. rows.1 q u (subst (λ (x : ℕ). u < x) ends b)))
-          ∙ ap₂ (λ (x : Verdict) (n : ℕ). first_line (verdict_meaning x) ++ row_lines (loaded_table r) 0 n) is ends
-          ∙ ap (λ (x : JudgeAnswer). first_line x ++ row_lines (loaded_table r) 0 (rows_printed (verdict (loaded_table r)) (horizon (loaded_table r)))) (meaning-case (judged (verdict (loaded_table r))))
-          ∙ printed-is (loaded_table r) ∙ ap printed (same-table ws r l e)
-          ∙ sym (ap (λ (a : Answer). printed_by a (table_of ws)) passes);
-    }
-      where
-        f : Fit r
-        f = fit ws r l e
+    f : Fit r
+    f = fit ws r h free
 
-        passes : answer_of ws ≡ Passed
-        passes = (passed-exact ws).1 (l.passed.0 (ap load_meaning e))
+    passes : answer_of ws ≡ Passed
+    passes = (passed-exact ws).1 free
 
-        is : v ≡ verdict_case (judged (verdict (loaded_table r)))
-        is = j.value ∙ passed_is ws passes ∙ ap (λ (x : Table). verdict_case (judged (verdict x))) (sym (same-table ws r l e))
+    is : v ≡ verdict_case (judged (verdict (loaded_table r)))
+    is = j.value ∙ passed_is ws passes ∙ ap (λ (x : Table). verdict_case (judged (verdict x))) (sym (same-table ws r h free))
 
-        rows : (rows_printed (verdict (loaded_table r)) (horizon (loaded_table r)) ≤ horizon (loaded_table r)) × ((q u : ℕ) → u < rows_printed (verdict (loaded_table r)) (horizon (loaded_table r)) → ¬ Missed (loaded_table r) q u)
-        rows = rows-met (loaded_table r) f.valid (verdict (loaded_table r)) refl
+    rows : (rows_printed (verdict (loaded_table r)) (horizon (loaded_table r)) ≤ horizon (loaded_table r)) × ((q u : ℕ) → u < rows_printed (verdict (loaded_table r)) (horizon (loaded_table r)) → ¬ Missed (loaded_table r) q u)
+    rows = rows-met (loaded_table r) f.valid (verdict (loaded_table r)) refl
 
-        ends : end_of v r.horizon ≡ rows_printed (verdict (loaded_table r)) (horizon (loaded_table r))
-        ends = ap₂ (λ (x : Verdict) (h : ℕ). end_of x h) is f.horizon ∙ end-case (verdict (loaded_table r)) (horizon (loaded_table r))
+    ends : end_of v r.horizon ≡ rows_printed (verdict (loaded_table r)) (horizon (loaded_table r))
+    ends = ap₂ (λ (x : Verdict) (h : ℕ). end_of x h) is f.horizon ∙ end-case (verdict (loaded_table r)) (horizon (loaded_table r))
 
-        near : end_of v r.horizon ≤ r.horizon
-        near = omega (arith, ends, rows.0, f.horizon)
+    near : end_of v r.horizon ≤ r.horizon
+    near = omega (arith, ends, rows.0, f.horizon)
 
-        ok : valid p ≡ true
-        ok = s.valid (load-valid ws r l) (omega (arith, near, (l.holds (ap load_meaning e)).horizon-most))
+    ok : valid p ≡ true
+    ok = s.valid (load-valid ws r h free) (omega (arith, near, h.horizon-most))
 
-        printed-is : (x : Table) → first_line (judged (verdict x)) ++ row_lines x 0 (rows_printed (verdict x) (horizon x)) ≡ printed x
-        printed-is x = unfold printed in refl
-    go (Refused n q) e = record {
-      valid = ok;
-      whole =
-          rest-valid p ok ∙ s.whole (λ h. absurd (omega (arith, ends))) ∙ ap₂ (λ (x : Verdict) (m : ℕ). first_line (verdict_meaning x) ++ row_lines (loaded_table r) 0 m) is ends
-          ∙ none ∙ sym (ap (λ (a : Answer). printed_by a (table_of ws)) refuses);
-    }
-      where
-        refuses : answer_of ws ≡ Refused n q
-        refuses = (refusal-exact ws n q).1 ((l.refused n q).0 (ap load_meaning e))
+    printed-is : (x : Table) → first_line (judged (verdict x)) ++ row_lines x 0 (rows_printed (verdict x) (horizon x)) ≡ printed x
+    printed-is x = unfold printed in refl
 
-        is : v ≡ judge.Refused n q
-        is = j.value ∙ refused-is ws n q refuses
+-- of words that are refused: the verdict's line alone
+pub refused-made :
+    (ws : List ℕ) (n q : ℕ) → answer_of ws ≡ Refused n q → (v : Verdict) (p : Printer) → Judged ws v → PrinterStartOf no_table 0 v p → WordsPrinter ws p
+refused-made ws n q refuses v p j s = record {
+  valid = ok;
+  whole =
+      rest-valid p ok ∙ s.whole (λ l. absurd (omega arith)) ∙ ap (λ (x : Verdict). first_line (verdict_meaning x) ++ row_lines (loaded_table no_table) 0 0) is
+      ∙ none ∙ sym (ap (λ (a : Answer). printed_by a (table_of ws)) refuses);
+}
+  where
+    is : v ≡ judge.Refused n q
+    is = j.value ∙ refused-is ws n q refuses
 
-        ends : end_of v r.horizon ≡ 0
-        ends = ap (λ (x : Verdict). end_of x r.horizon) is
+    ok : valid p ≡ true
+    ok = s.valid none-valid (omega arith)
 
-        ok : valid p ≡ true
-        ok = s.valid (load-valid ws r l) (omega (arith, ends))
-
-        none : first_line (refused n q) ++ row_lines (loaded_table r) 0 0 ≡ first_line (refused n q)
-        none = unfold row_lines in append-nil (first_line (refused n q))
+    none : first_line (refused n q) ++ row_lines (loaded_table no_table) 0 0 ≡ first_line (refused n q)
+    none = unfold row_lines in append-nil (first_line (refused n q))
 
 -- THE BYTES
 

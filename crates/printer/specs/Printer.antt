@@ -1,10 +1,12 @@
 -- The bytes that a printer has left, and the contract of each piece, for every printer, valid or not.
-use Rattle.std.specs.Prelude.{true, false, cond, List, [], ◌++◌, ◌≡◌, ℕ, ◌-◌, ◌≤◌, ◌<◌, min, length, take, drop}
+use Rattle.std.specs.Prelude.{true, false, cond, List, [], ◌++◌, ◌≡◌, ℕ, ◌-◌, ◌≤◌, ◌<◌, min, length, replicate, take, drop}
 use Rattle.model.specs.Lists.{Missed}
+use Rattle.model.specs.Sizes.{most_tasks}
 use Rattle.table.specs.declared.Loaded.{Loaded}
 use Rattle.table.specs.Words.{table_of}
 use Rattle.table.specs.Answer.{answer_of}
 use Rattle.table.specs.Limits.{most_horizon}
+use Rattle.table.specs.Task.{no_task}
 use Rattle.simulation.specs.TickState.{Numbers, loaded_numbers, TickState, tick_state_of, next_tick_state}
 use Rattle.judge.specs.declared.Verdict.{Verdict}
 use Rattle.table.specs.Fit.{loaded_table, Fit}
@@ -61,6 +63,19 @@ pub record PrinterStartOf (t : Loaded) (e : ℕ) (v : Verdict) (p : Printer) : T
   pub whole :
       (0 < e → Fit t × (e ≤ t.horizon) × ((q u : ℕ) → u < e → ¬ Missed (loaded_table t) q u))
       → remaining p ≡ first_line (verdict_meaning v) ++ row_lines (loaded_table t) 0 e
+
+-- a table without tasks, which stands in a printer that has no rows
+abbrev pub no_table : Loaded
+no_table = record {
+  count = 0;
+  cores = 0;
+  fence = 0;
+  rule = 0;
+  tasks = replicate most_tasks no_task;
+  start = 0;
+  period = 0;
+  horizon = 0;
+}
 
 -- of a table's words
 pub record WordsPrinter (ws : List ℕ) (p : Printer) : Type 0 where

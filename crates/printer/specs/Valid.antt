@@ -1,6 +1,6 @@
 -- When a printer is valid: its numbers are in the limits within which it can be stepped. `Printer::new` returns valid ones, a piece leaves a valid one
 -- valid, and an invalid one, made by its caller, has no bytes left. The next event, the events, the next releases, the places at their second width, the
--- texts and the rule are not tested, and the fence only where 7 limits a width: any values of them determine some rows. The table's answer,
+-- texts and the rule are not tested, and the fence only where 7 limits a width: any values of them determine some rows. The table's
 -- S, P and horizon are not read.
 use Rattle.std.specs.Prelude.{Bool, true, not, ◌&&◌, List, ◌≡◌, ℕ, ◌≤◌, ◌<◌, eqb, ltb, leb, get_or}
 use Rattle.std.specs.Int.Bits.{bit_and}

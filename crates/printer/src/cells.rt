@@ -1,4 +1,5 @@
 // The text of a row's cores, from the set of places that claim.
+// The rule is a number, since a printer has a table of any rule.
 ghost use Rattle.std.specs.Prelude.{◌≤◌, length, take};
 ghost use Rattle.text.specs.Written.{Put};
 ghost use Rattle.text.specs.Output.{longest_cells};

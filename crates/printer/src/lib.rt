@@ -4,18 +4,19 @@
 ghost use Rattle.std.specs.Prelude.{true, ◌≡◌, ◌≤◌, take};
 ghost use Rattle.simulation.specs.TickState.{numbers_by, tick_state_of};
 ghost use Rattle.printer.specs.Valid.{valid};
-ghost use Rattle.printer.specs.Printer.{Stepping, Stepped, PrinterStartOf, WordsPrinter, MadeFrom, PieceOf};
+ghost use Rattle.printer.specs.Printer.{Stepping, Stepped, PrinterStartOf, WordsPrinter, MadeFrom, PieceOf, no_table};
 ghost use Rattle.model.specs.Sizes.{most_cores, most_tasks};
 
 mod cells; // cells.rt: the text of a row's cores
 mod valid; // valid.rt: whether a printer can be stepped
 
 use judge::Verdict;
+use model::MOST_TASKS;
 use rule::PAIR;
 use simulation::TRIPLE;
 use simulation::columns::Setting;
 use simulation::machine::Registers;
-use table::Loaded;
+use table::{Loaded, Task};
 use text::row::{CELLS, LINE};
 use text::{first, row};
 
@@ -29,6 +30,7 @@ pub struct Stage {
 
 // What is left to print of an input: the table, where its rows end, its run, the text of the row,
 // the line that is being written, and how much of it has been.
+// Buffers with their lengths, without a heap. The clauses speak of any printer (`valid`), so no invariant holds of all.
 #[derive(Clone, Copy)]
 pub struct Printer {
     pub table: Loaded,
@@ -123,14 +125,42 @@ fn start(table: Loaded, end: u32, verdict: Verdict) -> Printer
     }
 }
 
-// The printer of a table's words.
+// A table without tasks, of which no rows are printed.
+fn no_table() -> Loaded
+    ensures { result ≡ no_table }
+{
+    let none = Task {
+        offset: 0,
+        width: 0,
+        length: 0,
+        deadline: 0,
+        period: 0,
+        second: 0,
+    };
+    Loaded {
+        count: 0,
+        cores: 0,
+        fence: 0,
+        rule: 0,
+        tasks: [none; MOST_TASKS],
+        start: 0,
+        period: 0,
+        horizon: 0,
+    }
+}
+
+// The printer of a table's words; of words that are refused, the verdict's line is all that is printed.
 fn of_words(words: &[u32]) -> Printer
     ensures { WordsPrinter words.now result }
 {
-    let table = table::load(words);
     let verdict = judge::judge(words);
-    let end = first::rows_end(verdict, table.horizon);
-    start(table, end, verdict)
+    match table::load(words) {
+        Ok(table) => {
+            let end = first::rows_end(verdict, table.horizon);
+            start(table, end, verdict)
+        }
+        Err(_) => start(no_table(), 0, verdict),
+    }
 }
 
 impl Printer {
@@ -163,7 +193,7 @@ impl Printer {
         let mut given = self.given;
         let mut at: usize = 0;
         loop {
-            let part = text::smaller(stage.ready - given, buffer.len() - at);
+            let part = (stage.ready - given).min(buffer.len() - at);
             at = row::copy(&line, given, part, buffer, at);
             given += part;
             if given < stage.ready {

@@ -23,16 +23,9 @@ fn table_valid(table: Loaded) -> bool
         return false;
     }
     let wide = cores::unfenced_count(cores, table.fence);
-    let tasks = table.tasks;
-    let mut i: usize = 0;
-    while i < count {
-        let task = tasks[i];
-        if table::limits::task_number(wide, task) != 0 {
-            return false;
-        }
-        i += 1;
-    }
-    true
+    table.tasks[..count]
+        .iter()
+        .all(|task| table::limits::task_number(wide, *task) == 0)
 }
 
 // The set of the places that are owed ticks.
@@ -40,12 +33,9 @@ fn owed(places: [u32; TRIPLE]) -> u32
     ensures { result ≡ owed (segment 0 places) }
 {
     let mut set: u32 = 0;
-    let mut i: usize = MOST_TASKS;
-    while 0 < i {
-        i -= 1;
-        let ticks = places[i];
+    for i in (0..MOST_TASKS).rev() {
         set *= 2;
-        if 0 < ticks {
+        if 0 < places[i] {
             set += 1;
         }
     }

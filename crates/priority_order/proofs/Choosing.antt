@@ -13,7 +13,7 @@ use Rattle.model.specs.Sizes.{most_tasks}
 use Rattle.table.specs.Words.{count}
 use Rattle.judge.specs.declared.Verdict.{Verdict}
 use Rattle.judge.specs.declared.Verdict.TheVariants as judge
-use Rattle.priority_order.specs.declared.repair.Late.{Late}
+use Rattle.priority_order.specs.Repair.{Late}
 use Rattle.priority_order.specs.declared.Outcome.TheVariants.{None}
 use Rattle.priority_order.specs.declared.OrderAnswer.{OrderAnswer}
 use Rattle.priority_order.specs.Answer.{answer_by, answer_in, given_order, no_order, positions_of}

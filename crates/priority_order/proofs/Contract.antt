@@ -11,7 +11,7 @@ use Rattle.model.specs.Lists.{NeverMissed}
 use Rattle.model.specs.Search.{up_from}
 use Rattle.table.proofs.Exact.{passed-exact, refusal-exact}
 use Rattle.table.proofs.Order.{first-only}
-use Rattle.table.specs.declared.Answer.{Answer}
+use Rattle.table.specs.Answer.{Answer}
 use Rattle.table.specs.Numbers.{Applies, First, NoneApplies}
 use Rattle.table.specs.Words.{count, table_of}
 use Rattle.judge.proofs.Contract.{judged-exact}
@@ -21,7 +21,7 @@ use Rattle.judge.specs.JudgeAnswer.{verdict_meaning}
 use Rattle.judge.specs.Judged.{Judged}
 use Rattle.priority_order.specs.declared.Outcome.TheVariants.{None, Refused}
 use Rattle.priority_order.specs.declared.OrderAnswer.{OrderAnswer}
-use Rattle.priority_order.specs.declared.repair.Late.{Late}
+use Rattle.priority_order.specs.Repair.{Late}
 use Rattle.priority_order.specs.Answer.{DoesNotFit, Fits, OrderOf, Tried, answer_by, answer_in, given_order, no_order, order_answer_of, order_by, positions_of}
 use Rattle.priority_order.specs.Orders.{Permutation, own_order, reordered}
 use Rattle.priority_order.specs.Repair.{Choice, just, kept_after, late_of, later_of, next_order}

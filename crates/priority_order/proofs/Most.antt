@@ -1,14 +1,14 @@
--- The task that ran most, by a walk along the counts of 32 places; and equal orders, by a walk along both.
-use mathlib.Core.Bool.{Bool, cond, false, false≢true, true}
+-- The task that ran most, by a walk along the counts of 32 places; and the test of equal orders.
+use mathlib.Core.Bool.{Bool, ◌&&◌, cond, false, true}
 use mathlib.Core.List.{List, [], ◌∷◌}
 use mathlib.Core.Path.{◌≡◌, ap, refl, sym, ◌∙◌}
 use Prim.Native.Nat.{ℕ, suc, ◌<◌}
 use native.Mathlib.Omega.{arith}
 use lib.Dec.{eqb, ltb}
+use lib.Pointwise.{pointwise}
 use lib.ListN.{drop, get_or, length}
 use lib.Seq.{drop-cons}
-use borrow.Author.Tests.{eq-eqb, eqb-true, le-ltb}
-use Rattle.model.proofs.Bools.{and_left, and_right}
+use borrow.Author.Tests.{eqb-true, le-ltb}
 use Rattle.sentence.specs.Facts.{Part, named_from}
 use Rattle.priority_order.specs.Repair.{most_from, same}
 
@@ -40,17 +40,10 @@ most-end best i = refl
 
 -- ---- equal lists
 
-pub same_refl : (a : List ℕ) → same a a ≡ true
+-- the library's test of two lists is this one
+pub same_pointwise : (a b : List ℕ) → pointwise eqb a b ≡ same a b
 unfolding same
-same_refl [] = refl
-same_refl (x ∷ a) = rw (eq-eqb x x refl) (same_refl a)
-
-pub same-equal : (a b : List ℕ) → same a b ≡ true → a ≡ b
-unfolding same
-same-equal [] [] e = refl
-same-equal [] (y ∷ b) e = absurd (false≢true e)
-same-equal (x ∷ a) [] e = absurd (false≢true e)
-same-equal (x ∷ a) (y ∷ b) e =
-    let f : x ≡ y = eqb-true x y (and_left (eqb x y) (same a b) e) in
-    let g : a ≡ b = same-equal a b (and_right (eqb x y) (same a b) e) in
-    λ i. f i ∷ g i
+same_pointwise [] [] = refl
+same_pointwise [] (y ∷ b) = refl
+same_pointwise (x ∷ a) [] = refl
+same_pointwise (x ∷ a) (y ∷ b) = ap (λ (t : Bool). eqb x y && t) (same_pointwise a b)

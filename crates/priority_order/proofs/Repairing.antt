@@ -1,7 +1,7 @@
 -- The order that follows one that misses is a permutation, and the orders that repair tries by its steps.
 use mathlib.Core.Bool.{Bool, cond, false, false≢true, true}
 use mathlib.Core.List.{List, [], ◌∷◌, map}
-use mathlib.Core.Path.{◌≡◌, ap, refl, subst, sym, ◌∙◌}
+use mathlib.Core.Path.{◌≡◌, ap, ap₂, refl, subst, sym, ◌∙◌}
 use Prim.Native.Nat.{ℕ, suc, zero, ◌+◌, ◌-◌, ◌<◌, ◌≤◌}
 use native.Mathlib.Omega.{arith}
 use lib.Dec.{ltb}
@@ -15,12 +15,6 @@ use Rattle.model.specs.Task.{AllValid, Table}
 use Rattle.model.specs.Verdict.{FirstMiss, first_miss, missed_in}
 use Rattle.table.proofs.Passed.{passed-valid}
 use Rattle.table.proofs.Tasks.{table-length}
-use Rattle.model.specs.Refusals as book
-use Rattle.table.specs.declared.Answer.{Answer}
-use Rattle.table.specs.declared.Answer.TheVariants.{Passed}
-use Rattle.table.specs.declared.Answer.TheVariants as table
-use Rattle.table.specs.declared.Loaded.{Loaded}
-use Rattle.table.specs.Load.{LoadOf, load_meaning}
 use Rattle.table.specs.Numbers.{NoneApplies}
 use Rattle.table.specs.Words.{count, table_of}
 use Rattle.judge.proofs.Contract.{judged-exact}
@@ -30,8 +24,12 @@ use Rattle.judge.specs.JudgeAnswer.{verdict_meaning}
 use Rattle.sentence.proofs.Answers.{first_found, first-within, never}
 use Rattle.sentence.specs.Facts.{Part, named_from}
 use Rattle.sentence.specs.Waiting.{facts_at, ran_while_waiting}
-use Rattle.priority_order.specs.declared.repair.Late.{Late}
+use Rattle.priority_order.specs.Repair.{Late}
 use Rattle.priority_order.specs.Orders.{Permutation, moved, reordered}
+use Rattle.std.specs.Prelude.{Option, None, Some}
+use Rattle.judge.specs.declared.Miss.{Miss as MissOf}
+use Rattle.priority_order.specs.declared.repair.Late.{Late as LateOrder}
+use Rattle.priority_order.specs.Repair.{late_in, late_with, later_of}
 use Rattle.priority_order.specs.Repair.{LateIn, blocking_in, just, kept_after, late_of, most_from, most_ran, moved_above, next_by, next_order}
 use Rattle.priority_order.specs.Repair.{nothing, power_after, repairs, same, verdict_in}
 use Rattle.priority_order.specs.Tried.{is_accepted}
@@ -86,13 +84,22 @@ late-order (Full a b) o = refl
 late-order (Miss t p) o = refl
 late-order (Refused n p) o = refl
 
--- words that pass are loaded
-pub passed-answer : (ws : List ℕ) (r : Loaded) → LoadOf ws r → NoneApplies ws → r.answer ≡ Passed
-passed-answer ws r l none = go r.answer (l.passed.1 none)
-  where
-    go : (a : Answer) → load_meaning a ≡ book.taken → a ≡ Passed
-    go Passed e = refl
-    go (table.Refused n p) e = let z : ◌≡◌ {A = ℕ} 0 1 = cc in absurd (omega arith)
+-- the later of two as code finds it
+module _ (x y : LateOrder) where
+  pub later-none : y.missed ≡ None → late_in x ≡ later_of (late_in x) (late_in y)
+  later-none e = sym (ap (λ (m : Option MissOf). later_of (late_in x) (late_with m y.order)) e)
+
+  pub later-first : (m : MissOf) → y.missed ≡ Some m → x.missed ≡ None → late_in y ≡ later_of (late_in x) (late_in y)
+  later-first m e f =
+      ap (λ (m : Option MissOf). late_with m y.order) e
+      ∙ sym (ap₂ (λ (k m : Option MissOf). later_of (late_with k x.order) (late_with m y.order)) f e)
+
+  pub later-both :
+      (m k : MissOf) → y.missed ≡ Some m → x.missed ≡ Some k
+      → cond (ltb k.tick m.tick) (late_in y) (late_in x) ≡ later_of (late_in x) (late_in y)
+  later-both m k e f =
+      ap₂ (λ (j n : Option MissOf). cond (ltb k.tick m.tick) (late_with n y.order) (late_with j x.order)) f e
+      ∙ sym (ap₂ (λ (j n : Option MissOf). later_of (late_with j x.order) (late_with n y.order)) f e)
 
 -- ---- the order that follows
 

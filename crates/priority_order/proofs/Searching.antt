@@ -12,18 +12,21 @@ use borrow.Author.Count.{below_more}
 use borrow.Author.Tests.{leb-false, leb-true}
 use Rattle.model.proofs.Lists.{map_more, up-length, up_more}
 use Rattle.model.specs.Search.{up_from}
+use Rattle.std.specs.Option.{is_some}
+use Rattle.std.specs.Prelude.{Option, Some}
+use Rattle.std.specs.Prelude.{None as empty}
 use Rattle.table.proofs.Tasks.{table-length}
 use Rattle.table.specs.Numbers.{NoneApplies}
 use Rattle.table.specs.Words.{count, table_of}
 use Rattle.judge.specs.declared.Verdict.{Verdict}
 use Rattle.priority_order.specs.declared.Accepted.{Accepted}
-use Rattle.priority_order.specs.declared.repair.Late.{Late}
+use Rattle.priority_order.specs.Repair.{Late}
 use Rattle.priority_order.specs.declared.Outcome.TheVariants.{None}
 use Rattle.priority_order.specs.Answer.{answer_by, answer_in, given_order, no_order, positions_of}
 use Rattle.priority_order.specs.Orders.{Permutation, own_order}
 use Rattle.priority_order.specs.Repair.{Choice, LateIn, just, late_of, later_of, no_miss, nothing, repairs, verdict_in}
 use Rattle.priority_order.specs.Sorted.{sorted_order, sorted_orders}
-use Rattle.priority_order.specs.Tried.{first_accepted, first_that, is_accepted, is_firm, latest_from, none_accepted, or_else}
+use Rattle.priority_order.specs.Tried.{first_accepted, first_that, is_accepted, is_firm, latest_from, or_else}
 use Rattle.priority_order.specs.Tried.{repairs_from, sorted_first, tried_orders, unless_accepted}
 use Rattle.priority_order.proofs.Choosing.{answer-append, answer-none, first-append, first-here, first_past}
 use Rattle.priority_order.proofs.Moving.{own-permutation}
@@ -67,26 +70,46 @@ unfolding latest_from
 latest-append ws x [] o = refl
 latest-append ws x (p ∷ os) o = latest-append ws (later_of x (late_of (verdict_in ws p) p)) os o
 
+-- of two orders, as code tests it
+pub first-stays : (a : Option Accepted) (v : Verdict) (o : List ℕ) → is_some a ≡ true → a ≡ first_accepted a v o
+first-stays empty v o e = absurd (false≢true e)
+first-stays (Some z) v o e = refl
+
+pub first-fills : (a : Option Accepted) (v : Verdict) (o : List ℕ) → is_some a ≡ false → (t : Bool) → is_accepted v ≡ t
+    → cond t (Some (record { verdict = v; order = o })) empty ≡ first_accepted a v o
+first-fills empty v o e t f = ap (λ (u : Bool). cond u (Some (record { verdict = v; order = o })) empty) (sym f)
+first-fills (Some z) v o e t f = absurd (false≢true (sym e))
+
+-- the order that code has found to be accepted, and what holds of it
+abbrev pub found_in : Option Accepted → Choice
+found_in empty = nothing
+found_in (Some z) = just z.order
+
+abbrev pub FoundIn : List ℕ → Option Accepted → Type 0
+FoundIn ws empty = Unit {0}
+FoundIn ws (Some z) = (z.verdict ≡ verdict_in ws z.order) × Permutation (count ws) z.order
+
 -- what code has of the first k
-pub record Seen (ws : List ℕ) (k : ℕ) (a : Accepted) (x : Late) : Type 0 where
+pub record Seen (ws : List ℕ) (k : ℕ) (a : Option Accepted) (x : Late) : Type 0 where
   pub firm : first_that is_firm ws (sorted_till ws k) ≡ nothing
   pub below : (j : ℕ) → j < k → is_firm (verdict_in ws (sorted_order (table_of ws) j)) ≡ false
-  pub accepted : first_that is_accepted ws (sorted_till ws k) ≡ cond a.some (just a.order) nothing
-  pub verdict : a.some ≡ true → a.verdict ≡ verdict_in ws a.order
-  pub permutation : Permutation (count ws) a.order
+  pub accepted : first_that is_accepted ws (sorted_till ws k) ≡ found_in a
+  pub found : FoundIn ws a
   pub latest : latest_from ws (no_miss own_order) (sorted_till ws k) ≡ x
   pub says : x.some ≡ true → LateIn ws x
   pub late-permutation : Permutation (count ws) x.order
 
+pub found-of : (ws : List ℕ) (a : Option Accepted) (z : Accepted) → a ≡ Some z → FoundIn ws a → (z.verdict ≡ verdict_in ws z.order) × Permutation (count ws) z.order
+found-of ws a z e h = subst (FoundIn ws) e h
+
 module _ (ws : List ℕ) (none : NoneApplies ws) where
-  pub seen_start : Seen ws 0 none_accepted (no_miss own_order)
+  pub seen_start : Seen ws 0 empty (no_miss own_order)
   unfolding first_that latest_from up_from
   seen_start = record {
     firm = refl;
     below = λ j l. absurd (omega arith);
     accepted = refl;
-    verdict = λ e. absurd (false≢true e);
-    permutation = own-permutation (count ws) (tasks-few ws none);
+    found = tt;
     latest = refl;
     says = λ e. absurd (false≢true e);
     late-permutation = own-permutation (count ws) (tasks-few ws none);
@@ -97,8 +120,8 @@ module _ (ws : List ℕ) (none : NoneApplies ws) where
       subst (λ (n : ℕ). Permutation n (sorted_order (table_of ws) k)) (table-length ws)
       (order-permutation (table_of ws) k (omega (arith, table-length ws, tasks-few ws none)))
 
-  pub seen_more : (k : ℕ) (a : Accepted) (x : Late) → Seen ws k a x → (o : List ℕ) → o ≡ sorted_order (table_of ws) k → (v : Verdict) → v ≡ verdict_in ws o
-      → is_firm v ≡ false → (b : Accepted) → b ≡ first_accepted a v o → (y : Late) → y ≡ later_of x (late_of v o) → Seen ws (k + 1) b y
+  pub seen_more : (k : ℕ) (a : Option Accepted) (x : Late) → Seen ws k a x → (o : List ℕ) → o ≡ sorted_order (table_of ws) k → (v : Verdict) → v ≡ verdict_in ws o
+      → is_firm v ≡ false → (b : Option Accepted) → b ≡ first_accepted a v o → (y : Late) → y ≡ later_of x (late_of v o) → Seen ws (k + 1) b y
   unfolding first_that
   seen_more k a x s o e v q f b eb y ey = record {
     firm =
@@ -110,9 +133,8 @@ module _ (ws : List ℕ) (none : NoneApplies ws) where
         ap (first_that is_accepted ws) more
         ∙ (first-append ws is_accepted (sorted_till ws k) (o ∷ [])
         ∙ (ap (λ (c : Choice). or_else c (first_that is_accepted ws (o ∷ []))) s.accepted
-        ∙ (picked a.some refl ∙ ap (λ (z : Accepted). cond z.some (just z.order) nothing) (sym eb))));
-    verdict = subst (λ (z : Accepted). z.some ≡ true → z.verdict ≡ verdict_in ws z.order) (sym eb) (judged a.some refl);
-    permutation = subst (λ (z : Accepted). Permutation (count ws) z.order) (sym eb) (ordered a.some);
+        ∙ (picked a ∙ ap found_in (sym eb))));
+    found = subst (FoundIn ws) (sym eb) (found-more a s.found);
     latest =
         ap (latest_from ws (no_miss own_order)) more
         ∙ (latest-append ws (no_miss own_order) (sorted_till ws k) o ∙ (ap₂ later_of s.latest (ap (λ (w : Verdict). late_of w o) (sym q)) ∙ sym ey));
@@ -131,21 +153,21 @@ module _ (ws : List ℕ) (none : NoneApplies ws) where
       here : Permutation (count ws) o
       here = subst (Permutation (count ws)) (sym e) (sorted-order k)
 
-      picked : (t : Bool) → a.some ≡ t → or_else (cond t (just a.order) nothing) (cond (is_accepted (verdict_in ws o)) (just o) nothing)
-          ≡ cond (cond {A = Accepted} t a (record { some = is_accepted v; verdict = v; order = o })).some
-          (just (cond {A = Accepted} t a (record { some = is_accepted v; verdict = v; order = o })).order) nothing
-      picked true h = ap (λ (u : Bool). cond u (just a.order) nothing) (sym h)
-      picked false h = ap (λ (w : Verdict). cond (is_accepted w) (just o) nothing) (sym q)
+      picked : (a : Option Accepted) → or_else (found_in a) (cond (is_accepted (verdict_in ws o)) (just o) nothing) ≡ found_in (first_accepted a v o)
+      picked (Some z) = refl
+      picked empty = ap (λ (w : Verdict). cond (is_accepted w) (just o) nothing) (sym q) ∙ go (is_accepted v)
+        where
+          go : (t : Bool) → cond t (just o) nothing ≡ found_in (cond t (Some (record { verdict = v; order = o })) empty)
+          go true = refl
+          go false = refl
 
-      judged : (t : Bool) → a.some ≡ t → (cond {A = Accepted} t a (record { some = is_accepted v; verdict = v; order = o })).some ≡ true
-          → (cond {A = Accepted} t a (record { some = is_accepted v; verdict = v; order = o })).verdict
-          ≡ verdict_in ws (cond {A = Accepted} t a (record { some = is_accepted v; verdict = v; order = o })).order
-      judged true h = s.verdict
-      judged false h = λ u. q
-
-      ordered : (t : Bool) → Permutation (count ws) (cond {A = Accepted} t a (record { some = is_accepted v; verdict = v; order = o })).order
-      ordered true = s.permutation
-      ordered false = here
+      found-more : (a : Option Accepted) → FoundIn ws a → FoundIn ws (first_accepted a v o)
+      found-more (Some z) h = h
+      found-more empty h = go (is_accepted v)
+        where
+          go : (t : Bool) → FoundIn ws (cond t (Some (record { verdict = v; order = o })) empty)
+          go true = (q, here)
+          go false = tt
 
       later-says : (t : Bool) → (cond {A = Late} t (late_of v o) x).some ≡ true → LateIn ws (cond {A = Late} t (late_of v o) x)
       later-says true h = ap₂ late_of (q ∙ ap (verdict_in ws) (sym (late-order v o))) (sym (late-order v o))
@@ -158,7 +180,7 @@ module _ (ws : List ℕ) (none : NoneApplies ws) where
   -- THE ANSWER of all orders tried
 
   -- one of the five is Firm
-  pub search-firm : (m k : ℕ) (a : Accepted) (x : Late) → Seen ws k a x → k < min m sorted_orders → (o : List ℕ) → o ≡ sorted_order (table_of ws) k
+  pub search-firm : (m k : ℕ) (a : Option Accepted) (x : Late) → Seen ws k a x → k < min m sorted_orders → (o : List ℕ) → o ≡ sorted_order (table_of ws) k
       → is_firm (verdict_in ws o) ≡ true
       → given_order (verdict_in ws o) (positions_of (count ws) o) ≡ answer_in ws 0 (tried_orders ws m)
   unfolding tried_orders
@@ -181,7 +203,7 @@ module _ (ws : List ℕ) (none : NoneApplies ws) where
           (ap (λ (i : ℕ). is_firm (verdict_in ws (g i))) (zero-add k) ∙ (ap (λ (p : List ℕ). is_firm (verdict_in ws p)) (sym e) ∙ f))
           ∙ (ap (λ (i : ℕ). just (g i)) (zero-add k) ∙ ap just (sym e))
 
-  module _ (m : ℕ) (a : Accepted) (x : Late) (s : Seen ws (min m sorted_orders) a x) where
+  module _ (m : ℕ) (a : Option Accepted) (x : Late) (s : Seen ws (min m sorted_orders) a x) where
     abbrev rest : List (List ℕ)
     rest = repairs_from ws (m - sorted_orders) (latest_from ws (no_miss own_order) (sorted_first ws m))
 
@@ -190,17 +212,17 @@ module _ (ws : List ℕ) (none : NoneApplies ws) where
     tried-is c e = ap (λ (d : Choice). sorted_first ws m ++ unless_accepted d rest) e
 
     -- one of the five is accepted, and none is Firm
-    pub search-full : a.some ≡ true → given_order (verdict_in ws a.order) (positions_of (count ws) a.order) ≡ answer_in ws 0 (tried_orders ws m)
+    pub search-full : (z : Accepted) → a ≡ Some z → given_order (verdict_in ws z.order) (positions_of (count ws) z.order) ≡ answer_in ws 0 (tried_orders ws m)
     unfolding first_that
-    search-full h =
-        let c : first_that is_accepted ws (sorted_first ws m) ≡ just a.order = s.accepted ∙ ap (λ (t : Bool). cond t (just a.order) nothing) h in
-        let t : tried_orders ws m ≡ sorted_first ws m = tried-is (just a.order) c ∙ append-nil (sorted_first ws m) in
+    search-full z h =
+        let c : first_that is_accepted ws (sorted_first ws m) ≡ just z.order = s.accepted ∙ ap found_in h in
+        let t : tried_orders ws m ≡ sorted_first ws m = tried-is (just z.order) c ∙ append-nil (sorted_first ws m) in
         sym
         (ap (answer_in ws 0) t ∙ ap₂ (λ (d f : Choice). answer_by ws (0 + length (sorted_first ws m)) (or_else d f)) s.firm c)
 
-    module _ (h : a.some ≡ false) where
+    module _ (h : a ≡ empty) where
       none-accepted : first_that is_accepted ws (sorted_first ws m) ≡ nothing
-      none-accepted = s.accepted ∙ ap (λ (t : Bool). cond t (just a.order) nothing) h
+      none-accepted = s.accepted ∙ ap found_in h
 
       after : answer_in ws 0 (tried_orders ws m) ≡ answer_in ws (min m sorted_orders) (repairs_from ws (m - sorted_orders) x)
       after =

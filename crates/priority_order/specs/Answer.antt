@@ -4,8 +4,8 @@ use Rattle.model.specs.Lists.{NeverMissed}
 use Rattle.model.specs.Sizes.{most_tasks}
 use Rattle.model.specs.Task.{Table, task}
 use Rattle.model.specs.Verdict.{FirstMiss}
-use Rattle.table.specs.declared.Answer.{Answer}
-use Rattle.table.specs.declared.Answer.TheVariants as table
+use Rattle.table.specs.Answer.{Answer}
+use Rattle.table.specs.Answer as table
 use Rattle.table.specs.Answer.{answer_of}
 use Rattle.table.specs.Numbers.{First, NoneApplies}
 use Rattle.table.specs.Words.{count, table_of}

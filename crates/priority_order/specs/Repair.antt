@@ -1,5 +1,6 @@
 -- Repair of an order that misses: the late task goes to the place directly above the task that ran most while it waited.
-use Rattle.std.specs.Prelude.{Bool, cond, false, not, true, ◌&&◌, ◌||◌, ◌≡◌, List, [], ◌∷◌, ℕ, zero, suc, ◌*◌, ◌-◌, eqb, ltb}
+use Rattle.std.specs.Option.{is_some}
+use Rattle.std.specs.Prelude.{Option, None, Some, Bool, cond, false, not, true, ◌&&◌, ◌||◌, ◌≡◌, List, [], ◌∷◌, ℕ, zero, suc, ◌*◌, ◌-◌, eqb, ltb}
 use Rattle.model.specs.Task.{Table}
 use Rattle.table.specs.Words.{table_of}
 use Rattle.judge.specs.declared.Verdict.{Verdict}
@@ -7,8 +8,8 @@ use Rattle.judge.specs.declared.Verdict.TheVariants.{Firm, Full, Miss, Refused}
 use Rattle.judge.specs.Judged.{verdict_of}
 use Rattle.sentence.specs.Facts.{Part}
 use Rattle.sentence.specs.Waiting.{facts_at}
-use Rattle.priority_order.specs.declared.repair.Late.{Late}
-use Rattle.priority_order.specs.declared.repair.Next.{Next}
+use Rattle.judge.specs.declared.Miss.{Miss as FirstMiss}
+use Rattle.priority_order.specs.declared.repair.Late.{Late as LateOrder}
 use Rattle.priority_order.specs.Orders.{moved, reordered}
 
 -- an order, or none
@@ -20,7 +21,29 @@ pub data Choice : Type 0 where
 abbrev pub verdict_in : List ℕ → List ℕ → Verdict
 verdict_in ws o = verdict_of (reordered ws o)
 
--- an order, and where it misses its first miss
+-- an order, and where it misses its first miss, else zeros
+pub record Late : Type 0 where
+  pub some : Bool
+  pub tick : ℕ
+  pub position : ℕ
+  pub order : List ℕ
+
+-- as code has it
+abbrev pub late_tick : Option FirstMiss → ℕ
+late_tick None = 0
+late_tick (Some m) = m.tick
+
+abbrev pub late_position : Option FirstMiss → ℕ
+late_position None = 0
+late_position (Some m) = m.position
+
+abbrev pub late_with : Option FirstMiss → List ℕ → Late
+late_with m o = record { some = is_some m; tick = late_tick m; position = late_position m; order = o }
+
+abbrev pub late_in : LateOrder → Late
+late_in x = late_with x.missed x.order
+
+-- one that misses nothing
 abbrev pub no_miss : List ℕ → Late
 no_miss o = record { some = false; tick = 0; position = 0; order = o }
 
@@ -68,8 +91,9 @@ abbrev pub blocking_in : List ℕ → Late → ℕ
 blocking_in ws x = most_ran (facts_at (table_of (reordered ws x.order)) x.tick (x.position - 1)).others
 
 -- an order that follows, as code has it
-abbrev pub choice_of : Next → Choice
-choice_of x = cond x.some (just x.order) nothing
+abbrev pub choice_of : Option (List ℕ) → Choice
+choice_of None = nothing
+choice_of (Some o) = just o
 
 -- equal lists
 unfoldable pub same : List ℕ → List ℕ → Bool

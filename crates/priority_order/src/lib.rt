@@ -3,17 +3,17 @@
 
 ghost use Rattle.std.specs.Prelude.{◌≡◌, ◌<◌, ◌≤◌, ◌+◌};
 ghost use Rattle.model.specs.Sizes.{most_tasks};
-ghost use Rattle.table.specs.Load.{LoadOf};
+ghost use Rattle.table.specs.Load.{LoadedAs};
 ghost use Rattle.table.specs.Numbers.{NoneApplies};
 ghost use Rattle.priority_order.specs.Answer.{OrderOf, answer_in, given_order, no_order, positions_of};
 ghost use Rattle.priority_order.specs.Orders.{OrderIn, Permutation};
-ghost use Rattle.priority_order.specs.Repair.{LateIn, kept_after, power_after, repairs};
+ghost use Rattle.priority_order.specs.Repair.{LateIn, kept_after, late_in, power_after, repairs};
 ghost use Rattle.priority_order.specs.Tried.{first_accepted, is_accepted, is_firm, tried_orders};
 
 use judge::Verdict;
 use model::MOST_TASKS;
 use repair::Late;
-use table::{Answer, Loaded};
+use table::Loaded;
 
 mod orders; // orders.rt: an order of 32 places, and a task that moves up in it
 mod sorting; // sorting.rt: the five sorted orders
@@ -42,10 +42,9 @@ pub struct OrderAnswer {
     pub order: [u32; MOST_TASKS],
 }
 
-// The first of the five that is accepted, with its verdict.
+// An order that is accepted, with its verdict.
 #[derive(Clone, Copy)]
 pub struct Accepted {
-    pub some: bool,
     pub verdict: Verdict,
     pub order: [u32; MOST_TASKS],
 }
@@ -85,38 +84,31 @@ fn given(verdict: Verdict, order: [u32; MOST_TASKS], count: usize) -> OrderAnswe
 fn is_firm(verdict: Verdict) -> bool
     ensures { result ≡ is_firm verdict }
 {
-    match verdict {
-        Verdict::Firm(_, _) => true,
-        Verdict::Full(_, _) => false,
-        Verdict::Miss(_, _) => false,
-        Verdict::Refused(_, _) => false,
-    }
+    matches!(verdict, Verdict::Firm(_, _))
 }
 
 // Whether it is Firm or Full.
 fn is_accepted(verdict: Verdict) -> bool
     ensures { result ≡ is_accepted verdict }
 {
-    match verdict {
-        Verdict::Firm(_, _) => true,
-        Verdict::Full(_, _) => true,
-        Verdict::Miss(_, _) => false,
-        Verdict::Refused(_, _) => false,
-    }
+    matches!(verdict, Verdict::Firm(_, _) | Verdict::Full(_, _))
 }
 
 // The first of two orders that is accepted.
-fn first_accepted(first: Accepted, verdict: Verdict, order: [u32; MOST_TASKS]) -> Accepted
+fn first_accepted(
+    first: Option<Accepted>,
+    verdict: Verdict,
+    order: [u32; MOST_TASKS],
+) -> Option<Accepted>
     ensures { result ≡ first_accepted first verdict order }
 {
-    if first.some {
+    if first.is_some() {
         return first;
     }
-    let some = is_accepted(verdict);
-    Accepted {
-        some: some,
-        verdict: verdict,
-        order: order,
+    if is_accepted(verdict) {
+        Some(Accepted { verdict, order })
+    } else {
+        None
     }
 }
 
@@ -142,58 +134,45 @@ fn power_after(number: u64, power: u64) -> u64
 
 // Repair of an order that misses, at most `most` judgings, after a number of others.
 fn repaired(words: &[u32], count: usize, start: Late, tried: u32, most: u32) -> OrderAnswer
-    requires { OrderIn words.now count start.order × LateIn words.now start × (tried + most < 4294967296) }
+    requires { OrderIn words.now count start.order × LateIn words.now (late_in start) × (tried + most < 4294967296) }
     ensures { result ≡ answer_in words.now tried (repairs words.now most start.order 1 1 start.order) }
 {
     let mut late = start;
     let mut kept = start.order;
-    let mut number: u64 = 1;
     let mut power: u64 = 1;
-    let mut made: u32 = 0;
-    while made < most {
-        let next = repair::next_order(words, late, count);
-        if !next.some {
+    for made in 0..most {
+        let Some(order) = repair::next_order(words, late, count) else {
             return without(Outcome::None(tried + made));
-        }
-        let order = next.order;
-        if orders::equal(order, kept) {
+        };
+        if order == kept {
             return without(Outcome::None(tried + made));
         }
         let verdict = links::verdict_in(words, order, count);
         if is_accepted(verdict) {
             return given(verdict, order, count);
         }
+        let number = u64::from(made) + 1;
         let then = kept_after(number, power, kept, order);
         kept = then;
         power = power_after(number, power);
         late = repair::late_of(verdict, order);
-        number += 1;
-        made += 1;
     }
-    without(Outcome::None(tried + made))
+    without(Outcome::None(tried + most))
 }
 
 // The five in turn, and then repair.
 fn search(words: &[u32], table: Loaded, judgings: u32) -> OrderAnswer
-    requires { NoneApplies words.now × LoadOf words.now table }
+    requires { NoneApplies words.now × LoadedAs words.now table }
     ensures { result ≡ answer_in words.now 0 (tried_orders words.now judgings) }
 {
     let count = table.count;
-    let own = orders::own();
-    let mut accepted = Accepted {
-        some: false,
-        verdict: Verdict::Refused(0, 0),
-        order: own,
-    };
+    let mut accepted: Option<Accepted> = None;
     let mut late = Late {
-        some: false,
-        tick: 0,
-        position: 0,
-        order: own,
+        missed: None,
+        order: orders::own(),
     };
-    let first = judge::narrower(judgings, SORTED);
-    let mut number: u32 = 0;
-    while number < first {
+    let first = judgings.min(SORTED);
+    for number in 0..first {
         let order = sorting::sorted(table, number);
         let verdict = links::verdict_in(words, order, count);
         if is_firm(verdict) {
@@ -201,14 +180,11 @@ fn search(words: &[u32], table: Loaded, judgings: u32) -> OrderAnswer
         }
         accepted = first_accepted(accepted, verdict, order);
         late = repair::later(late, repair::late_of(verdict, order));
-        number += 1;
     }
-    if accepted.some {
-        let verdict = accepted.verdict;
-        let order = accepted.order;
-        return given(verdict, order, count);
+    if let Some(found) = accepted {
+        return given(found.verdict, found.order, count);
     }
-    if !late.some {
+    if late.missed.is_none() {
         return without(Outcome::None(first));
     }
     repaired(words, count, late, first, judgings - first)
@@ -218,10 +194,8 @@ fn search(words: &[u32], table: Loaded, judgings: u32) -> OrderAnswer
 pub fn order(words: &[u32], judgings: u32) -> OrderAnswer
     ensures { OrderOf words.now judgings result }
 {
-    let table = table::load(words);
-    let answer = table.answer;
-    match answer {
-        Answer::Passed => search(words, table, judgings),
-        Answer::Refused(number, position) => without(Outcome::Refused(number, position)),
+    match table::load(words) {
+        Ok(table) => search(words, table, judgings),
+        Err(refusal) => without(Outcome::Refused(refusal.number(), refusal.position())),
     }
 }

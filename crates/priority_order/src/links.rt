@@ -16,10 +16,8 @@ fn record_at(words: &[u32], place: usize) -> u32
     ensures { result ≡ visited words.now place }
 {
     let mut number = words[0];
-    let mut i: usize = 0;
-    while i < place {
+    for _ in 0..place {
         number = words[HEADER + (number as usize - 1) * RECORD];
-        i += 1;
     }
     number
 }
@@ -31,13 +29,10 @@ pub(crate) fn reordered(words: &[u32], order: [u32; MOST_TASKS], count: usize) -
 {
     let mut copy = conflict::links::copied(words);
     let mut link: usize = 0;
-    let mut i: usize = 0;
-    while i < count {
-        let place = order[i] as usize;
-        let number = record_at(words, place);
+    for place in &order[..count] {
+        let number = record_at(words, *place as usize);
         copy[link] = number;
         link = HEADER + (number as usize - 1) * RECORD;
-        i += 1;
     }
     copy[link] = 0;
     copy
@@ -49,6 +44,5 @@ pub(crate) fn verdict_in(words: &[u32], order: [u32; MOST_TASKS], count: usize) 
     ensures { Judged (reordered words.now order) result }
 {
     let part = reordered(words, order, count);
-    let size = words.len();
-    judge::judge(&part[..size])
+    judge::judge(&part[..words.len()])
 }

@@ -8,18 +8,23 @@ use native.Mathlib.Numerals.{add-one}
 use native.Mathlib.Omega.{arith}
 use lib.ListN.{length, take, drop, get_or, set}
 use lib.Dec.{eqb}
+use borrow.Author.Tests.{eqb-true, ne_eqb}
+use Rattle.std.proofs.Common.{eq-eqb, subst}
+use Rattle.std.specs.Cmp.Lexicographic.{pointwise}
 use lib.Seq.{drop-cons, take-suc-set, take-nil}
 use Rattle.text.specs.Decimal.{digit_count, digits_within}
 use Rattle.text.specs.Format.{newline, enough_bytes, Words, words_of, numbers_in}
-use Rattle.text.specs.Output.{letters, line_of, first_line}
 use Rattle.text.proofs.Exact.{first-enough}
-use Rattle.sentence.specs.declared.SentenceAnswer.{SentenceAnswer}
-use Rattle.sentence.specs.declared.SentenceAnswer.TheVariants.{Length, Refused}
+use Rattle.sentence.specs.SentenceAnswer.{SentenceAnswer}
+use Rattle.sentence.specs.SentenceAnswer.{Length}
 use Rattle.sentence.specs.Reading.{starts_with}
+use Rattle.sentence.specs.SentenceAnswer.{answered as written}
+use Rattle.std.specs.Prelude.{Result, Ok, Err}
+use Rattle.model.specs.declared.refusal.Refusal.{Refusal}
 use Rattle.sentence.specs.SentenceAnswer.{sentence_meaning, sentence_answer_of, SentenceOf}
 use Rattle.query.specs.declared.Question.{Question}
 use Rattle.query.specs.declared.Question.TheVariants.{Why, ResponseTimes, Conflict, Slack, Bounds, Verdict}
-use Rattle.query.specs.Query.{answer_room, why_by, why_of, answer_to, word_of, answer_after_word, no_question, query_output_of, questions, query_output, enough_input}
+use Rattle.query.specs.Query.{answer_room, why_by, why_of, answer_to, word_of, answer_after_word, no_question, query_output_of, questions, query_output, enough_input, refusal_line}
 
 -- THE ANSWER TO `why`
 
@@ -46,48 +51,35 @@ module _ (ws old new : List ℕ) (v : SentenceAnswer) (h : SentenceOf ws old new
             ∙ (ap (λ (w : SentenceAnswer). why_by (sentence_meaning w) ws) (sym e) ∙ by_answer))),
       )
 
-  -- the refusal
-  pub why-refused : (n p : ℕ) → v ≡ Refused n p → line_of (letters "refused") (n ∷ p ∷ []) ≡ why_of ws
-  unfolding first_line
-  why-refused n p e = ap (λ (x : SentenceAnswer). why_by (sentence_meaning x) ws) (sym e) ∙ by_answer
+-- as code has it
+module _ (ws old new : List ℕ) (r : Result ℕ Refusal) (h : SentenceOf ws old new (written r)) (l : length old ≡ answer_room) where
+  pub ends-inside : (n : ℕ) → r ≡ Ok n → n < length new
+  ends-inside n is = leaves-room ws old new (written r) h l n (ap written is)
+
+  pub why-ok : (n : ℕ) → r ≡ Ok n → (n + 1 ≤ answer_room) × (take (n + 1) (set new n newline) ≡ why_of ws)
+  why-ok n is = why-sentence ws old new (written r) h l n (ap written is)
+
+  -- the buffer keeps its length
+  pub why-err : (e : Refusal) → r ≡ Err e → (length new ≡ answer_room) × (refusal_line e ≡ why_of ws)
+  why-err e is =
+      (h.size ∙ l, by_answer ws old new (written (Err e)) (subst (λ (r : Result ℕ Refusal). SentenceOf ws old new (written r)) is h) l)
 
 -- THE QUESTION
 
--- what begins with a word is as long
-pub begins-long : (word bs : List ℕ) → starts_with word bs ≡ true → length word ≤ length bs
-unfolding starts_with
-begins-long [] bs e = omega arith
-begins-long (c ∷ cs) [] e = absurd (false≢true e)
-begins-long (c ∷ cs) (b ∷ bs) e = go (eqb c b) (begins-long cs bs) e
+-- numbers are compared either way round
+eqb_sym : (a b : ℕ) → eqb a b ≡ eqb b a
+eqb_sym a b = go (eqb a b) refl
   where
-    go : (t : Bool) → (starts_with cs bs ≡ true → length cs ≤ length bs) → t && starts_with cs bs ≡ true → suc (length cs) ≤ suc (length bs)
-    go true more q = let l = more q in omega arith
-    go false more q = absurd (false≢true q)
+    go : (t : Bool) → eqb a b ≡ t → eqb a b ≡ eqb b a
+    go true e = subst (λ (x : ℕ). eqb a x ≡ eqb x a) (eqb-true a b e) refl
+    go false e = e ∙ sym (ne_eqb b a (λ p. false≢true (sym e ∙ eq-eqb a b (sym p))))
 
--- no word is empty
-word_some : (q : Question) → 0 < length (word_of q)
-word_some Why = omega arith
-word_some ResponseTimes = omega arith
-word_some Conflict = omega arith
-word_some Slack = omega arith
-word_some Bounds = omega arith
-word_some Verdict = omega arith
-
--- WHICH ONE is decided by where the table after its word begins, 0 where its word is not in front
-module _ (q : Question) (bs : List ℕ) (r : ℕ) (e : r ≡ cond (starts_with (word_of q) bs) (length (word_of q)) 0) where
-  pub is-asked : 0 < r → (starts_with (word_of q) bs ≡ true) × (r ≡ length (word_of q)) × (r ≤ length bs)
-  is-asked h = go (starts_with (word_of q) bs) refl e
-    where
-      go : (t : Bool) → starts_with (word_of q) bs ≡ t → r ≡ cond t (length (word_of q)) 0 → (starts_with (word_of q) bs ≡ true) × (r ≡ length (word_of q)) × (r ≤ length bs)
-      go true b z = let l = begins-long (word_of q) bs b in (b, z, omega arith)
-      go false b z = absurd (let n : 0 < 0 = omega arith in omega arith)
-
-  pub not-asked : r ≤ 0 → starts_with (word_of q) bs ≡ false
-  not-asked h = go (starts_with (word_of q) bs) refl e
-    where
-      go : (t : Bool) → starts_with (word_of q) bs ≡ t → r ≡ cond t (length (word_of q)) 0 → starts_with (word_of q) bs ≡ false
-      go true b z = let l = word_some q in absurd (let n : 0 < 0 = omega arith in omega arith)
-      go false b z = b
+-- the bytes in front are a word where the text begins with it
+pub front-begins : (word bs : List ℕ) → pointwise eqb (take (length word) bs) word ≡ starts_with word bs
+unfolding starts_with
+front-begins [] bs = refl
+front-begins (c ∷ cs) [] = refl
+front-begins (c ∷ cs) (b ∷ bs) = λ i. eqb_sym b c i && front-begins cs bs i
 
 -- the question at a place of the list is answered where its word is in front, ..
 pub asked_here :

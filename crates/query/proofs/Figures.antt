@@ -11,23 +11,27 @@ use Rattle.text.specs.Decimal.{decimal, digit_count, digits_within, last_digits}
 use Rattle.text.specs.Format.{newline}
 use Rattle.text.specs.Written.{Put}
 use Rattle.text.proofs.Writing.{put_one, put_then, put-length}
-use Rattle.text.specs.Output.{space, fields, letters, line_of, first_line}
-use Rattle.table.specs.declared.Answer.{Answer}
-use Rattle.table.specs.declared.Answer.TheVariants.{Passed, Refused}
+use Rattle.text.specs.Output.{space, fields, letters, line_of}
+use Rattle.table.specs.Answer.{Passed}
 use Rattle.table.specs.declared.Loaded.{Loaded}
-use Rattle.table.specs.Load.{load_meaning, LoadedAs, LoadOf}
+use Rattle.table.specs.Load.{load_meaning, LoadedAs}
+use Rattle.std.specs.Prelude.{Result, Ok, Err, Option, Some, None}
+use Rattle.model.specs.declared.refusal.Refusal.{Refusal}
 use Rattle.table.specs.Numbers.{NoneApplies}
 use Rattle.table.specs.Words.{table_of}
-use Rattle.response_time.specs.declared.ResponseTimes.{ResponseTimes}
+use Rattle.response_time.specs.ResponseTimes.{ResponseTimes}
 use Rattle.response_time.specs.ResponseTimes.{ResponseTimesOf}
+use Rattle.response_time.specs.ResponseTimes.{answered as timed}
 use Rattle.response_time.specs.Numbers.{words}
-use Rattle.slack.specs.declared.SlackAnswer.{SlackAnswer}
+use Rattle.slack.specs.Answer.{SlackAnswer}
 use Rattle.slack.specs.Answer.{SlackOf}
+use Rattle.slack.specs.Answer.{answered as spared}
 use Rattle.slack.specs.Numbers as sparing
-use Rattle.interference.specs.declared.Bounds.{Bounds}
+use Rattle.interference.specs.Bounds.{Bounds}
 use Rattle.interference.specs.Bounds.{BoundsOf}
+use Rattle.interference.specs.Bounds.{answered as bounded}
 use Rattle.query.specs.Figures.{bound_lines_by, figure_lines, figure_lines_by, no_bounds_line}
-use Rattle.query.specs.Query.{bounds_text, response_times_text, slack_text}
+use Rattle.query.specs.Query.{bounds_text, refusal_line, response_times_text, slack_text}
 
 -- a line for each number, from position 1 on, as it is printed
 pub figures-printed : figure_lines 0 (2 ∷ 50 ∷ []) ≡ letters "1 2" ++ (newline ∷ (letters "2 50" ++ (newline ∷ [])))
@@ -76,21 +80,10 @@ put-line l m n o at middle end k xs p h q r b f =
 
 -- A LINE FOR EACH TASK
 
-module _ (ws : List ℕ) (none : NoneApplies ws) (t : Loaded) (l : LoadOf ws t) where
-  -- a table that no number turns down is loaded
-  pub loads : LoadedAs ws t
-  loads = l.holds (l.passed.1 none)
-
-  -- one for each of its tasks
-  pub lines-text : (a : Answer) (xs : List ℕ) → a ≡ Passed → figure_lines 0 (take t.count xs) ≡ figure_lines_by a (take (length (table_of ws).tasks) xs)
-  lines-text a xs e =
-      ap (λ (n : ℕ). figure_lines 0 (take n xs)) loads.count
-      ∙ ap (λ (b : Answer). figure_lines_by b (take (length (table_of ws).tasks) xs)) (sym e)
-
--- the refusal
-pub refusal-text : (a : Answer) (xs : List ℕ) (n p : ℕ) → a ≡ Refused n p → line_of (letters "refused") (n ∷ p ∷ []) ≡ figure_lines_by a xs
-unfolding first_line
-refusal-text a xs n p e = ap (λ (b : Answer). figure_lines_by b xs) (sym e)
+-- one for each task of the table that was loaded
+pub lines-text :
+    (ws : List ℕ) (t : Loaded) → LoadedAs ws t → (xs : List ℕ) → figure_lines 0 (take t.count xs) ≡ figure_lines 0 (take (length (table_of ws).tasks) xs)
+lines-text ws t h xs = ap (λ (n : ℕ). figure_lines 0 (take n xs)) h.count
 
 -- WHAT `response_times` ANSWERS
 
@@ -104,6 +97,17 @@ module _ (ws : List ℕ) (r : ResponseTimes) (h : ResponseTimesOf ws r) where
   pub response-times-none : r.answer ≡ Passed → NoneApplies ws
   response-times-none e n p a = h.passed.0 (ap load_meaning e) n p (words n p a)
 
+-- as code has it: the lines of a table that passes, or the refusal's
+module _ (ws : List ℕ) (r : Result (List ℕ) Refusal) (h : ResponseTimesOf ws (timed r)) where
+  pub response-times-ok : (xs : List ℕ) → r ≡ Ok xs → NoneApplies ws × (figure_lines 0 (take (length (table_of ws).tasks) xs) ≡ response_times_text ws)
+  response-times-ok xs is =
+      let g : ResponseTimesOf ws (timed (Ok xs)) = subst (λ (r : Result (List ℕ) Refusal). ResponseTimesOf ws (timed r)) is h in
+      (response-times-none ws (timed (Ok xs)) g refl, response-times-by ws (timed (Ok xs)) g)
+
+  pub response-times-err : (e : Refusal) → r ≡ Err e → refusal_line e ≡ response_times_text ws
+  response-times-err e is =
+      response-times-by ws (timed (Err e)) (subst (λ (r : Result (List ℕ) Refusal). ResponseTimesOf ws (timed r)) is h)
+
 -- WHAT `slack` ANSWERS
 
 module _ (ws : List ℕ) (r : SlackAnswer) (h : SlackOf ws r) where
@@ -115,6 +119,16 @@ module _ (ws : List ℕ) (r : SlackAnswer) (h : SlackOf ws r) where
   -- no number turns down a table whose slack is given
   pub slack-none : r.answer ≡ Passed → NoneApplies ws
   slack-none e n p a = h.passed.0 (ap load_meaning e) n p (sparing.words n p a)
+
+-- as code has it
+module _ (ws : List ℕ) (r : Result (List ℕ) Refusal) (h : SlackOf ws (spared r)) where
+  pub slack-ok : (xs : List ℕ) → r ≡ Ok xs → NoneApplies ws × (figure_lines 0 (take (length (table_of ws).tasks) xs) ≡ slack_text ws)
+  slack-ok xs is =
+      let g : SlackOf ws (spared (Ok xs)) = subst (λ (r : Result (List ℕ) Refusal). SlackOf ws (spared r)) is h in
+      (slack-none ws (spared (Ok xs)) g refl, slack-by ws (spared (Ok xs)) g)
+
+  pub slack-err : (e : Refusal) → r ≡ Err e → refusal_line e ≡ slack_text ws
+  slack-err e is = slack-by ws (spared (Err e)) (subst (λ (r : Result (List ℕ) Refusal). SlackOf ws (spared r)) is h)
 
 -- WHAT `response_bounds` ANSWERS
 
@@ -137,10 +151,20 @@ module _ (ws : List ℕ) (r : Bounds) (h : BoundsOf ws r) where
   pub bounds-none : r.answer ≡ Passed → NoneApplies ws
   bounds-none e = h.passed.0 (ap load_meaning e)
 
--- that there are none, or the refusal
-pub none-text : (a : Answer) → a ≡ Passed → letters "none" ++ (newline ∷ []) ≡ no_bounds_line a
-none-text a e = ap no_bounds_line (sym e)
+-- as code has it: the bounds, that there are none, or the refusal's line
+module _ (ws : List ℕ) (r : Result (Option (List ℕ)) Refusal) (h : BoundsOf ws (bounded r)) where
+  with_result : (x : Result (Option (List ℕ)) Refusal) → r ≡ x → BoundsOf ws (bounded x)
+  with_result x is = subst (λ (r : Result (Option (List ℕ)) Refusal). BoundsOf ws (bounded r)) is h
 
-pub none-refused : (a : Answer) (n p : ℕ) → a ≡ Refused n p → line_of (letters "refused") (n ∷ p ∷ []) ≡ no_bounds_line a
-unfolding first_line
-none-refused a n p e = ap no_bounds_line (sym e)
+  pub bounds-some :
+      (t : Option (List ℕ)) → r ≡ Ok t → (xs : List ℕ) → t ≡ Some xs
+      → NoneApplies ws × (figure_lines 0 (take (length (table_of ws).tasks) xs) ≡ bounds_text ws)
+  bounds-some t is xs e =
+      let g : BoundsOf ws (bounded (Ok (Some xs))) = with_result (Ok (Some xs)) (is ∙ ap Ok e) in
+      (bounds-none ws (bounded (Ok (Some xs))) g refl, bounds-met ws (bounded (Ok (Some xs))) g refl)
+
+  pub bounds-no : (t : Option (List ℕ)) → r ≡ Ok t → t ≡ None → letters "none" ++ (newline ∷ []) ≡ bounds_text ws
+  bounds-no t is e = bounds-unmet ws (bounded (Ok None)) (with_result (Ok None) (is ∙ ap Ok e)) refl
+
+  pub bounds-err : (e : Refusal) → r ≡ Err e → refusal_line e ≡ bounds_text ws
+  bounds-err e is = bounds-unmet ws (bounded (Err e)) (with_result (Err e) is) refl

@@ -11,16 +11,19 @@ use Rattle.model.specs.Search.{bit}
 use Rattle.text.specs.Decimal.{decimal, digit_count, digits_within, last_digits}
 use Rattle.text.specs.Format.{newline}
 use Rattle.text.specs.Written.{Put}
-use Rattle.text.specs.Output.{space, fields, letters, line_of, first_line}
+use Rattle.text.specs.Output.{space, fields, letters}
 use Rattle.text.proofs.Decimals.{decimal-some}
 use Rattle.text.proofs.RowText.{fields-append}
 use Rattle.text.proofs.Writing.{put_then}
-use Rattle.table.specs.declared.Answer.{Answer}
-use Rattle.table.specs.declared.Answer.TheVariants.{Passed, Refused}
-use Rattle.conflict.specs.declared.ConflictAnswer.{ConflictAnswer}
+use Rattle.table.specs.Answer.{Answer}
+use Rattle.table.specs.Answer.{Passed}
+use Rattle.conflict.specs.Answer.{ConflictAnswer}
 use Rattle.conflict.specs.Answer.{ConflictOf}
+use Rattle.conflict.specs.Answer.{answered as kept_in}
+use Rattle.std.specs.Prelude.{Result, Ok, Err}
+use Rattle.model.specs.declared.refusal.Refusal.{Refusal}
 use Rattle.query.specs.Positions.{positions_below, spaced, spaced_at, position_line, positions_by}
-use Rattle.query.specs.Query.{conflict_text}
+use Rattle.query.specs.Query.{conflict_text, refusal_line}
 
 -- the positions of places 1 and 2, of place 0 alone, and of places 0, 9 and 31, as they are printed
 pub positions-printed :
@@ -85,7 +88,10 @@ module _ (ws : List ℕ) (r : ConflictAnswer) (h : ConflictOf ws r) where
   pub kept-text : r.answer ≡ Passed → position_line r.kept ≡ conflict_text ws
   kept-text e = ap (λ (a : Answer). positions_by a r.kept) (sym e) ∙ by-kept
 
-  -- the refusal
-  pub conflict-refused : (n p : ℕ) → r.answer ≡ Refused n p → line_of (letters "refused") (n ∷ p ∷ []) ≡ conflict_text ws
-  unfolding first_line
-  conflict-refused n p e = ap (λ (a : Answer). positions_by a r.kept) (sym e) ∙ by-kept
+-- as code has it
+module _ (ws : List ℕ) (r : Result ℕ Refusal) (h : ConflictOf ws (kept_in r)) where
+  pub conflict-ok : (x : ℕ) → r ≡ Ok x → position_line x ≡ conflict_text ws
+  conflict-ok x is = kept-text ws (kept_in (Ok x)) (subst (λ (r : Result ℕ Refusal). ConflictOf ws (kept_in r)) is h) refl
+
+  pub conflict-err : (e : Refusal) → r ≡ Err e → refusal_line e ≡ conflict_text ws
+  conflict-err e is = by-kept ws (kept_in (Err e)) (subst (λ (r : Result ℕ Refusal). ConflictOf ws (kept_in r)) is h)

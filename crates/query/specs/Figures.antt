@@ -1,8 +1,8 @@
 -- A number for each task as it is printed: a line for each, its position and the number.
 use Rattle.std.specs.Prelude.{Bool, cond, List, [], ◌∷◌, ◌++◌, ℕ, suc}
 use Rattle.judge.specs.JudgeAnswer.{refused}
-use Rattle.table.specs.declared.Answer.{Answer}
-use Rattle.table.specs.declared.Answer.TheVariants.{Passed, Refused}
+use Rattle.table.specs.Answer.{Answer}
+use Rattle.table.specs.Answer.{Passed, Refused}
 use Rattle.text.specs.Decimal.{decimal}
 use Rattle.text.specs.Format.{newline}
 use Rattle.text.specs.Output.{letters, line_of, first_line}

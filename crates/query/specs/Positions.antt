@@ -3,8 +3,8 @@ use Rattle.std.specs.Prelude.{cond, List, [], ◌∷◌, ◌++◌, ℕ, zero, su
 use Rattle.model.specs.Search.{bit}
 use Rattle.model.specs.Sizes.{most_tasks}
 use Rattle.judge.specs.JudgeAnswer.{refused}
-use Rattle.table.specs.declared.Answer.{Answer}
-use Rattle.table.specs.declared.Answer.TheVariants.{Passed, Refused}
+use Rattle.table.specs.Answer.{Answer}
+use Rattle.table.specs.Answer.{Passed, Refused}
 use Rattle.text.specs.Decimal.{decimal}
 use Rattle.text.specs.Format.{newline}
 use Rattle.text.specs.Output.{space, fields, first_line}

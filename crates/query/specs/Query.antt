@@ -1,5 +1,7 @@
 -- The answer to a question on a table: the first line of the input is the question's word, and the table follows.
-use Rattle.std.specs.Prelude.{cond, List, [], ◌∷◌, ◌++◌, ℕ, ◌+◌, length, take, drop}
+use Rattle.std.specs.Prelude.{Result, Ok, Err, cond, List, [], ◌∷◌, ◌++◌, ℕ, ◌+◌, ◌≡◌, ◌≤◌, length, take, drop}
+use Rattle.model.specs.declared.refusal.Refusal.{Refusal}
+use Rattle.model.specs.Refusal.{number_of, position_of}
 use Rattle.table.specs.Words.{table_of}
 use Rattle.judge.specs.JudgeAnswer.{refused, verdict_meaning}
 use Rattle.judge.specs.Judged.{verdict_of}
@@ -21,6 +23,15 @@ use Rattle.query.specs.Positions.{positions_by}
 -- the most bytes of an answer: a sentence, of at most 700 bytes while ticks are at most 1,000,000,000, and a newline
 abbrev pub answer_room : ℕ
 answer_room = 700 + 1
+
+-- the line of a refusal
+abbrev pub refusal_line : Refusal → List ℕ
+refusal_line e = first_line (refused (number_of e) (position_of e))
+
+-- a text is at the front of the lines, where it ends at n; or it is the line of a refusal, for which there is space
+abbrev pub PutOf : List ℕ → List ℕ → Result ℕ Refusal → Type 0
+PutOf text lines (Ok n) = (n ≤ answer_room) × (take n lines ≡ text)
+PutOf text lines (Err e) = (length lines ≡ answer_room) × (refusal_line e ≡ text)
 
 -- the verdict's line
 abbrev pub verdict_text : List ℕ → List ℕ

@@ -7,28 +7,26 @@
 // `bounds` by a line for each task, its position and its response-time bound, by `none` where the table does not pass the interference test, or by the refusal.
 #![tactic(auto)]
 
-ghost use Rattle.std.specs.Prelude.{◌≡◌, cond, ◌+◌, ◌≤◌, length, take};
+ghost use Rattle.std.specs.Prelude.{◌≡◌, ◌+◌, ◌≤◌, length, take};
 ghost use Rattle.model.specs.Sizes.{most_tasks};
 ghost use Rattle.table.specs.Numbers.{NoneApplies};
 ghost use Rattle.table.specs.Words.{table_of};
-ghost use Rattle.table.specs.declared.Answer.TheVariants.{Passed};
 ghost use Rattle.text.specs.Written.{Put};
 ghost use Rattle.text.specs.Format.{words_of, numbers_in};
 ghost use Rattle.stream.specs.Sent.{SentOf};
 ghost use Rattle.stream.specs.Answered.{Answered};
-ghost use Rattle.sentence.specs.Reading.{starts_with};
-ghost use Rattle.query.specs.Figures.{figure_lines, figure_lines_by, no_bounds_line};
+ghost use Rattle.query.specs.Figures.{figure_lines};
 ghost use Rattle.query.specs.Positions.{spaced_at, position_line};
-ghost use Rattle.query.specs.Query.{answer_room, verdict_text, why_of, response_times_text, conflict_text, slack_text, bounds_text, answer_to, word_of, query_output};
+ghost use Rattle.query.specs.Query.{answer_room, refusal_line, PutOf, verdict_text, why_of, response_times_text, conflict_text, slack_text, bounds_text, answer_to, word_of, query_output};
 
-use model::MOST_TASKS;
-use sentence::{LONGEST, SentenceAnswer, reader};
+use model::{MOST_TASKS, Refusal};
+use sentence::LONGEST;
 use std::io::{Read, Write};
 use stream::{Reading, Sent};
-use table::Answer;
 use text::ENOUGH;
 
 // A question on a table.
+// A `match` on it and no table of functions, which `rt ci` refuses.
 #[derive(Clone, Copy)]
 enum Question {
     Why,
@@ -65,21 +63,22 @@ fn verdict(words: &[u32], line: &mut [u8]) -> usize
     text::first::put_first(line, verdict)
 }
 
-// Writes why a table misses at the front of the line, or the refusal; returns where the line ends.
-fn why(words: &[u32], line: &mut [u8]) -> usize
+// Writes a refusal at the front of the line; returns where it ends.
+fn put_refusal(line: &mut [u8], refusal: Refusal) -> usize
     requires { length line.old ≡ answer_room }
-    ensures { (result ≤ answer_room) × (take result line.new ≡ why_of words.now) }
+    ensures { (result ≤ answer_room) × (take result line.new ≡ refusal_line refusal) }
 {
-    let outcome = sentence::sentence(words, line);
-    match outcome {
-        SentenceAnswer::Length(length) => {
-            line[length] = b'\n';
-            length + 1
-        }
-        SentenceAnswer::Refused(number, position) => {
-            text::first::put_pair(line, b"refused", number, position)
-        }
-    }
+    text::first::put_pair(line, b"refused", refusal.number(), refusal.position())
+}
+
+// Writes why a table misses at the front of the line; returns where it ends, or the refusal.
+fn why(words: &[u32], line: &mut [u8]) -> Result<usize, Refusal>
+    requires { length line.old ≡ answer_room }
+    ensures { PutOf (why_of words.now) line.new result }
+{
+    let length = sentence::sentence(words, line)?;
+    line[length] = b'\n';
+    Ok(length + 1)
 }
 
 // Writes a line for each of the first numbers, its position and the number, at the front of the lines; returns where they end.
@@ -88,45 +87,35 @@ fn put_figures(figures: [u32; MOST_TASKS], count: usize, lines: &mut [u8]) -> us
     ensures { (Put lines.old 0 (figure_lines 0 (take count figures)) lines.new result) × (result ≤ answer_room) }
 {
     let mut at: usize = 0;
-    let mut place: usize = 0;
-    while place < count {
+    for (place, figure) in figures[..count].iter().enumerate() {
         let middle = text::decimal::put(lines, at, place as u64 + 1);
-        let end = text::first::put_field(lines, middle, figures[place]);
+        let end = text::first::put_field(lines, middle, *figure);
         lines[end] = b'\n';
         at = end + 1;
-        place += 1;
     }
     at
 }
 
-// Writes a line for each task, its position and its number, at the front of the lines, or the refusal; returns where they end.
-fn put_answer(words: &[u32], answer: Answer, figures: [u32; MOST_TASKS], lines: &mut [u8]) -> usize
-    requires { (answer ≡ Passed → NoneApplies words.now) × (length lines.old ≡ answer_room) }
-    ensures { (result ≤ answer_room) × (take result lines.new ≡ figure_lines_by answer (take (length (table_of words.now).tasks) figures)) }
+// Writes a line for each task of a table that passes, its position and its number, at the front of the lines; returns where they end.
+fn put_answer(words: &[u32], figures: [u32; MOST_TASKS], lines: &mut [u8]) -> Result<usize, Refusal>
+    requires { NoneApplies words.now × (length lines.old ≡ answer_room) }
+    ensures { PutOf (figure_lines 0 (take (length (table_of words.now).tasks) figures)) lines.new result }
 {
-    match answer {
-        Answer::Passed => {
-            let table = table::load(words);
-            put_figures(figures, table.count, lines)
-        }
-        Answer::Refused(number, position) => {
-            text::first::put_pair(lines, b"refused", number, position)
-        }
-    }
+    let table = table::load(words)?;
+    Ok(put_figures(figures, table.count, lines))
 }
 
-// Writes the worst-case response time of each task at the front of the lines, or the refusal; returns where they end.
-fn response_times(words: &[u32], lines: &mut [u8]) -> usize
+// Writes the worst-case response time of each task at the front of the lines; returns where they end, or the refusal.
+fn response_times(words: &[u32], lines: &mut [u8]) -> Result<usize, Refusal>
     requires { length lines.old ≡ answer_room }
-    ensures { (result ≤ answer_room) × (take result lines.new ≡ response_times_text words.now) }
+    ensures { PutOf (response_times_text words.now) lines.new result }
 {
-    let found = response_time::response_times(words);
-    let answer = found.answer;
-    let figures = found.responses;
-    put_answer(words, answer, figures, lines)
+    let figures = response_time::response_times(words)?;
+    put_answer(words, figures, lines)
 }
 
 // Writes a number, after a space where it is not the first of its line; returns where it ends.
+// By hand: the bytes go into the caller's slice from a place on. The library's text without a heap, `InlineText`, has its own buffer.
 fn put_spaced(line: &mut [u8], at: usize, number: u32) -> usize
     requires { at + 11 ≤ length line.old }
     ensures { (Put line.old at (spaced_at at number) line.new result) × (result ≤ at + 11) }
@@ -143,75 +132,49 @@ fn put_positions(set: u32, line: &mut [u8]) -> usize
     ensures { (Put line.old 0 (position_line set) line.new result) × (result ≤ answer_room) }
 {
     let mut at: usize = 0;
-    let mut place: u32 = 0;
-    while place < 32 {
+    for place in 0..32 {
         if (set >> place) % 2 == 1 {
             at = put_spaced(line, at, place + 1);
         }
-        place += 1;
     }
     line[at] = b'\n';
     at + 1
 }
 
-// Writes the positions of the tasks in conflict on one line, or the refusal; returns where it ends.
-fn conflict(words: &[u32], line: &mut [u8]) -> usize
+// Writes the positions of the tasks in conflict on one line; returns where it ends, or the refusal.
+fn conflict(words: &[u32], line: &mut [u8]) -> Result<usize, Refusal>
     requires { length line.old ≡ answer_room }
-    ensures { (result ≤ answer_room) × (take result line.new ≡ conflict_text words.now) }
+    ensures { PutOf (conflict_text words.now) line.new result }
 {
-    let found = conflict::conflict(words);
-    let answer = found.answer;
-    match answer {
-        Answer::Passed => put_positions(found.kept, line),
-        Answer::Refused(number, position) => {
-            text::first::put_pair(line, b"refused", number, position)
-        }
+    let kept = conflict::conflict(words)?;
+    Ok(put_positions(kept, line))
+}
+
+// Writes the slack of each task at the front of the lines; returns where they end, or the refusal.
+fn slack(words: &[u32], lines: &mut [u8]) -> Result<usize, Refusal>
+    requires { length lines.old ≡ answer_room }
+    ensures { PutOf (slack_text words.now) lines.new result }
+{
+    let figures = slack::slack(words)?;
+    put_answer(words, figures, lines)
+}
+
+// Writes the response-time bound of each task at the front of the lines, or that there is none; returns where they end, or the refusal.
+fn bounds(words: &[u32], lines: &mut [u8]) -> Result<usize, Refusal>
+    requires { length lines.old ≡ answer_room }
+    ensures { PutOf (bounds_text words.now) lines.new result }
+{
+    let tested = interference::response_bounds(words)?;
+    match tested {
+        Some(figures) => put_answer(words, figures, lines),
+        None => Ok(text::row::copy(b"none\n", 0, 5, lines, 0)),
     }
 }
 
-// Writes the slack of each task at the front of the lines, or the refusal; returns where they end.
-fn slack(words: &[u32], lines: &mut [u8]) -> usize
+// Writes the answer to a question on a table at the front of the lines; returns where it ends, or the refusal that is the answer.
+fn put_given(question: Question, words: &[u32], lines: &mut [u8]) -> Result<usize, Refusal>
     requires { length lines.old ≡ answer_room }
-    ensures { (result ≤ answer_room) × (take result lines.new ≡ slack_text words.now) }
-{
-    let found = slack::slack(words);
-    let answer = found.answer;
-    let figures = found.slack;
-    put_answer(words, answer, figures, lines)
-}
-
-// Writes that a table does not pass the interference test at the front of the line, or the refusal; returns where it ends.
-fn put_none(answer: Answer, line: &mut [u8]) -> usize
-    requires { length line.old ≡ answer_room }
-    ensures { (result ≤ answer_room) × (take result line.new ≡ no_bounds_line answer) }
-{
-    match answer {
-        Answer::Passed => text::row::copy(b"none\n", 0, 5, line, 0),
-        Answer::Refused(number, position) => {
-            text::first::put_pair(line, b"refused", number, position)
-        }
-    }
-}
-
-// Writes the response-time bound of each task at the front of the lines, or that there is none, or the refusal; returns where they end.
-fn bounds(words: &[u32], lines: &mut [u8]) -> usize
-    requires { length lines.old ≡ answer_room }
-    ensures { (result ≤ answer_room) × (take result lines.new ≡ bounds_text words.now) }
-{
-    let found = interference::response_bounds(words);
-    let answer = found.answer;
-    let tested = found.tested;
-    let figures = tested.bounds;
-    if tested.met {
-        return put_answer(words, answer, figures, lines);
-    }
-    put_none(answer, lines)
-}
-
-// Writes the answer to a question on a table at the front of the lines; returns where it ends.
-fn put(question: Question, words: &[u32], lines: &mut [u8]) -> usize
-    requires { length lines.old ≡ answer_room }
-    ensures { (result ≤ answer_room) × (take result lines.new ≡ answer_to question words.now) }
+    ensures { PutOf (answer_to question words.now) lines.new result }
 {
     match question {
         Question::Why => why(words, lines),
@@ -219,7 +182,18 @@ fn put(question: Question, words: &[u32], lines: &mut [u8]) -> usize
         Question::Conflict => conflict(words, lines),
         Question::Slack => slack(words, lines),
         Question::Bounds => bounds(words, lines),
-        Question::Verdict => verdict(words, lines),
+        Question::Verdict => Ok(verdict(words, lines)),
+    }
+}
+
+// Writes the answer to a question on a table, or its refusal, at the front of the lines; returns where it ends.
+fn put(question: Question, words: &[u32], lines: &mut [u8]) -> usize
+    requires { length lines.old ≡ answer_room }
+    ensures { (result ≤ answer_room) × (take result lines.new ≡ answer_to question words.now) }
+{
+    match put_given(question, words, lines) {
+        Ok(end) => end,
+        Err(refusal) => put_refusal(lines, refusal),
     }
 }
 
@@ -235,28 +209,17 @@ fn send_answer<W: Write>(out: &mut W, question: Question, bytes: &[u8]) -> Sent
     stream::send(out, 0, &lines[..length])
 }
 
-// Where the bytes after a word begin; 0 where they do not begin with it.
-fn after_word(bytes: &[u8], word: &[u8]) -> usize
-    ensures { result ≡ cond (starts_with word.now bytes.now) (length word.now) 0 }
-{
-    let found = reader::begins_with(bytes, 0, word);
-    if found {
-        return word.len();
-    }
-    0
-}
-
-// Where the table after a question's word begins; 0 where the bytes do not begin with it.
-fn table_after_word(question: Question, bytes: &[u8]) -> usize
-    ensures { result ≡ cond (starts_with (word_of question) bytes.now) (length (word_of question)) 0 }
+// The word of a question, and a newline.
+fn word_of(question: Question) -> &'static [u8]
+    ensures { result.now ≡ word_of question }
 {
     match question {
-        Question::Why => after_word(bytes, b"why\n"),
-        Question::ResponseTimes => after_word(bytes, b"longest\n"),
-        Question::Conflict => after_word(bytes, b"clash\n"),
-        Question::Slack => after_word(bytes, b"spare\n"),
-        Question::Bounds => after_word(bytes, b"bounds\n"),
-        Question::Verdict => after_word(bytes, b"verdict\n"),
+        Question::Why => b"why\n",
+        Question::ResponseTimes => b"longest\n",
+        Question::Conflict => b"clash\n",
+        Question::Slack => b"spare\n",
+        Question::Bounds => b"bounds\n",
+        Question::Verdict => b"verdict\n",
     }
 }
 
@@ -272,14 +235,10 @@ fn print<W: Write>(out: &mut W, bytes: &[u8]) -> Sent
         Question::Bounds,
         Question::Verdict,
     ];
-    let mut i: usize = 0;
-    while i < questions.len() {
-        let question = questions[i];
-        let start = table_after_word(question, bytes);
-        if 0 < start {
-            return send_answer(out, question, &bytes[start..]);
+    for question in questions {
+        if let Some(table) = bytes.strip_prefix(word_of(question)) {
+            return send_answer(out, question, table);
         }
-        i += 1;
     }
     stream::send(out, 0, b"no such question\n")
 }

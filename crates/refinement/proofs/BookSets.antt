@@ -21,7 +21,7 @@ use Rattle.model.proofs.Bools.{and_left, not-true-false}
 use Rattle.table.specs.Words.{table_of}
 use Rattle.table.proofs.Decide.{fails}
 use Rattle.run.specs.declared.Run.{Run}
-use Rattle.run.specs.declared.Sets.{Sets}
+use Rattle.run.specs.Sets.{Sets}
 use Rattle.run.specs.Answer.{by_answer, answer_meaning}
 use Rattle.run.specs.Numbers.{RowApplies, RunOut, fifteen, fourteen, late_at, run_out, twenty}
 use Rattle.run.specs.Row.{no_bytes, row_of}

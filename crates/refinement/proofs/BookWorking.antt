@@ -13,8 +13,8 @@ use Rattle.model.specs.Task.{AllValid, Table}
 use Rattle.model.specs.Working.{book_working, set_where, working_asked}
 use Rattle.model.proofs.Bools.{not-true-false}
 use Rattle.table.specs.Words.{table_of}
-use Rattle.run.specs.declared.Answer as declared
-use Rattle.run.specs.declared.Answer.TheVariants.{Taken, Refused}
+use Rattle.run.specs.Answer as declared
+use Rattle.run.specs.Answer.{Taken, Refused}
 use Rattle.run.specs.declared.Run.{Run}
 use Rattle.run.specs.Answer.{answer_meaning, by_answer, shown_by}
 use Rattle.run.specs.Numbers.{fifteen, late_at}

@@ -10,8 +10,8 @@ use borrow.Author.Tests.{ltb-true}
 use Rattle.model.specs.Advance as entries
 use Rattle.model.specs.Refusals as answers
 use Rattle.run.specs.declared.Run.{Run}
-use Rattle.run.specs.declared.Answer.{Answer}
-use Rattle.run.specs.declared.Answer.TheVariants.{Taken, Refused}
+use Rattle.run.specs.Answer.{Answer}
+use Rattle.run.specs.Answer.{Taken, Refused}
 use Rattle.run.specs.Answer.{answer_meaning}
 use Rattle.run.specs.Run.{firm_in}
 use Rattle.run.specs.Numbers.{run_out, past_count, unknown_in, first_late_in, wrong_empties_in, wrong_reports_in}

@@ -8,9 +8,9 @@ use Rattle.model.specs.Advance.{Entry, advance}
 use Rattle.phase.specs.declared.Phase.{Phase}
 use Rattle.phase.specs.declared.Phase.TheVariants.{Coming, Working, Holding, Resting}
 use Rattle.run.specs.declared.Run.{Run}
-use Rattle.run.specs.declared.Answer.{Answer}
-use Rattle.run.specs.declared.Answer.TheVariants.{Taken, Refused}
-use Rattle.run.specs.declared.Row.{Row}
+use Rattle.run.specs.Answer.{Answer}
+use Rattle.run.specs.Answer.{Taken, Refused}
+use Rattle.run.specs.Answer.{Row}
 use Rattle.refinement.proofs.HandBuilt.{Line, worked, rows, t, at-even, one, two, run_b, on1, on2, no}
 use Rattle.refinement.proofs.Running.{running}
 

@@ -10,9 +10,9 @@ use Rattle.phase.specs.declared.Phase.{Phase}
 use Rattle.phase.specs.declared.Phase.TheVariants.{Coming, Working, Holding, Resting}
 use Rattle.phase.specs.declared.Task.{Task}
 use Rattle.run.specs.declared.Run.{Run}
-use Rattle.run.specs.declared.Answer.{Answer}
-use Rattle.run.specs.declared.Answer.TheVariants.{Taken, Refused}
-use Rattle.run.specs.declared.Row.{Row}
+use Rattle.run.specs.Answer.{Answer}
+use Rattle.run.specs.Answer.{Taken, Refused}
+use Rattle.run.specs.Answer.{Row}
 use Rattle.phase.specs.Task.{unused}
 use Rattle.run.specs.Answer.{in64}
 use Rattle.run.specs.Row.{no_bytes, row_of}

@@ -9,8 +9,8 @@ use lib.Dec.{eqb, ltb}
 use Rattle.model.specs.Advance.{Entry, advance, withdraw, withdraw_all, singleton}
 use Rattle.model.specs.Refusals as model
 use Rattle.run.specs.declared.Run.{Run}
-use Rattle.run.specs.declared.Answer.{Answer}
-use Rattle.run.specs.declared.Answer.TheVariants.{Taken, Refused}
+use Rattle.run.specs.Answer.{Answer}
+use Rattle.run.specs.Answer.{Taken, Refused}
 use Rattle.run.specs.Advance.{advance_answer, advance_of}
 use Rattle.run.specs.Answer.{answer_meaning, by_answer}
 use Rattle.run.specs.Numbers.{first_late_in, past_count, run_out, unknown_in, wrong_empties_in, wrong_reports_in}

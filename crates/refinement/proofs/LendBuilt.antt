@@ -11,7 +11,7 @@ use Rattle.phase.specs.declared.Phase.TheVariants.{Working, Holding, Resting}
 use Rattle.phase.specs.declared.Task.{Task}
 use Rattle.phase.specs.Task.{unused}
 use Rattle.run.specs.declared.Run.{Run}
-use Rattle.run.specs.declared.Answer.TheVariants.{Taken, Refused}
+use Rattle.run.specs.Answer.{Taken, Refused}
 use Rattle.refinement.proofs.HandBuilt.{Line, worked, rows, t, at-even, one, two, three, on1, on2, no, limit, row64}
 use Rattle.refinement.proofs.EmptyBuilt.{Named, worked-named, built, sets, none, empty-no, report-no, row-20}
 use Rattle.refinement.proofs.WithdrawBuilt.{out}

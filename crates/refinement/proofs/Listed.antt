@@ -18,7 +18,7 @@ use Rattle.model.proofs.Search.{none_any, none-at}
 use Rattle.model.specs.Search.{any, up_from}
 use Rattle.table.proofs.Decide.{Decides, decides_and, decides_or, decides_eq}
 use Rattle.run.specs.declared.Run.{Run}
-use Rattle.run.specs.declared.Answer.{Answer}
+use Rattle.run.specs.Answer.{Answer}
 use Rattle.run.specs.Answer.{answer_meaning}
 use Rattle.refinement.specs.Entries.{entry_of, answers, run_after_list}
 use Rattle.refinement.specs.Listing.{IsEntry, is_entry, Listed, listed, entry_count, entry_kind_at, entry_second_at, entry_by, entry_at, entries_in}

@@ -3,7 +3,7 @@ use mathlib.Core.List.{List}
 use mathlib.Core.Path.{◌≡◌, ap}
 use Prim.Native.Nat.{ℕ}
 use Rattle.table.specs.OffChain.{SameOnChain}
-use Rattle.run.specs.declared.Started.{Started}
+use Rattle.run.specs.Start.{Started}
 use Rattle.run.proofs.OffChain.{off-chain-start}
 use Rattle.refinement.specs.Replay.{by_start, replay_of, replayed_run}
 

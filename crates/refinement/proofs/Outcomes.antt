@@ -18,11 +18,11 @@ use Rattle.table.specs.Numbers.{FirstOf, NoneOf}
 use Rattle.table.specs.Words.{table_of}
 use Rattle.table.proofs.Decide.{Decides, decides_and, decides-le, fails}
 use Rattle.run.specs.declared.Run.{Run}
-use Rattle.run.specs.declared.Answer.{Answer}
-use Rattle.run.specs.declared.Answer.TheVariants.{Taken, Refused}
-use Rattle.run.specs.declared.Row.{Row}
-use Rattle.refinement.specs.declared.Replayed.{Replayed}
-use Rattle.refinement.specs.declared.Replayed.TheVariants as replayed
+use Rattle.run.specs.Answer.{Answer}
+use Rattle.run.specs.Answer.{Taken, Refused}
+use Rattle.run.specs.Answer.{Row}
+use Rattle.refinement.specs.Replayed.{Replayed}
+use Rattle.refinement.specs.Replayed as replayed
 use Rattle.run.specs.Answer.{answer_meaning, shown_by, row_meaning}
 use Rattle.run.specs.Row.{row_of}
 use Rattle.run.specs.Start.{StartApplies, start_of, StartOf}

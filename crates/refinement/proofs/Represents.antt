@@ -16,8 +16,8 @@ use Rattle.model.specs.Refusals.{Answer, taken, refused}
 use Rattle.model.specs.Refusals.{Asked, first_late, wrong_empties, wrong_reports, unknown_positions, withdrawing, answer, shown, row_refused, asked, asked_by}
 use Rattle.model.specs.Lists.{entered, enter, book_from, answers_from}
 use Rattle.run.specs.declared.Run.{Run}
-use Rattle.run.specs.declared.Answer as declared
-use Rattle.run.specs.declared.Answer.TheVariants.{Taken, Refused}
+use Rattle.run.specs.Answer as declared
+use Rattle.run.specs.Answer.{Taken, Refused}
 use Rattle.run.specs.Run.{moved, withdrawn_in}
 use Rattle.run.specs.Answer.{answer_meaning, by_answer, row_meaning, shown_by, asked_in64, in64}
 use Rattle.run.specs.Numbers.{wrong_empties_in, wrong_reports_in, past_count, unknown_in}

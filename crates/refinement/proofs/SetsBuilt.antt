@@ -12,8 +12,8 @@ use Rattle.phase.specs.declared.Phase.{Phase}
 use Rattle.phase.specs.declared.Phase.TheVariants.{Coming, Working, Holding, Resting}
 use Rattle.phase.specs.Task.{unused}
 use Rattle.run.specs.declared.Run.{Run}
-use Rattle.run.specs.declared.Sets.{Sets}
-use Rattle.run.specs.declared.Answer.TheVariants.{Taken, Refused}
+use Rattle.run.specs.Sets.{Sets}
+use Rattle.run.specs.Answer.{Taken, Refused}
 use Rattle.run.specs.Row.{row_of}
 use Rattle.run.specs.Sets.{asked_in32, sets_in, sets_of, sets_meaning}
 use Rattle.refinement.proofs.HandBuilt.{at-even, one, t, three, two, fenced_run}

@@ -13,7 +13,7 @@ use Rattle.phase.specs.declared.Phase.TheVariants.{Coming, Working, Holding, Res
 use Rattle.phase.specs.declared.Task.{Task}
 use Rattle.phase.specs.Task.{unused}
 use Rattle.run.specs.declared.Run.{Run}
-use Rattle.run.specs.declared.Answer.TheVariants.{Taken, Refused}
+use Rattle.run.specs.Answer.{Taken, Refused}
 use Rattle.refinement.proofs.HandBuilt.{rows, t, at-even, fenced_run, one, two, three, on2, no, row64}
 use Rattle.refinement.proofs.EmptyBuilt.{Named, worked-named, built, sets, none, empty-no, report-no, row-20}
 use Rattle.refinement.proofs.WithdrawBuilt.{out}

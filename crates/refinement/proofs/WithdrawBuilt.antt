@@ -9,7 +9,7 @@ use Rattle.model.specs.Advance.{withdraw}
 use Rattle.phase.specs.declared.Phase.{Phase}
 use Rattle.phase.specs.declared.Phase.TheVariants.{Coming, Working, Holding, Resting}
 use Rattle.run.specs.declared.Run.{Run}
-use Rattle.run.specs.declared.Answer.TheVariants.{Taken, Refused}
+use Rattle.run.specs.Answer.{Taken, Refused}
 use Rattle.refinement.proofs.HandBuilt.{rows, t, one, two, on1, on2, no}
 use Rattle.refinement.proofs.EmptyBuilt.{Named, worked-named, built, sets, none, empty-no, report-no, row-20, single, single-even, least-one}
 use Rattle.refinement.proofs.Running.{running}

@@ -10,7 +10,7 @@ use Rattle.model.specs.Search.{any, up_from}
 use Rattle.phase.specs.declared.Phase.{Phase}
 use Rattle.phase.specs.declared.Phase.TheVariants.{Coming, Working, Holding, Resting}
 use Rattle.run.specs.declared.Run.{Run}
-use Rattle.run.specs.declared.Answer.TheVariants.{Taken, Refused}
+use Rattle.run.specs.Answer.{Taken, Refused}
 use Rattle.refinement.specs.Listing.{listed, entries_in}
 use Rattle.refinement.proofs.HandBuilt.{rows, t, at-even, two, on1, on2, no}
 use Rattle.refinement.proofs.EmptyBuilt.{Named, worked-named, built, none, single}

@@ -9,8 +9,8 @@ use Rattle.model.specs.Sets.{set_of}
 use Rattle.model.specs.Working.{set_where}
 use Rattle.phase.specs.declared.Phase.TheVariants.{Coming, Working, Holding, Resting}
 use Rattle.run.specs.declared.Run.{Run}
-use Rattle.run.specs.declared.WorkingPositions.{WorkingPositions}
-use Rattle.run.specs.declared.Answer.TheVariants.{Taken, Refused}
+use Rattle.run.specs.Working.{WorkingPositions}
+use Rattle.run.specs.Answer.{Taken, Refused}
 use Rattle.run.specs.Working.{working_of}
 use Rattle.refinement.proofs.HandBuilt.{t, three}
 use Rattle.refinement.proofs.Running.{running}

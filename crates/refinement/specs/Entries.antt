@@ -3,8 +3,8 @@
 use Rattle.std.specs.Prelude.{List, [], ◌∷◌}
 use Rattle.model.specs.Advance.{Entry, advance, withdraw, withdraw_all}
 use Rattle.run.specs.declared.Run.{Run}
-use Rattle.run.specs.declared.Answer.{Answer}
-use Rattle.run.specs.declared.Advanced.{Advanced}
+use Rattle.run.specs.Answer.{Answer}
+use Rattle.run.specs.Advance.{Advanced}
 use Rattle.run.specs.Advance.{advance_of}
 use Rattle.run.specs.Withdraw.{withdraw_of, withdraw_all_of}
 

@@ -1,7 +1,7 @@
 -- A run that has met 15 stays there (scope, 'The run in the cab'): `late-stays` shows it of every run, also of one that was built by hand.
 use Rattle.std.specs.Prelude.{◌≡◌, ℕ}
 use Rattle.run.specs.declared.Run.{Run}
-use Rattle.run.specs.declared.Answer.TheVariants.{Refused}
+use Rattle.run.specs.Answer.{Refused}
 use Rattle.run.specs.Advance.{advance_of}
 use Rattle.run.specs.Row.{no_bytes, row_of}
 use Rattle.run.specs.Sets.{no_sets, sets_of}

@@ -6,5 +6,6 @@ pub mod Sets
 pub mod Working
 pub mod RunRefinesBook
 pub mod Listing
+pub mod Replayed
 pub mod Replay
 pub mod Fenced

@@ -10,10 +10,10 @@ use Rattle.table.specs.Limits.{InRange}
 use Rattle.table.specs.Words.{table_of}
 use Rattle.table.specs.Numbers.{FirstOf, NoneOf}
 use Rattle.run.specs.declared.Run.{Run}
-use Rattle.run.specs.declared.Answer.{Answer}
-use Rattle.run.specs.declared.Answer.TheVariants.{Taken, Refused}
-use Rattle.refinement.specs.declared.Replayed.{Replayed}
-use Rattle.refinement.specs.declared.Replayed.TheVariants as replayed
+use Rattle.run.specs.Answer.{Answer}
+use Rattle.run.specs.Answer.{Taken, Refused}
+use Rattle.refinement.specs.Replayed.{Replayed}
+use Rattle.refinement.specs.Replayed as replayed
 use Rattle.run.specs.Answer.{answer_meaning, asked_in64}
 use Rattle.run.specs.Row.{row_of}
 use Rattle.run.specs.Start.{StartApplies, start_of}

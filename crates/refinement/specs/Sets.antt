@@ -12,7 +12,7 @@ use Rattle.model.specs.Sets.{SetsApart, SetsCount, SetsUnfenced, set_of, sets_as
 use Rattle.model.specs.Sizes.{most_tasks}
 use Rattle.model.specs.Task.{Table}
 use Rattle.table.specs.Words.{table_of}
-use Rattle.run.specs.declared.Sets.{Sets}
+use Rattle.run.specs.Sets.{Sets}
 use Rattle.run.specs.Answer.{by_answer, answer_meaning}
 use Rattle.run.specs.Row.{no_bytes, row_of}
 use Rattle.run.specs.Sets.{asked_in32, bytes_of, in32, sets_of, sets_meaning}

@@ -38,12 +38,10 @@ fn feed_all<W: Write>(out: &mut W, start: Session, bytes: &[u8], ended: bool) ->
     let mut at: usize = 0;
     loop {
         let fed = session.feed(&bytes[at..], ended, &mut reply);
-        let next = fed.session;
-        session = next;
+        session = fed.session;
         at += fed.taken;
-        let length = fed.length;
-        sent = stream::send(out, sent.count, &reply[..length]);
-        if sent.whole {} else {
+        sent = stream::send(out, sent.count, &reply[..fed.length]);
+        if !sent.whole {
             return Round {
                 session: session,
                 taken: at,
@@ -103,7 +101,7 @@ fn receive<R: Read, W: Write, E: Write>(
     }
 }
 
-// A proved loop has to end, and no contract ensures that standard input does: the rounds are counted down from a number that no run uses up.
+// A proved loop has to end, and no contract ensures that standard input does: no run uses up this number of rounds.
 fn main(rt: HostRuntime) {
     let mut input = rt.stdin();
     let mut out = rt.stdout();
@@ -111,16 +109,12 @@ fn main(rt: HostRuntime) {
     let mut session = Session::new();
     let mut buffer = io::buffer();
     let mut held: usize = 0;
-    let mut rounds = u64::MAX;
-    while rounds > 0 {
+    for _ in 0..u64::MAX {
         let received = receive(&mut input, &mut out, &mut log, session, &mut buffer, held);
-        let round = received.round;
-        if round.again {} else {
+        if !received.round.again {
             return;
         }
-        let next = round.session;
-        session = next;
+        session = received.round.session;
         held = received.held;
-        rounds -= 1;
     }
 }

@@ -11,8 +11,10 @@ use Rattle.model.specs.Task.{AllValid, Table}
 use Rattle.model.specs.Verdict as verdict
 use Rattle.model.specs.Firm.{FirmRule}
 use Rattle.model.proofs.Lists.{get_d-zeros}
-use Rattle.table.specs.declared.Answer.TheVariants as table
 use Rattle.table.specs.declared.Loaded.{Loaded}
+use Rattle.std.specs.Prelude.{Result, Ok, Err}
+use Rattle.model.specs.declared.refusal.Refusal.{Refusal}
+use Rattle.table.proofs.Contract.{load-ok}
 use Rattle.table.specs.Load.{LoadOf}
 use Rattle.table.specs.Numbers as numbers
 use Rattle.table.specs.Numbers.{place, Earlier}
@@ -27,9 +29,9 @@ use Rattle.table.specs.Fit.{loaded_table}
 use Rattle.judge.specs.Judged.{Judged, accepted_of, verdict_of}
 use Rattle.table.proofs.Fit.{same-table}
 use Rattle.judge.proofs.Contract.{firm-words, judged-exact, refused-value, run_value}
-use Rattle.response_time.specs.declared.ResponseTimes.{ResponseTimes}
+use Rattle.response_time.specs.ResponseTimes.{ResponseTimes}
 use Rattle.response_time.specs.EndedWithin.{AlwaysEndedWithin}
-use Rattle.response_time.specs.ResponseTimes.{ResponseTimesOf, response_times_by, response_times_in, given_times, response_times_of, no_times}
+use Rattle.response_time.specs.ResponseTimes.{answered, ResponseTimesOf, response_times_by, response_times_in, given_times, response_times_of, no_times}
 use Rattle.response_time.specs.Numbers.{Applies, First, NoneApplies, thirteen, words}
 use Rattle.response_time.specs.Response.{WorstResponse, worst_response}
 use Rattle.response_time.proofs.EndedWithin.{worst-response-kept}
@@ -151,19 +153,20 @@ module _ (ws : List ℕ) where
   by_value r e = subst (ResponseTimesOf ws) (sym e) response-times-contract
 
   -- OF THE TABLE THAT WAS LOADED
-  module _ (t : Loaded) (l : LoadOf ws t) where
+  module _ (loaded : Result Loaded Refusal) (l : LoadOf ws loaded) where
     -- what is done with one that passed is done with the words
     pub walked-promise :
-        t.answer ≡ table.Passed → (r : ResponseTimes)
+        (t : Loaded) → loaded ≡ Ok t → (r : ResponseTimes)
         → r ≡ response_times_by (by_miss (missed_before (loaded_table t) (suc t.horizon)) (accepted_of t)) (response_times_in (loaded_table t)) → ResponseTimesOf ws r
-    walked-promise e r q =
+    walked-promise t e r q =
+        let (h, none, passed) = load-ok ws loaded l t e in
         by_value r
         (q
-        ∙ (ap (λ (w : Table). response_times_by (by_miss (missed_before (loaded_table t) (suc t.horizon)) (accepted_of t)) (response_times_in w)) (same-table ws t l e)
-        ∙ (unfold response_times_of in ap (λ (v : Verdict). response_times_by v (response_times_in s)) (run_value ws t l e _ refl).value)))
+        ∙ (ap (λ (w : Table). response_times_by (by_miss (missed_before (loaded_table t) (suc t.horizon)) (accepted_of t)) (response_times_in w)) (same-table ws t h none)
+        ∙ (unfold response_times_of in ap (λ (v : Verdict). response_times_by v (response_times_in s)) (run_value ws loaded l t e _ refl).value)))
 
     -- a refusal of it is the answer
-    pub refused_all : (n p : ℕ) → t.answer ≡ table.Refused n p → (r : ResponseTimes) → r ≡ no_times n p → ResponseTimesOf ws r
-    refused_all n p e r q =
-        by_value r
-        (q ∙ (unfold response_times_of in ap (λ (v : Verdict). response_times_by v (response_times_in s)) (refused-value ws t l n p e).value))
+    pub refused_all : (x : Refusal) → loaded ≡ Err x → ResponseTimesOf ws (answered (Err x))
+    refused_all x e =
+        by_value (answered (Err x))
+        (unfold response_times_of in ap (λ (v : Verdict). response_times_by v (response_times_in s)) (refused-value ws loaded l x e).value)

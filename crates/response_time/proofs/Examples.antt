@@ -9,7 +9,7 @@ use Rattle.table.proofs.Examples.{chained, words_a}
 use Rattle.table.specs.Answer.{answer_of, by_horizon, by_tasks, by_walk, ending_of, first_out, header_number, last_step}
 use Rattle.table.specs.Words.{chain, count, visited, table_of}
 use Rattle.judge.specs.Judged.{verdict_of}
-use Rattle.response_time.specs.declared.ResponseTimes.{ResponseTimes}
+use Rattle.response_time.specs.ResponseTimes.{ResponseTimes}
 use Rattle.response_time.specs.ResponseTimes.{response_times_in, response_times_of, no_times}
 use Rattle.response_time.specs.ResponseTimes as answers
 use Rattle.response_time.specs.Response.{greatest, worst_response_by, response_time}

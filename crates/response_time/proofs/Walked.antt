@@ -22,8 +22,8 @@ use Rattle.model.proofs.Runs.{missed-at}
 use Rattle.model.proofs.Search.{any_some, none-at}
 use Rattle.table.specs.declared.Loaded.{Loaded}
 use Rattle.judge.specs.declared.Verdict.TheVariants.{Firm, Full}
-use Rattle.judge.specs.declared.Missed as missed
-use Rattle.judge.specs.declared.Missed.TheVariants.{Never, At}
+use Rattle.judge.specs.FirstMiss as missed
+use Rattle.judge.specs.FirstMiss.{Never, At}
 use Rattle.judge.specs.FirstMiss.{missed_before, by_miss}
 use Rattle.table.specs.Fit.{loaded_table, Fit}
 use Rattle.judge.specs.Judged.{accepted_of}

@@ -1,16 +1,17 @@
 -- The answer of `response_times`, and its contract (request 107).
-use Rattle.std.specs.Prelude.{◌≡◌, List, map, ◌++◌, ◌↔◌, ℕ, ◌-◌, ◌≤◌, ◌<◌, length, get_or, replicate}
+use Rattle.std.specs.Prelude.{Result, Ok, Err, ◌≡◌, List, map, ◌++◌, ◌↔◌, ℕ, ◌-◌, ◌≤◌, ◌<◌, length, get_or, replicate}
 use Rattle.model.specs.Refusals as book
 use Rattle.model.specs.Search.{up_from}
 use Rattle.model.specs.Sizes.{most_tasks}
 use Rattle.model.specs.Task.{Table}
-use Rattle.table.specs.declared.Answer.TheVariants as table
+use Rattle.table.specs.Answer as table
 use Rattle.table.specs.Load.{load_meaning}
 use Rattle.table.specs.Words.{table_of}
 use Rattle.judge.specs.declared.Verdict.{Verdict}
 use Rattle.judge.specs.declared.Verdict.TheVariants.{Firm, Full, Miss, Refused}
 use Rattle.judge.specs.Judged.{verdict_of}
-use Rattle.response_time.specs.declared.ResponseTimes.{ResponseTimes}
+use Rattle.model.specs.declared.refusal.Refusal.{Refusal}
+use Rattle.model.specs.Refusal.{number_of, position_of}
 use Rattle.response_time.specs.Response.{worst_response, WorstResponse}
 use Rattle.response_time.specs.EndedWithin.{AlwaysEndedWithin}
 use Rattle.response_time.specs.Numbers.{First, NoneApplies}
@@ -19,12 +20,22 @@ use Rattle.response_time.specs.Numbers.{First, NoneApplies}
 unfoldable pub response_times_in : Table → List ℕ
 response_times_in s = map (worst_response s) (up_from 0 (length s.tasks)) ++ replicate (most_tasks - length s.tasks) 0
 
+-- the answer, and the response time of each task
+pub record ResponseTimes : Type 0 where
+  pub answer : table.Answer
+  pub responses : List ℕ
+
 -- the response times are given; or they are refused with number and position, and all of them are 0
 abbrev pub given_times : List ℕ → ResponseTimes
 given_times xs = record { answer = table.Passed; responses = xs }
 
 abbrev pub no_times : ℕ → ℕ → ResponseTimes
 no_times n p = record { answer = table.Refused n p; responses = replicate most_tasks 0 }
+
+-- as code returns it
+abbrev pub answered : Result (List ℕ) Refusal → ResponseTimes
+answered (Ok xs) = given_times xs
+answered (Err e) = no_times (number_of e) (position_of e)
 
 -- by the judge's verdict: given for Firm and Full, 13 for a miss, and the table's numbers unchanged
 abbrev pub response_times_by : Verdict → List ℕ → ResponseTimes

@@ -3,16 +3,15 @@ ghost use Rattle.std.specs.Prelude.{◌≡◌, suc};
 ghost use Rattle.judge.specs.FirstMiss.{missed_before, by_miss};
 ghost use Rattle.table.specs.Fit.{loaded_table, Fit};
 ghost use Rattle.judge.specs.Judged.{accepted_of};
-ghost use Rattle.response_time.specs.ResponseTimes.{response_times_in, response_times_by};
+ghost use Rattle.response_time.specs.ResponseTimes.{answered, response_times_in, response_times_by};
 
-use crate::ResponseTimes;
-use model::MOST_TASKS;
-use table::{Answer, Loaded};
+use model::{MOST_TASKS, Refusal};
+use table::Loaded;
 
 // Jumps up to the horizon and past it, and records the response time of each job that ends; a missed deadline is 13.
-pub(crate) fn times_of(table: Loaded) -> ResponseTimes
+pub(crate) fn times_of(table: Loaded) -> Result<[u32; MOST_TASKS], Refusal>
     requires { Fit table }
-    ensures { result ≡ response_times_by (by_miss (missed_before (loaded_table table) (suc table.horizon)) (accepted_of table)) (response_times_in (loaded_table table)) }
+    ensures { answered result ≡ response_times_by (by_miss (missed_before (loaded_table table) (suc table.horizon)) (accepted_of table)) (response_times_in (loaded_table table)) }
 {
     let columns = simulation::columns::columns_of(table);
     let setting = columns.setting;
@@ -24,7 +23,7 @@ pub(crate) fn times_of(table: Loaded) -> ResponseTimes
     let mut responses = [0u32; MOST_TASKS];
     while registers.tick <= table.horizon {
         if crate::recording::any_left(registers.claiming & registers.due, &places) {
-            return crate::refused(13, 0);
+            return Err(Refusal::TableMisses);
         }
         let on = judge::by_events::run_on(
             setting,
@@ -38,8 +37,5 @@ pub(crate) fn times_of(table: Loaded) -> ResponseTimes
         let ended = registers.chosen & (registers.chosen ^ registers.claiming);
         crate::recording::record_ends(ended, registers.tick, &times, &places, &mut responses);
     }
-    ResponseTimes {
-        answer: Answer::Passed,
-        responses: responses,
-    }
+    Ok(responses)
 }

@@ -13,4 +13,5 @@ pub mod Borrowed
 pub mod Tick
 pub mod BookSets
 pub mod Lending
+pub mod Showing
 pub mod LentSets

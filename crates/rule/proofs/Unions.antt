@@ -1,15 +1,13 @@
 -- Sets put together: whether one has a core, one beside another, and the cores that some of the sets have.
-use mathlib.Core.Path.{◌≡◌, refl, sym, ap, ◌∙◌}
+use mathlib.Core.Path.{◌≡◌, sym, ap, ◌∙◌}
 use mathlib.Core.Logic.{◌⊎◌, inl, inr}
-use mathlib.Core.Bool.{Bool, true, false, ◌||◌, or-false}
-use mathlib.Core.List.{List, [], ◌++◌, append-nil, map}
-use Prim.Native.Nat.{ℕ, zero, suc, ◌^◌, ◌≤◌, ◌<◌}
+use mathlib.Core.Bool.{Bool, false, ◌||◌, or_assoc, or-false}
+use mathlib.Core.List.{List, [], ◌∷◌, ◌++◌, append-nil, map}
+use Prim.Native.Nat.{ℕ, zero, suc, ◌^◌, ◌<◌}
 use native.Mathlib.Omega.{arith}
 use lib.Bits.{bit_or}
 use lib.Dec.{ltb}
-use lib.ListN.{length, get_or, drop, drop_of_length-le, get_or-eq_default}
-use lib.Seq.{drop-cons}
-use borrow.Author.Tests.{lt-ltb, ltb-true, ltb-false}
+use borrow.Author.Tests.{lt-ltb}
 use Rattle.model.specs.Grants.{some}
 use Rattle.model.specs.Lending.{among}
 use Rattle.model.specs.Search.{bit, member, up_from}
@@ -45,24 +43,21 @@ pub cores-or : (a b : ℕ) → (cores a ≡ []) ⊎ (cores b ≡ []) → cores (
 cores-or a b (inl e) = or-none a b e ∙ sym (ap (λ (l : List ℕ). l ++ cores b) e)
 cores-or a b (inr e) = none_or a b e ∙ sym (ap (λ (l : List ℕ). cores a ++ l) e ∙ append-nil (cores a))
 
--- ---- the cores that some of the sets have, one set further along
+-- ---- the cores that some of the sets have
 
-module _ (c : ℕ) (h : c < 64) where
-  pub among_next : (i : ℕ) (sets : List ℕ) → among c (map cores (drop i sets)) ≡ bit (get_or sets i 0) c || among c (map cores (drop (suc i) sets))
-  unfolding among
-  among_next i sets = go (ltb i (length sets)) refl
-    where
-      go : (t : Bool) → ltb i (length sets) ≡ t → among c (map cores (drop i sets)) ≡ bit (get_or sets i 0) c || among c (map cores (drop (suc i) sets))
-      go true e =
-          ap (λ (l : List ℕ). among c (map cores l)) (drop-cons sets i 0 (ltb-true i (length sets) e))
-          ∙ ap (λ (t : Bool). t || among c (map cores (drop (suc i) sets))) (cores-memb (get_or sets i 0) c h)
-      go false e =
-          let k : length sets ≤ i = ltb-false i (length sets) e in
-          let m : length sets ≤ suc i = omega arith in
-          ap (λ (l : List ℕ). among c (map cores l)) (drop_of_length-le sets k)
-          ∙ sym (ap (λ (l : List ℕ). bit (get_or sets i 0) c || among c (map cores l)) (drop_of_length-le sets m) ∙ or-false (bit (get_or sets i 0) c)
-          ∙ ap (λ (x : ℕ). bit x c) (get_or-eq_default sets 0 k) ∙ bit-none c)
+-- a set that has just these
+abbrev pub Union : List ℕ → ℕ → Type 0
+Union sets all = (c : ℕ) → c < 64 → bit all c ≡ among c (map cores sets)
 
-  pub among-end : (i : ℕ) (sets : List ℕ) → length sets ≤ i → among c (map cores (drop i sets)) ≡ false
-  unfolding among
-  among-end i sets k = ap (λ (l : List ℕ). among c (map cores l)) (drop_of_length-le sets k)
+pub union_none : Union [] 0
+unfolding among
+union_none c h = bit-none c
+
+-- one set more
+among_more : (c : ℕ) (sets : List ℕ) (x : ℕ) → c < 64 → among c (map cores (sets ++ (x ∷ []))) ≡ among c (map cores sets) || bit x c
+unfolding among
+among_more c [] x h = or-false (member c (cores x)) ∙ cores-memb x c h
+among_more c (s ∷ sets) x h = ap (λ (t : Bool). member c (cores s) || t) (among_more c sets x h) ∙ sym (or_assoc (member c (cores s)) (among c (map cores sets)) (bit x c))
+
+pub union_more : (sets : List ℕ) (all x : ℕ) → Union sets all → Union (sets ++ (x ∷ [])) (bit_or all x)
+union_more sets all x u c h = or-bit all x c ∙ ap (λ (t : Bool). t || bit x c) (u c h) ∙ sym (among_more c sets x h)

@@ -1,4 +1,5 @@
 // The tick rule: the claimants that are given cores in a tick, their cores, what is lent of them, and the row that shows it.
+// A rule is a number here, since each clause speaks of `rule_of` of any number. An enum of the rules would ask more of callers.
 #![tactic(auto)]
 
 ghost use Rattle.std.specs.Prelude.{◌≡◌, ◌&&◌, map, ◌++◌, ℕ, ◌+◌, ◌-◌, ◌≤◌, ◌<◌, ltb, get_or, take, replicate};
@@ -17,6 +18,7 @@ ghost use Rattle.rule.specs.Lent.{LentAs, NotBoth, ShownAs, Showable};
 ghost use Rattle.rule.specs.Marked.{marked, shown_bytes};
 ghost use Rattle.rule.specs.Widths.{widths_in};
 
+use model::sets::Members;
 use model::{FENCED, MOST_TASKS, ROW};
 
 // The number of widths: each place has two, the first of every place before the second of any.
@@ -61,6 +63,7 @@ pub fn choose(rule: u32, free: u64, claims: u32, even: u32, widths: &[u32; PAIR]
 {
     let mut chosen: u32 = 0;
     let mut left = u64::count_ones(free);
+    // By hand, for speed: with a `for` over `Members` the verdict on heavy tables that go tick by tick takes 15 to 20 percent longer.
     let mut rest = claims;
     while 0 < rest {
         let p = u32::trailing_zeros(rest);
@@ -83,6 +86,7 @@ pub fn choose(rule: u32, free: u64, claims: u32, even: u32, widths: &[u32; PAIR]
 }
 
 // The set of cores of each of the first `count` positions, 0 where it is given none; `claims` is the set that claims, bit 0 for position 1.
+// Not one with `choose`, which keeps a count of the free cores in place of their set.
 pub fn grants(
     rule: u32,
     free: u64,
@@ -95,17 +99,13 @@ pub fn grants(
 {
     let mut sets = [0u64; MOST_TASKS];
     let mut set = free;
-    let mut rest = claims;
-    while 0 < rest {
-        let p = u32::trailing_zeros(rest);
-        let at = p as usize;
-        rest &= rest - 1;
-        if at < count {
-            let width = width_at(even, widths, p);
+    for place in Members::from(claims) {
+        if place < count {
+            let width = width_at(even, widths, place as u32);
             match select(rule, u64::count_ones(set), width) {
                 Selection::Takes => {
                     let taken = cores::lowest(set, width);
-                    sets[at] = taken;
+                    sets[place] = taken;
                     set -= taken;
                 }
                 Selection::Passed => {}
@@ -123,11 +123,8 @@ pub fn mark(row: [u8; ROW], set: u64, mark: u8) -> [u8; ROW]
     ensures { result ≡ marked row mark (cores set) }
 {
     let mut out = row;
-    let mut rest = set;
-    while 0 < rest {
-        let c = u64::trailing_zeros(rest) as usize;
-        out[c] = mark;
-        rest -= 1u64 << c;
+    for core in Members::from(set) {
+        out[core] = mark;
     }
     out
 }
@@ -138,11 +135,9 @@ pub fn row_of(start: [u8; ROW], first: u8, sets: &[u64; MOST_TASKS], count: usiz
     ensures { result ≡ shown_bytes start first (map cores (take count sets.now)) }
 {
     let mut out = start;
-    let mut i: usize = 0;
-    while i < count {
-        let next = mark(out, sets[i], (first as usize + i) as u8);
+    for (i, set) in sets[..count].iter().enumerate() {
+        let next = mark(out, *set, (first as usize + i) as u8);
         out = next;
-        i += 1;
     }
     out
 }
@@ -190,12 +185,10 @@ pub fn owners(sets: &[u64; MOST_TASKS]) -> u32
     ensures { (p : ℕ) → bit result p ≡ ltb p most_tasks && some (cores (get_or sets.now p 0)) }
 {
     let mut owners: u32 = 0;
-    let mut i: usize = 0;
-    while i < MOST_TASKS {
-        if any(sets[i]) {
+    for (i, set) in sets.iter().enumerate() {
+        if any(*set) {
             owners |= 1u32 << i as u32;
         }
-        i += 1;
     }
     owners
 }
@@ -205,10 +198,8 @@ fn merged(sets: [u64; MOST_TASKS], more: &[u64; MOST_TASKS]) -> [u64; MOST_TASKS
     ensures { (p : ℕ) → p < most_tasks → get_or result p 0 ≡ bit_or (get_or sets p 0) (get_or more.now p 0) }
 {
     let mut out = sets;
-    let mut i: usize = 0;
-    while i < MOST_TASKS {
+    for i in 0..MOST_TASKS {
         out[i] |= more[i];
-        i += 1;
     }
     out
 }
@@ -228,8 +219,7 @@ pub fn lend(
 {
     let mut sets = [0u64; MOST_TASKS];
     let mut seeking = seekers;
-    let mut i: usize = 0;
-    while i < count {
+    for i in 0..count {
         let place = i as u32;
         seeking &= seeking ^ (1u32 << place);
         if (holders >> place) % 2 == 1 {
@@ -238,7 +228,6 @@ pub fn lend(
             let next = merged(sets, &more);
             sets = next;
         }
-        i += 1;
     }
     sets
 }
@@ -248,13 +237,7 @@ fn union(sets: &[u64; MOST_TASKS], count: usize) -> u64
     requires { count ≤ most_tasks }
     ensures { (c : ℕ) → c < most_cores → bit result c ≡ among c (map cores (take count sets.now)) }
 {
-    let mut all: u64 = 0;
-    let mut i: usize = 0;
-    while i < count {
-        all |= sets[i];
-        i += 1;
-    }
-    all
+    sets[..count].iter().fold(0, |all, set| all | *set)
 }
 
 // The set of cores that the row shows of each of the first `count` positions: those that it borrows, or its own cores that no place borrows.
@@ -269,10 +252,8 @@ pub fn shown(
 {
     let lent = union(borrowed, count);
     let mut sets = [0u64; MOST_TASKS];
-    let mut i: usize = 0;
-    while i < count {
+    for i in 0..count {
         sets[i] = borrowed[i] | cores::difference(reserved[i], lent);
-        i += 1;
     }
     sets
 }

@@ -11,8 +11,8 @@ use Rattle.model.specs.Refusals as model
 use Rattle.model.proofs.Search.{least-lowest}
 use Rattle.table.proofs.Decide.{fails}
 use Rattle.run.specs.declared.Run.{Run}
-use Rattle.run.specs.declared.Answer.{Answer}
-use Rattle.run.specs.declared.Answer.TheVariants.{Taken, Refused}
+use Rattle.run.specs.Answer.{Answer}
+use Rattle.run.specs.Answer.{Taken, Refused}
 use Rattle.run.specs.Run.{moved}
 use Rattle.run.specs.Answer.{answer_meaning}
 use Rattle.run.specs.Numbers.{RunOut, run_out, late_at, first_late_in, wrong_empties_in, wrong_reports_in}

@@ -7,8 +7,8 @@ use borrow.Author.Tests.{lt-ltb, le-ltb}
 use Rattle.model.specs.Search.{bit}
 use Rattle.model.specs.Advance.{singleton}
 use Rattle.run.specs.declared.Run.{Run}
-use Rattle.run.specs.declared.Answer.{Answer}
-use Rattle.run.specs.declared.Answer.TheVariants.{Taken, Refused}
+use Rattle.run.specs.Answer.{Answer}
+use Rattle.run.specs.Answer.{Taken, Refused}
 use Rattle.run.specs.Answer.{by_answer}
 use Rattle.run.specs.Run.{firm_in, moved, withdrawn_in}
 use Rattle.run.specs.Numbers.{run_out, past_count, unknown_in, first_late_in, wrong_empties_in, wrong_reports_in}
@@ -42,6 +42,10 @@ module _ (r : Run) (e : ℕ) where
   unfolding sets_of
   sets-answer = refl
 
+  pub sets-refused : (n p : ℕ) → row_answer r e ≡ Refused n p → sets_of r e ≡ record { answer = Refused n p; sets = no_sets }
+  unfolding sets_of
+  sets-refused n p q = rw q refl
+
   pub row-shown : row_answer r e ≡ Taken → row_of r e ≡ record { answer = Taken; bytes = bytes_in r e }
   unfolding row_of
   row-shown q = rw q refl
@@ -54,18 +58,22 @@ module _ (r : Run) (e : ℕ) where
   unfolding sets_of
   sets-by q = rw q refl
 
-  -- who works, by row's answer, which sets have too
-  pub working-answer : (sets_of r e).answer ≡ (working_of r e).answer
-  unfolding sets_of working_of
-  working-answer = refl
+  pub sets-taken : row_answer r e ≡ Taken → sets_of r e ≡ record { answer = Taken; sets = (sets_of r e).sets }
+  unfolding sets_of
+  sets-taken q = rw q refl
 
+  -- who works, by row's answer, which sets have too
   pub working-by : row_answer r e ≡ Taken → (working_of r e).set ≡ working_in r e
   unfolding working_of
   working-by q = rw q refl
 
-  pub working-none : (n p : ℕ) → row_answer r e ≡ Refused n p → (working_of r e).set ≡ 0
+  pub working-taken : row_answer r e ≡ Taken → working_of r e ≡ record { answer = Taken; set = (working_of r e).set }
   unfolding working_of
-  working-none n p q = rw q refl
+  working-taken q = rw q refl
+
+  pub working-refused : (n p : ℕ) → row_answer r e ≡ Refused n p → working_of r e ≡ record { answer = Refused n p; set = 0 }
+  unfolding working_of
+  working-refused n p q = rw q refl
 
   -- a run whose row is shown passes 14
   pub row-passes : row_answer r e ≡ Taken → run_out r ≡ false

@@ -21,10 +21,10 @@ use Rattle.table.proofs.Order.{not-before-itself, later}
 use Rattle.phase.specs.declared.Phase.{Phase}
 use Rattle.phase.specs.declared.Phase.TheVariants.{Coming, Working, Holding, Resting}
 use Rattle.run.specs.declared.Run.{Run}
-use Rattle.run.specs.declared.Answer.{Answer}
-use Rattle.run.specs.declared.Answer.TheVariants.{Taken, Refused}
-use Rattle.run.specs.declared.Advanced.{Advanced}
-use Rattle.run.specs.declared.Row.{Row}
+use Rattle.run.specs.Answer.{Answer}
+use Rattle.run.specs.Answer.{Taken, Refused}
+use Rattle.run.specs.Advance.{Advanced}
+use Rattle.run.specs.Answer.{Row}
 use Rattle.phase.specs.Phase.{working, late_in, released}
 use Rattle.run.specs.Run.{run_task_at, phase_at, emptied_at, grants_in, has_cores, borrowed_in, has_lent, moved}
 use Rattle.run.specs.Answer.{answer_meaning}

@@ -14,6 +14,7 @@ pub mod StartPasses
 pub mod StartExact
 pub mod ByVerdict
 pub mod Cases
+pub mod TickRead
 pub mod Chosen
 pub mod Found
 pub mod Owned

@@ -4,7 +4,7 @@ use mathlib.Core.List.{[]}
 use mathlib.Core.Path.{◌≡◌, refl}
 use Rattle.table.specs.Answer.{answer_of, header_number}
 use Rattle.judge.specs.Judged.{verdict_of}
-use Rattle.run.specs.declared.Answer.TheVariants.{Refused}
+use Rattle.run.specs.Answer.{Refused}
 use Rattle.run.specs.Start.{start_answer, start_of}
 
 pub no_words : (start_of []).answer ≡ Refused 1 0

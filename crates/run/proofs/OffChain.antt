@@ -4,7 +4,7 @@ use mathlib.Core.Path.{◌≡◌, refl, ap, ◌∙◌}
 use Prim.Native.Nat.{ℕ}
 use native.Mathlib.Omega.{arith}
 use Rattle.model.specs.Task.{Table}
-use Rattle.table.specs.declared.Answer.{Answer}
+use Rattle.table.specs.Answer.{Answer}
 use Rattle.table.specs.OffChain.{SameOnChain}
 use Rattle.table.specs.Words.{rule}
 use Rattle.table.proofs.OffChain.{off-chain-by}
@@ -12,7 +12,7 @@ use Rattle.judge.specs.JudgeAnswer.{verdict_case}
 use Rattle.judge.specs.Judged.{judged_by, verdict_of}
 use Rattle.table.specs.Answer.{answer_of}
 use Rattle.table.specs.Words.{table_of}
-use Rattle.run.specs.declared.Started.{Started}
+use Rattle.run.specs.Start.{Started}
 use Rattle.run.specs.Answer.{by_answer}
 use Rattle.run.specs.Start.{started_run, empty_run, by_verdict, start_answer, start_of}
 

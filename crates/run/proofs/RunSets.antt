@@ -35,9 +35,9 @@ use Rattle.rule.specs.Lent.{Showable}
 use Rattle.rule.proofs.Borrowed.{none-some, shown-length}
 use Rattle.rule.proofs.Tick.{tick-range, tick-sets-apart, tick-sets-count, tick-sets-unfenced, tick-showable, tick-shows}
 use Rattle.run.specs.declared.Run.{Run}
-use Rattle.run.specs.declared.Sets.{Sets}
-use Rattle.run.specs.declared.Answer.{Answer}
-use Rattle.run.specs.declared.Answer.TheVariants.{Taken, Refused}
+use Rattle.run.specs.Sets.{Sets}
+use Rattle.run.specs.Answer.{Answer}
+use Rattle.run.specs.Answer.{Taken, Refused}
 use Rattle.run.specs.Answer.{by_answer, in64, answer_meaning}
 use Rattle.run.specs.Row.{bytes_in, no_bytes, row_answer, row_of}
 use Rattle.run.specs.Run.{borrowed_in, grants_in, has_cores, has_lent, lent_in, offer_in, rule_in, seeks_in, emptied_at, shown_in, widths_now}

@@ -11,8 +11,8 @@ use Rattle.model.specs.Row.{row}
 use Rattle.model.specs.Sizes.{most_cores}
 use Rattle.run.specs.declared.Run.{Run}
 use Rattle.run.specs.Run.{shown_in}
-use Rattle.run.specs.declared.Answer.{Answer}
-use Rattle.run.specs.declared.Answer.TheVariants.{Taken, Refused}
+use Rattle.run.specs.Answer.{Answer}
+use Rattle.run.specs.Answer.{Taken, Refused}
 use Rattle.run.specs.Answer.{by_answer}
 use Rattle.run.specs.Numbers.{run_out, first_late_in, wrong_empties_in}
 use Rattle.run.specs.Row.{row_answer, bytes_in, no_bytes, row_of}

@@ -18,7 +18,7 @@ use Rattle.judge.specs.JudgeAnswer.{judged, verdict_meaning}
 use Rattle.judge.specs.Judged.{Judged, verdict_of}
 use Rattle.judge.proofs.Contract.{judged-exact}
 use Rattle.run.specs.declared.Run.{Run}
-use Rattle.run.specs.declared.Started.{Started}
+use Rattle.run.specs.Start.{Started}
 use Rattle.run.specs.Answer.{answer_meaning}
 use Rattle.run.specs.Numbers.{RunOut, run_out}
 use Rattle.run.specs.Start.{StartApplies, as-table, thirteen, by_verdict, start_answer, started_run, empty_run, start_of, StartOf}

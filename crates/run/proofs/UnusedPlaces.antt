@@ -22,8 +22,8 @@ use Rattle.table.specs.Limits.{task_out}
 use Rattle.phase.specs.declared.Phase.{Phase}
 use Rattle.phase.specs.declared.Task.{Task}
 use Rattle.run.specs.declared.Run.{Run}
-use Rattle.run.specs.declared.Answer.{Answer}
-use Rattle.run.specs.declared.Answer.TheVariants.{Taken, Refused}
+use Rattle.run.specs.Answer.{Answer}
+use Rattle.run.specs.Answer.{Taken, Refused}
 use Rattle.phase.specs.Phase.{claiming, holder, working, phase_in, late_in, released, phase_emptied}
 use Rattle.phase.specs.Task.{task_of, past_end, width_now}
 use Rattle.run.specs.Run.{phase_at, emptied_at, widths_now, grants_in, has_cores, offer_in, seeks_in, lent_in, has_lent, next_at, moved, withdrawn_in}

@@ -17,9 +17,9 @@ use Rattle.table.specs.Numbers.{place, Earlier, FirstOf, NoneOf}
 use Rattle.table.proofs.Decide.{Decides, fails, decides_or, decides_eq, decides-lt}
 use Rattle.table.proofs.Order.{not-before-itself, later}
 use Rattle.run.specs.declared.Run.{Run}
-use Rattle.run.specs.declared.Answer.{Answer}
-use Rattle.run.specs.declared.Answer.TheVariants.{Taken, Refused}
-use Rattle.run.specs.declared.Advanced.{Advanced}
+use Rattle.run.specs.Answer.{Answer}
+use Rattle.run.specs.Answer.{Taken, Refused}
+use Rattle.run.specs.Advance.{Advanced}
 use Rattle.run.specs.Run.{run_table, firm_in, withdrawn_in}
 use Rattle.run.specs.Answer.{answer_meaning, by_answer}
 use Rattle.run.specs.Numbers.{RunOut, WithdrawApplies, not-a-run, twenty-one, twenty-two, NoSuchPosition, past_count, run_out, unknown_in}

@@ -20,9 +20,9 @@ use Rattle.model.proofs.WithdrawSet.{members, members-just, or-chain, Below, bel
 use Rattle.model.proofs.Verdict.{firm-exact}
 use Rattle.table.proofs.Decide.{fails}
 use Rattle.run.specs.declared.Run.{Run}
-use Rattle.run.specs.declared.Answer.{Answer}
-use Rattle.run.specs.declared.Answer.TheVariants.{Taken, Refused}
-use Rattle.run.specs.declared.Advanced.{Advanced}
+use Rattle.run.specs.Answer.{Answer}
+use Rattle.run.specs.Answer.{Taken, Refused}
+use Rattle.run.specs.Advance.{Advanced}
 use Rattle.run.specs.Run.{run_table, firm_in, withdrawn_in}
 use Rattle.run.specs.Answer.{answer_meaning, by_answer}
 use Rattle.run.specs.Numbers.{RunOut, PastCount, past_count, run_out, unknown_in}

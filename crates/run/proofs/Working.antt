@@ -13,9 +13,9 @@ use Rattle.model.proofs.Search.{none_any, none-at}
 use Rattle.cores.proofs.Ascending.{memb-first, memb-kept, range-kept, range-up}
 use Rattle.cores.proofs.Cores.{set-bit}
 use Rattle.run.specs.declared.Run.{Run}
-use Rattle.run.specs.declared.Answer.{Answer}
-use Rattle.run.specs.declared.Answer.TheVariants.{Taken, Refused}
-use Rattle.run.specs.declared.WorkingPositions.{WorkingPositions}
+use Rattle.run.specs.Answer.{Answer}
+use Rattle.run.specs.Answer.{Taken, Refused}
+use Rattle.run.specs.Working.{WorkingPositions}
 use Rattle.run.specs.Advance.{advance_of}
 use Rattle.run.specs.Answer.{answer_meaning}
 use Rattle.run.specs.Numbers.{reportable_at, wrong_reports_in}

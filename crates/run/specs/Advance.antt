@@ -1,16 +1,27 @@
 -- An advance (scope: advance; the field: a step of one tick with its reports; request 105): a run, a set of reports (the field: early completions) and a set of
 -- empty jobs, bit 0 for position 1, give the run one tick on.
-use Rattle.std.specs.Prelude.{◌≡◌, ◌↔◌, cond, ℕ, suc, drop, ltb}
+use Rattle.std.specs.Prelude.{Result, Ok, Err, ◌≡◌, ◌↔◌, cond, ℕ, suc, drop, ltb}
 use Rattle.model.specs.Search.{bit}
 use Rattle.model.specs.Refusals as model
+use Rattle.model.specs.declared.refusal.Refusal.{Refusal}
+use Rattle.model.specs.Refusal.{number_of, position_of}
 use Rattle.table.specs.Numbers.{FirstOf, NoneOf}
 use Rattle.run.specs.declared.Run.{Run}
-use Rattle.run.specs.declared.Answer.{Answer}
-use Rattle.run.specs.declared.Answer.TheVariants.{Taken, Refused}
-use Rattle.run.specs.declared.Advanced.{Advanced}
+use Rattle.run.specs.Answer.{Answer}
+use Rattle.run.specs.Answer.{Taken, Refused}
 use Rattle.run.specs.Run.{moved}
 use Rattle.run.specs.Answer.{answer_meaning, by_answer}
 use Rattle.run.specs.Numbers.{RunOut, AdvanceApplies, run_out, first_late_in, wrong_empties_in, wrong_reports_in}
+
+-- the result of an advance or a withdrawal: the answer, and the next run
+pub record Advanced : Type 0 where
+  pub answer : Answer
+  pub run : Run
+
+-- as code returns it: a refusal leaves the run as given
+abbrev pub advanced : Run → Result Run Refusal → Advanced
+advanced r (Ok next) = record { answer = Taken; run = next }
+advanced r (Err e) = record { answer = Refused (number_of e) (position_of e); run = r }
 
 -- 14, then 15 with the lowest late position, then 20, then 16; else taken
 unfoldable pub advance_answer : Run → ℕ → ℕ → Answer

@@ -1,14 +1,16 @@
 -- The row of a run (scope: row; the field: the schedule at a tick, an allocation; request 105): it shows the present tick with a set of empty jobs, held cores
 -- with the holder's position, lent ones with the borrower's (request 109), fenced ones with 255.
-use Rattle.std.specs.Prelude.{◌≡◌, ◌↔◌, cond, List, ℕ, suc, replicate, ltb}
+use Rattle.std.specs.Prelude.{Result, Ok, Err, ◌≡◌, ◌↔◌, cond, List, ℕ, suc, replicate, ltb}
 use Rattle.model.specs.Row.{row}
 use Rattle.model.specs.Refusals as model
+use Rattle.model.specs.declared.refusal.Refusal.{Refusal}
+use Rattle.model.specs.Refusal.{number_of, position_of}
 use Rattle.model.specs.Sizes.{most_cores}
 use Rattle.table.specs.Numbers.{FirstOf, NoneOf}
 use Rattle.run.specs.declared.Run.{Run}
-use Rattle.run.specs.declared.Answer.{Answer}
-use Rattle.run.specs.declared.Answer.TheVariants.{Taken, Refused}
-use Rattle.run.specs.declared.Row.{Row}
+use Rattle.run.specs.Answer.{Answer}
+use Rattle.run.specs.Answer.{Taken, Refused}
+use Rattle.run.specs.Answer.{Row}
 use Rattle.run.specs.Run.{shown_in}
 use Rattle.run.specs.Answer.{answer_meaning, by_answer, in64}
 use Rattle.run.specs.Numbers.{RowApplies, run_out, first_late_in, wrong_empties_in}
@@ -27,6 +29,11 @@ bytes_in r e = in64 (row r.fence r.cores (shown_in r e))
 -- 64 zeros
 abbrev pub no_bytes : List ℕ
 no_bytes = replicate most_cores 0
+
+-- a row as code returns it: a refusal has no bytes
+abbrev pub row_asked : Result (List ℕ) Refusal → Row
+row_asked (Ok bytes) = record { answer = Taken; bytes = bytes }
+row_asked (Err e) = record { answer = Refused (number_of e) (position_of e); bytes = no_bytes }
 
 -- the row; where refused, all zeros
 unfoldable pub row_of : Run → ℕ → Row

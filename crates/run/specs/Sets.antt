@@ -1,7 +1,9 @@
 -- The row of a run as sets of cores (request 114): of each place the cores that it shows, as one number, core 0 its lowest digit. Held cores are in the
 -- holder's set, lent ones in the borrower's, fenced ones in none.
-use Rattle.std.specs.Prelude.{◌≡◌, true, ◌||◌, ◌↔◌, List, ◌++◌, map, ℕ, suc, ◌-◌, ◌≤◌, ◌<◌, eqb, ltb, length, get_or, replicate}
+use Rattle.std.specs.Prelude.{Result, Ok, Err, ◌≡◌, true, ◌||◌, ◌↔◌, List, ◌++◌, map, ℕ, suc, ◌-◌, ◌≤◌, ◌<◌, eqb, ltb, length, get_or, replicate}
 use Rattle.model.specs.Refusals as model
+use Rattle.model.specs.declared.refusal.Refusal.{Refusal}
+use Rattle.model.specs.Refusal.{number_of, position_of}
 use Rattle.model.specs.Row.{row}
 use Rattle.model.specs.Search.{bit}
 use Rattle.model.specs.Sets.{SetsApart, SetsCount, SetsUnfenced, set_of}
@@ -10,9 +12,8 @@ use Rattle.table.specs.Numbers.{FirstOf, NoneOf}
 use Rattle.cores.specs.Cores.{cores}
 use Rattle.phase.specs.Phase.{working}
 use Rattle.run.specs.declared.Run.{Run}
-use Rattle.run.specs.declared.Sets.{Sets}
 use Rattle.run.specs.Run.{has_cores, has_lent, lent_in, offer_in, emptied_at, shown_in, widths_now}
-use Rattle.run.specs.Answer.{answer_meaning, by_answer, in64, shown_by}
+use Rattle.run.specs.Answer.{Answer, Taken, Refused, answer_meaning, by_answer, in64, shown_by}
 use Rattle.run.specs.Numbers.{RowApplies}
 use Rattle.run.specs.Row.{no_bytes, row_answer, row_of}
 
@@ -27,6 +28,16 @@ sets_in r e = in32 (map set_of (shown_in r e))
 -- 32 empty sets
 abbrev pub no_sets : List ℕ
 no_sets = replicate most_tasks 0
+
+-- the result of a row asked as sets: the answer, and of each position the set of its cores, core 0 the lowest bit; a position past the count has none
+pub record Sets : Type 0 where
+  pub answer : Answer
+  pub sets : List ℕ
+
+-- as code returns it: a refusal has no sets
+abbrev pub sets_asked : Result (List ℕ) Refusal → Sets
+sets_asked (Ok sets) = record { answer = Taken; sets = sets }
+sets_asked (Err e) = record { answer = Refused (number_of e) (position_of e); sets = no_sets }
 
 -- the sets; where refused, all empty. They have the numbers of a row
 unfoldable pub sets_of : Run → ℕ → Sets

@@ -1,7 +1,9 @@
 -- The start of a run from the words of a table (scope, 'The run in the cab' and numbers 1 to 9, 13 and 19).
-use Rattle.std.specs.Prelude.{◌≡◌, ◌↔◌, List, map, ◌++◌, ℕ, ◌-◌, length, replicate}
+use Rattle.std.specs.Prelude.{Result, Ok, Err, ◌≡◌, ◌↔◌, List, map, ◌++◌, ℕ, ◌-◌, length, replicate}
 use Rattle.model.specs.Task as model
 use Rattle.model.specs.Refusals as book
+use Rattle.model.specs.declared.refusal.Refusal.{Refusal}
+use Rattle.model.specs.Refusal.{number_of, position_of}
 use Rattle.model.specs.Verdict as verdict
 use Rattle.model.specs.Sizes.{most_tasks}
 use Rattle.table.specs.Words.{rule, table_of}
@@ -11,9 +13,8 @@ use Rattle.judge.specs.declared.Verdict.TheVariants as judge
 use Rattle.judge.specs.JudgeAnswer.{judged, verdict_meaning}
 use Rattle.judge.specs.Judged.{verdict_of}
 use Rattle.run.specs.declared.Run.{Run}
-use Rattle.run.specs.declared.Answer.{Answer}
-use Rattle.run.specs.declared.Answer.TheVariants.{Taken, Refused}
-use Rattle.run.specs.declared.Started.{Started}
+use Rattle.run.specs.Answer.{Answer}
+use Rattle.run.specs.Answer.{Taken, Refused}
 use Rattle.phase.specs.Task.{start_task, unused}
 use Rattle.run.specs.Answer.{answer_meaning, by_answer}
 use Rattle.run.specs.Numbers.{RunOut}
@@ -32,6 +33,16 @@ started_run n s = record {
 -- a run of all zeros with every phase Resting(0), which 14 turns down (`empty-run-out`)
 abbrev pub empty_run : Run
 empty_run = record { rule = 0; cores = 0; fence = 0; withdrawn = 0; count = 0; tasks = replicate most_tasks unused }
+
+-- the result of a start: the answer, and the run as it starts
+pub record Started : Type 0 where
+  pub answer : Answer
+  pub run : Run
+
+-- as code returns it: a refusal has the run of all zeros
+abbrev pub started : Result Run Refusal → Started
+started (Ok run) = record { answer = Taken; run = run }
+started (Err e) = record { answer = Refused (number_of e) (position_of e); run = empty_run }
 
 -- number n applies to a start from the words, with position p
 pub data StartApplies (ws : List ℕ) : ℕ → ℕ → Type 0 where

@@ -6,9 +6,9 @@ use Rattle.model.specs.Refusals as answers
 use Rattle.model.specs.WithdrawSet.{Enumerates, SetBelow}
 use Rattle.table.specs.Numbers.{FirstOf, NoneOf}
 use Rattle.run.specs.declared.Run.{Run}
-use Rattle.run.specs.declared.Answer.{Answer}
-use Rattle.run.specs.declared.Answer.TheVariants.{Taken, Refused}
-use Rattle.run.specs.declared.Advanced.{Advanced}
+use Rattle.run.specs.Answer.{Answer}
+use Rattle.run.specs.Answer.{Taken, Refused}
+use Rattle.run.specs.Advance.{Advanced}
 use Rattle.run.specs.Run.{firm_in, withdrawn_in}
 use Rattle.run.specs.Answer.{answer_meaning, by_answer}
 use Rattle.run.specs.Numbers.{RunOut, WithdrawApplies, NoSuchPosition, PastCount, run_out, unknown_in, past_count}

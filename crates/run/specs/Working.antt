@@ -1,16 +1,27 @@
 -- The positions that work in a run's present tick (issue 47): those whose job has cores, its own or lent ones, and is Working, so that a report bit is
 -- admitted for them. Sets do not tell them from positions that hold cores.
-use Rattle.std.specs.Prelude.{◌≡◌, true, [], ◌∷◌, ◌↔◌, ℕ}
+use Rattle.std.specs.Prelude.{Result, Ok, Err, ◌≡◌, true, [], ◌∷◌, ◌↔◌, ℕ}
 use Rattle.model.specs.Refusals as model
+use Rattle.model.specs.declared.refusal.Refusal.{Refusal}
+use Rattle.model.specs.Refusal.{number_of, position_of}
 use Rattle.model.specs.Search.{bit}
 use Rattle.model.specs.Working.{set_where}
 use Rattle.table.specs.Numbers.{FirstOf, NoneOf}
 use Rattle.run.specs.declared.Run.{Run}
-use Rattle.run.specs.declared.WorkingPositions.{WorkingPositions}
 use Rattle.run.specs.Advance.{advance_of}
-use Rattle.run.specs.Answer.{answer_meaning, by_answer, shown_by}
+use Rattle.run.specs.Answer.{Answer, Taken, Refused, answer_meaning, by_answer, shown_by}
 use Rattle.run.specs.Numbers.{RowApplies, reportable_at}
 use Rattle.run.specs.Row.{row_answer}
+
+-- the result of asking who works: the answer, and the set of the positions that do, bit 0 for position 1
+pub record WorkingPositions : Type 0 where
+  pub answer : Answer
+  pub set : ℕ
+
+-- as code returns it: a refusal has the empty set
+abbrev pub working_asked : Result ℕ Refusal → WorkingPositions
+working_asked (Ok set) = record { answer = Taken; set = set }
+working_asked (Err e) = record { answer = Refused (number_of e) (position_of e); set = 0 }
 
 -- the set of the places below the count whose task may be reported
 abbrev pub working_in : Run → ℕ → ℕ

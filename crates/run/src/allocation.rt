@@ -9,6 +9,7 @@ ghost use Rattle.run.specs.Allocation.{AllocationOf};
 use model::MOST_TASKS;
 
 // Rule 4: a job that has ended lends the cores that are reserved for it.
+// A number, since the rule of a run is any number.
 const LENDING: u32 = 4;
 
 // The set of the positions that are given cores in a tick, and of those that borrow some, bit 0 for position 1; and of each position the set of cores

@@ -8,6 +8,7 @@ use crate::{Run, bits};
 use model::MOST_TASKS;
 
 // Whether a run's count, core count, rule, fence or withdrawn set is out of range.
+// The rule is a number, since this is the test of which numbers are a rule.
 pub(crate) fn head_out(count: usize, cores: u32, rule: u32, fence: u64, withdrawn: u32) -> bool
     ensures { result ≡ not (in_range 1 most_tasks count) || (cores_out cores || (rule_out rule || (fence_out cores fence || past_count count withdrawn))) }
 {
@@ -29,14 +30,6 @@ impl Run {
             return true;
         }
         let wide = cores::unfenced_count(cores, self.fence);
-        let mut i: usize = 0;
-        while i < count {
-            let task = self.tasks[i];
-            if task.out(rule, wide) {
-                return true;
-            }
-            i += 1;
-        }
-        false
+        self.tasks[..count].iter().any(|task| task.out(rule, wide))
     }
 }

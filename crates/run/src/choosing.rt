@@ -39,8 +39,7 @@ impl Run {
         let mut released: u32 = 0;
         let mut even: u32 = 0;
         let mut widths = [0u32; rule::PAIR];
-        let mut i: usize = 0;
-        while i < count {
+        for i in 0..count {
             let task = self.tasks[i];
             let phase = task.phase;
             let place = i as u32;
@@ -53,16 +52,15 @@ impl Run {
             even = bits::with(even, place, task.even);
             widths[i] = task.width;
             widths[MOST_TASKS + i] = task.second;
-            i += 1;
         }
         Claims {
-            broken: broken,
-            late: late,
-            claiming: claiming,
-            working: working,
-            released: released,
-            even: even,
-            widths: widths,
+            broken,
+            late,
+            claiming,
+            working,
+            released,
+            even,
+            widths,
         }
     }
 }

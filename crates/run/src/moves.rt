@@ -1,42 +1,34 @@
 // One tick of a run: each task goes to its next phase.
 ghost use Rattle.std.specs.Prelude.{◌≡◌, false, ℕ};
 ghost use Rattle.model.specs.Search.{bit};
-ghost use Rattle.run.specs.declared.Answer.TheVariants.{Taken};
 ghost use Rattle.run.specs.Run.{has_cores, has_lent, moved};
 ghost use Rattle.run.specs.Numbers.{run_out};
 
-use crate::{Advanced, Answer, Run, bits};
+use crate::{Run, bits};
 
 impl Run {
-    // An advance that is taken: the run one tick on; `given` is the set of places that are given cores in this tick, `lent` that of those that borrow some.
-    pub(crate) fn moved(self, given: u32, lent: u32, reports: u32, empties: u32) -> Advanced
+    // The run one tick on, of an advance that is taken; `given` is the set of places that are given cores in this tick, `lent` that of those that borrow some.
+    pub(crate) fn moved(self, given: u32, lent: u32, reports: u32, empties: u32) -> Run
         requires fact_1 { run_out self ≡ false }
         requires fact_2 { ((p : ℕ) → bit given p ≡ has_cores self empties p) }
         requires fact_3 { ((p : ℕ) → bit lent p ≡ has_lent self empties p) }
-        ensures { result ≡ record { answer = Taken; run = moved (bit reports) empties self } }
+        ensures { result ≡ moved (bit reports) empties self }
     {
         let mut run = self;
         let rule = self.rule;
         let count = self.count;
         let emptied = empties | self.withdrawn;
-        let mut i: usize = 0;
-        while i < count {
-            let task = run.tasks[i];
+        for i in 0..count {
             let place = i as u32;
             let empty = bits::has(emptied, place);
-            let next = task.next(
+            run.tasks[i] = run.tasks[i].next(
                 rule,
                 empty,
                 bits::has(given, place),
                 bits::has(lent, place),
                 bits::has(reports, place),
             );
-            run.tasks[i] = next;
-            i += 1;
         }
-        Advanced {
-            answer: Answer::Taken,
-            run: run,
-        }
+        run
     }
 }

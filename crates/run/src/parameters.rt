@@ -13,16 +13,11 @@ impl Run {
         requires { self.count ≤ most_tasks }
         ensures { (result ≡ parameters_in self) × (tasks_of result self.count ≡ tasks_in self) }
     {
-        let count = self.count;
         let unused = phase::starts::unused();
         let none = unused.parameters();
         let mut tasks = [none; MOST_TASKS];
-        let mut i: usize = 0;
-        while i < count {
-            let task = self.tasks[i];
-            let plain = task.parameters();
-            tasks[i] = plain;
-            i += 1;
+        for i in 0..self.count {
+            tasks[i] = self.tasks[i].parameters();
         }
         tasks
     }

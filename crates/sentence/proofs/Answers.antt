@@ -16,8 +16,8 @@ use Rattle.model.specs.Firm.{firm}
 use Rattle.model.specs.Verdict.{Firm, Full, Miss, verdict, first_miss, missed_in, FirstMiss}
 use Rattle.model.proofs.Verdict.{verdict-exact}
 use Rattle.model.proofs.Search.{least-below}
-use Rattle.table.specs.declared.Answer.{Answer}
-use Rattle.table.specs.declared.Answer.TheVariants as answer
+use Rattle.table.specs.Answer.{Answer}
+use Rattle.table.specs.Answer as answer
 use Rattle.table.specs.Words.{table_of}
 use Rattle.table.specs.Numbers.{place, Earlier}
 use Rattle.table.specs.Numbers as table
@@ -30,8 +30,8 @@ use Rattle.sentence.specs.Sentence.{sentence_text}
 use Rattle.sentence.specs.Waiting.{facts_at, miss_place, facts_in, facts_of}
 use Rattle.sentence.specs.Numbers.{Applies, words, seventeen, eighteen, First, NoneApplies}
 use Rattle.sentence.specs.SentenceAnswer.{by_buffer, by_table, sentence_answer_by, sentence_answer_of}
-use Rattle.sentence.specs.declared.SentenceAnswer.{SentenceAnswer}
-use Rattle.sentence.specs.declared.SentenceAnswer.TheVariants.{Length, Refused}
+use Rattle.sentence.specs.SentenceAnswer.{SentenceAnswer}
+use Rattle.sentence.specs.SentenceAnswer.{Length, Refused}
 
 -- THE RESULT OF THE SEARCH IN THE TABLE
 

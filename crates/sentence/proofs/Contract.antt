@@ -11,14 +11,16 @@ use Rattle.model.specs.Task.{Table, task}
 use Rattle.model.specs.Horizon.{horizon}
 use Rattle.model.specs.Verdict.{Miss, missed_in, first_miss}
 use Rattle.model.proofs.Bools.{not-false-true}
-use Rattle.table.specs.declared.Answer.{Answer}
-use Rattle.table.specs.declared.Answer.TheVariants as answer
+use Rattle.table.specs.Answer.{Answer}
 use Rattle.table.specs.declared.Loaded.{Loaded}
 use Rattle.table.specs.Limits.{most_time}
 use Rattle.table.specs.Words.{table_of}
 use Rattle.table.specs.Numbers as table
-use Rattle.table.specs.Load.{LoadOf, load_meaning}
-use Rattle.table.proofs.Exact.{refusal-exact, passed-exact}
+use Rattle.std.specs.Prelude.{Result, Ok, Err}
+use Rattle.model.specs.declared.refusal.Refusal.{Refusal}
+use Rattle.model.specs.Refusal.{number_of, position_of}
+use Rattle.table.proofs.Contract.{load-ok, load-err}
+use Rattle.table.specs.Load.{LoadOf, LoadedAs}
 use Rattle.table.proofs.Passed.{passed-count, passed-inside, passed-valid, passed-horizon}
 use Rattle.table.specs.Fit.{loaded_table}
 use Rattle.table.proofs.Fit.{same-table}
@@ -32,8 +34,8 @@ use Rattle.sentence.specs.Parsed.{parsed}
 use Rattle.sentence.specs.Waiting.{miss_place, facts_in, facts_of}
 use Rattle.sentence.specs.Numbers.{NoneApplies, words, seventeen, eighteen}
 use Rattle.sentence.specs.SentenceAnswer.{by_table, sentence_answer_by, sentence_answer_of, SentenceOutcome, of_length, refused_by, sentence_meaning, front, left_in, SentenceOf}
-use Rattle.sentence.specs.declared.SentenceAnswer.{SentenceAnswer}
-use Rattle.sentence.specs.declared.SentenceAnswer.TheVariants.{Length, Refused}
+use Rattle.sentence.specs.SentenceAnswer.{SentenceAnswer}
+use Rattle.sentence.specs.SentenceAnswer.{Length, Refused}
 use Rattle.sentence.proofs.Exact.{sentence-back}
 use Rattle.sentence.proofs.Waiting.{missed_here}
 use Rattle.sentence.proofs.Misses.{miss-expressible}
@@ -129,32 +131,33 @@ module _ (ws old new : List ℕ) where
       go (Length n) x = ap length (text-there n (ap sentence_meaning x)) ∙ front-size text old (room (none n (ap sentence_meaning x)).0)
       go (Refused n p) x = ap length (found n p (ap sentence_meaning x))
 
-module _ (ws : List ℕ) (r : Loaded) (l : LoadOf ws r) where
-  -- the lengths of a table that passed are within their limit
-  pub short-table : r.answer ≡ answer.Passed → LengthsWithin r
-  short-table e p b =
-      subst (λ (s : Table). p < length s.tasks → (task s p).length ≤ most_time) (sym (same-table ws r l e))
-      (λ i. (passed-inside ws (l.passed.0 (ap load_meaning e)) p i).length_from.1)
-      (omega (arith, (l.holds (ap load_meaning e)).count, ap (λ (s : Table). length s.tasks) (same-table ws r l e)))
+-- the lengths of a table that passed are within their limit
+pub short-table : (ws : List ℕ) (t : Loaded) → LoadedAs ws t → table.NoneApplies ws → LengthsWithin t
+short-table ws t h none p b =
+    subst (λ (s : Table). p < length s.tasks → (task s p).length ≤ most_time) (sym (same-table ws t h none))
+    (λ i. (passed-inside ws none p i).length_from.1)
+    (omega (arith, h.count, ap (λ (s : Table). length s.tasks) (same-table ws t h none)))
 
-  module _ (old new : List ℕ) where
-    -- what is answered of it is answered of the words
-    pub passed-sentence :
-        (v : SentenceAnswer) → r.answer ≡ answer.Passed
-        → (v ≡ by_table (loaded_table r) (length old)) × (new ≡ left_in (sentence_meaning v) (facts_in (loaded_table r)) old) → SentenceOf ws old new v
-    passed-sentence v e x =
-        by_value ws old new v (x.0 ∙ (ap (λ (s : Table). by_table s (length old)) same ∙ sym is))
-        (x.1 ∙ ap (λ (s : Table). left_in (sentence_meaning v) (facts_in s) old) same)
-      where
-        same : loaded_table r ≡ table_of ws
-        same = same-table ws r l e
+module _ (ws : List ℕ) (loaded : Result Loaded Refusal) (l : LoadOf ws loaded) (old new : List ℕ) where
+  -- what is answered of it is answered of the words
+  pub passed-sentence :
+      (t : Loaded) → loaded ≡ Ok t → (v : SentenceAnswer)
+      → (v ≡ by_table (loaded_table t) (length old)) × (new ≡ left_in (sentence_meaning v) (facts_in (loaded_table t)) old) → SentenceOf ws old new v
+  passed-sentence t e v x =
+      by_value ws old new v (x.0 ∙ (ap (λ (s : Table). by_table s (length old)) same ∙ sym is))
+      (x.1 ∙ ap (λ (s : Table). left_in (sentence_meaning v) (facts_in s) old) same)
+    where
+      same : loaded_table t ≡ table_of ws
+      same = let (h, none, passed) = load-ok ws loaded l t e in same-table ws t h none
 
-        is : sentence_answer_of ws (length old) ≡ by_table (table_of ws) (length old)
-        is = unfold sentence_answer_of in ap (λ (y : Answer). sentence_answer_by y (by_table (table_of ws) (length old))) ((passed-exact ws).1 (l.passed.0 (ap load_meaning e)))
+      is : sentence_answer_of ws (length old) ≡ by_table (table_of ws) (length old)
+      is =
+          let (h, none, passed) = load-ok ws loaded l t e in
+          unfold sentence_answer_of in ap (λ (y : Answer). sentence_answer_by y (by_table (table_of ws) (length old))) passed
 
-    -- a refusal of the table is that of the sentence, and the buffer is as found
-    pub refused-sentence : (n p : ℕ) → r.answer ≡ answer.Refused n p → new ≡ old → SentenceOf ws old new (Refused n p)
-    refused-sentence n p e same = by_value ws old new (Refused n p) (sym is) same
-      where
-        is : sentence_answer_of ws (length old) ≡ Refused n p
-        is = unfold sentence_answer_of in ap (λ (y : Answer). sentence_answer_by y (by_table (table_of ws) (length old))) ((refusal-exact ws n p).1 ((l.refused n p).0 (ap load_meaning e)))
+  -- a refusal of the table is that of the sentence, and the buffer is as found
+  pub refused-sentence : (x : Refusal) → loaded ≡ Err x → new ≡ old → SentenceOf ws old new (Refused (number_of x) (position_of x))
+  refused-sentence x e same = by_value ws old new (Refused (number_of x) (position_of x)) (sym is) same
+    where
+      is : sentence_answer_of ws (length old) ≡ Refused (number_of x) (position_of x)
+      is = unfold sentence_answer_of in ap (λ (y : Answer). sentence_answer_by y (by_table (table_of ws) (length old))) (load-err ws loaded l x e).0

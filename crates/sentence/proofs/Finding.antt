@@ -1,15 +1,14 @@
 -- What head and parts make of a text: the facts of its sentence, or that it is no sentence.
-use mathlib.Core.Bool.{Bool, true, false, false≢true}
+use mathlib.Core.Bool.{Bool, true, false≢true}
 use mathlib.Core.List.{List}
 use mathlib.Core.Path.{◌≡◌, refl, ap, sym, subst, ◌∙◌}
 use Prim.Native.Nat.{ℕ}
 use Rattle.sentence.specs.Facts.{Facts, Ascending, Expressible, named, facts_by}
 use Rattle.sentence.specs.Sentence.{sentence_head, sentence_text}
 use Rattle.sentence.specs.Parsed.{parsed_by, no_facts, FactsOf}
-use Rattle.sentence.specs.Reading.{PartsOf, HeadOf, heading}
+use Rattle.sentence.specs.Reading.{NoParts, PartsAt, NoSentence, HeadAt, heading}
 use Rattle.sentence.specs.declared.ParsedFacts.{ParsedFacts}
 use Rattle.sentence.specs.declared.reader.Head.{Head}
-use Rattle.sentence.specs.declared.reader.Parts.{Parts}
 use Rattle.sentence.proofs.Numbers.{sentence-injective}
 use Rattle.sentence.proofs.Exact.{read_back, none-exact}
 
@@ -33,26 +32,20 @@ facts-none bs r e h =
       none = (λ q. h, λ g. refl);
     })
 
-module _ (bs : List ℕ) (front : Head) (read : HeadOf bs front) where
-  -- where the head is not found
-  pub no-head : front.found ≡ false → (f : Facts) → Expressible f → ¬ (bs ≡ sentence_text f)
-  no-head q f s e = false≢true (sym q ∙ (read.only f s e).0)
-
-  -- where the parts are not found
-  pub no-parts : (back : Parts) → PartsOf bs front.next front.position back → back.found ≡ false → (f : Facts) → Expressible f → ¬ (bs ≡ sentence_text f)
-  no-parts back o q f s e =
+-- the head is there, but not the parts
+module _ (bs : List ℕ) (front : Head) (read : HeadAt bs front) where
+  pub no-parts : NoParts bs front.next front.position → NoSentence bs
+  no-parts none f s e =
       let u = read.only f s e in
-      o.none q f.others (subst (λ (k : ℕ). Ascending 0 k f.others) (sym u.1) s.others) u.2
+      none f.others (subst (λ (k : ℕ). Ascending 0 k f.others) (sym u.0) s.others) u.1
 
-  -- where both are
-  pub whole : (back : Parts) → PartsOf bs front.next front.position back → front.found ≡ true → back.found ≡ true →
-      let f : Facts = record { position = front.position; tick = front.tick; had = front.had; length = front.length; others = named back.ran } in
+  -- both are
+  pub whole : (ran : List ℕ) → PartsAt bs front.next front.position ran →
+      let f : Facts = record { position = front.position; tick = front.tick; had = front.had; length = front.length; others = named ran } in
       Expressible f × (bs ≡ sentence_text f)
   unfolding sentence_text sentence_head
-  whole back o p q =
-      let h = read.there p in
-      let s = h.0 in
-      let t = o.there q in (
-        record { first = s.first; last = s.last; tick = s.tick; short = s.short; length = s.length; others = t.0 },
-        h.1 ∙ ap (sentence_head (heading front)) t.1,
+  whole ran o =
+      let s = read.expressible in (
+        record { first = s.first; last = s.last; tick = s.tick; short = s.short; length = s.length; others = o.rise },
+        read.there ∙ ap (sentence_head (heading front)) o.there,
       )

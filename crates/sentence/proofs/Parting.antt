@@ -10,20 +10,39 @@ use lib.Seq.{get_or-set_same, get_or-set_other}
 use lib.Dec.{eqb, ltb}
 use borrow.Author.Tests.{ltb-true, lt-ltb, eqb-true, eqb-false}
 use Rattle.model.proofs.Bools.{and_left, and_right, and_both}
+use Rattle.text.specs.Decimal.{decimal}
 use Rattle.text.specs.Output.{letters}
 use Rattle.sentence.specs.Facts.{Part, limit, MayFollow, Ascending, named}
 use Rattle.sentence.specs.Sentence.{word_field, parts}
 use Rattle.sentence.specs.Parsed.{same}
-use Rattle.sentence.specs.Reading.{FieldOf, PartsOf}
+use Rattle.sentence.specs.Reading.{Stops, NoField, FieldAt, part_text, NoPart, PartAt, NoParts, PartsAt}
 use Rattle.sentence.specs.declared.reader.Field.{Field}
-use Rattle.sentence.proofs.Numbers.{parts-stop}
+use Rattle.sentence.specs.declared.reader.Part as code
+use Rattle.sentence.proofs.Numbers.{number-only, parts-stop}
 use Rattle.sentence.proofs.Exact.{same-exact}
-use Rattle.sentence.proofs.Fields.{field_found}
+use Rattle.sentence.proofs.Fields.{field-is}
 use Rattle.sentence.proofs.Naming.{parts-append, named-zeros, named_set, named-ascending}
 
--- a place where a field may begin
-abbrev pub place : ℕ → Field
-place i = record { found = true; value = 0; next = i }
+-- a part that is not there
+module _ (bs : List ℕ) (i : ℕ) where
+  pub no-task : NoField bs (letters "; task ") i → NoPart bs i
+  no-task absent q n rest l m s e = absent q (word_field (letters " ran ") n rest) l refl e
+
+  module _ (task : Field) (first : FieldAt bs (letters "; task ") i task) where
+    pub no-count : NoField bs (letters " ran ") task.next → NoPart bs i
+    no-count absent q n rest l m s e = absent n rest m s (field-is bs (letters "; task ") i task first q (word_field (letters " ran ") n rest) refl e).1
+
+    -- one that is
+    pub part-there : (count : Field) → FieldAt bs (letters " ran ") task.next count
+        → PartAt bs i (record { task = task.value; count = count.value; next = count.next })
+    part-there count second = record {
+      within = second.within;
+      there = first.there ∙ ap (λ (r : List ℕ). word_field (letters "; task ") task.value r) second.there;
+      stops = second.stops;
+      task = first.small;
+      count = second.small;
+      after = (let a = first.after in let b = second.after in omega arith);
+    }
 
 -- what holds when the parts from `from` up to `at` have been read, and `last` is the last task read
 pub record Read (bs : List ℕ) (from position : ℕ) (ran : List ℕ) (last at : ℕ) : Type 0 where
@@ -65,111 +84,97 @@ passed last position task count t =
       ltb-true 0 count (and_right (ltb task position) (ltb 0 count) u),
     )
 
-module _ (bs : List ℕ) (from position : ℕ) (ran : List ℕ) (last at : ℕ) (task count : Field)
-    (read : Read bs from position ran last at) (small : position ≤ 32)
-    (first : FieldOf bs (letters "; task ") (place at) task) (second : FieldOf bs (letters " ran ") task count) where
-  -- a part that is here is found
-  part-found : (p : Part) (qs : List Part) → MayFollow last position p → drop at bs ≡ parts (p ∷ qs) (letters ".") →
-      (count.found ≡ true) × (task.value ≡ p.position) × (count.value ≡ p.count) × (drop count.next bs ≡ parts qs (letters "."))
-  unfolding parts
-  part-found p qs f e =
-      let x = field_found bs (letters "; task ") (place at) task first refl p.position (word_field (letters " ran ") p.count (parts qs (letters "."))) (omega (arith, f.above)) refl e in
-      let y = field_found bs (letters " ran ") task count second x.0 p.count (parts qs (letters ".")) f.fits (parts-stop qs) x.2 in
-      (y.0, x.1, y.1, y.2)
+module _ (bs : List ℕ) (from position : ℕ) (ran : List ℕ) (last at : ℕ) (read : Read bs from position ran last at) (small : position ≤ 32) where
+  -- there is no part: the parts end here or nowhere
+  pub parts-end : same (drop at bs) (letters ".") ≡ true → PartsAt bs from position ran
+  parts-end q = record {
+    rise = named-ascending 0 position ran read.fits (λ k l. read.zeros k (let a = read.above in omega arith));
+    there = read.before ∙ ap (parts (named ran)) ((same-exact (drop at bs) (letters ".")).0 q);
+  }
 
-  -- the part that was found is here
-  pub here : count.found ≡ true → (at < count.next) × (count.next ≤ length bs) × (count.value < limit) × (task.value < limit)
-      × (drop at bs ≡ word_field (letters "; task ") task.value (word_field (letters " ran ") count.value (drop count.next bs)))
-  here f =
-      let y = second.there f in
-      let x = first.there y.0 in
-      let l = x.4 in
-      let m = y.4 in
-      (omega arith, second.within, y.3, x.3, x.1 ∙ ap (λ (r : List ℕ). letters "; task " ++ (Rattle.text.specs.Decimal.decimal task.value ++ r)) y.1)
+  pub parts-none : NoPart bs at → same (drop at bs) (letters ".") ≡ false → NoParts bs from position
+  unfolding parts Ascending
+  parts-none absent q ps r e = let a = read.after ps r e in go a.0 a.1 a.2
+    where
+      go : (qs : List Part) → Ascending last position qs → drop at bs ≡ parts qs (letters ".") → ⊥
+      go [] s d = false≢true (sym q ∙ (same-exact (drop at bs) (letters ".")).1 d)
+      go (p ∷ qs) s d = let a = s.0.above in absent p.position p.count (parts qs (letters ".")) (omega arith) s.0.fits (parts-stop qs) d
+
+module _ (bs : List ℕ) (from position : ℕ) (ran : List ℕ) (last at : ℕ) (part : code.Part)
+    (read : Read bs from position ran last at) (small : position ≤ 32) (found : PartAt bs at part) where
+  -- the part that is here is the one that was found
+  part-is : (q n : ℕ) (rest : List ℕ) → Stops rest → drop at bs ≡ part_text q n rest → (part.task ≡ q) × (part.count ≡ n) × (drop part.next bs ≡ rest)
+  part-is q n rest s e =
+      let same : decimal part.task ++ word_field (letters " ran ") part.count (drop part.next bs) ≡ decimal q ++ word_field (letters " ran ") n rest =
+      ap (drop 7) (sym found.there ∙ e) in
+      let one = number-only part.task q (word_field (letters " ran ") part.count (drop part.next bs)) (word_field (letters " ran ") n rest) refl refl same in
+      let other : decimal part.count ++ drop part.next bs ≡ decimal n ++ rest = ap (drop 5) one.1 in
+      let two = number-only part.count n (drop part.next bs) rest found.stops s other in
+      (one.0, two.0, two.1)
 
   -- the full stop is no part
-  no_part : count.found ≡ true → ¬ (drop at bs ≡ letters ".")
-  no_part f e = let z : ◌≡◌ {A = ℕ} 59 46 = ap (λ (xs : List ℕ). get_or xs 0 0) (sym (here f).4 ∙ e) in omega arith
+  no_part : ¬ (drop at bs ≡ letters ".")
+  no_part e = let z : ◌≡◌ {A = ℕ} 59 46 = ap (λ (xs : List ℕ). get_or xs 0 0) (sym found.there ∙ e) in omega arith
 
-  -- the parts that are left, where one was found here
-  pub part_left : count.found ≡ true → (ps : List Part) → Ascending 0 position ps → drop from bs ≡ parts ps (letters ".") →
-      MayFollow last position (record { position = task.value; count = count.value })
-      × ((qs : List Part) × Ascending task.value position qs × (drop count.next bs ≡ parts qs (letters ".")))
+  -- the parts that are left
+  part_left : (ps : List Part) → Ascending 0 position ps → drop from bs ≡ parts ps (letters ".") →
+      MayFollow last position (record { position = part.task; count = part.count })
+      × ((qs : List Part) × Ascending part.task position qs × (drop part.next bs ≡ parts qs (letters ".")))
   unfolding parts Ascending
-  part_left f ps r e = let a = read.after ps r e in go a.0 a.1 a.2
+  part_left ps r e = let a = read.after ps r e in go a.0 a.1 a.2
     where
       go : (qs : List Part) → Ascending last position qs → drop at bs ≡ parts qs (letters ".") →
-          MayFollow last position (record { position = task.value; count = count.value })
-          × ((rs : List Part) × Ascending task.value position rs × (drop count.next bs ≡ parts rs (letters ".")))
-      go [] s d = absurd (no_part f d)
+          MayFollow last position (record { position = part.task; count = part.count })
+          × ((rs : List Part) × Ascending part.task position rs × (drop part.next bs ≡ parts rs (letters ".")))
+      go [] s d = absurd (no_part d)
       go (q ∷ qs) s d =
-          let x = part-found q qs s.0 d in
+          let x = part-is q.position q.count (parts qs (letters ".")) (parts-stop qs) d in
           let g : MayFollow last position q = s.0 in
-          let m : task.value ≡ q.position = x.1 in
-          let n : count.value ≡ q.count = x.2 in (
-            record { later = omega (arith, g.later); above = omega (arith, g.above); some = omega (arith, g.some); fits = (here f).2 },
-            (qs, subst (λ (k : ℕ). Ascending k position qs) (sym m) s.1, x.3),
+          let m : part.task ≡ q.position = x.0 in
+          let n : part.count ≡ q.count = x.1 in (
+            record { later = omega (arith, g.later); above = omega (arith, g.above); some = omega (arith, g.some); fits = found.count },
+            (qs, subst (λ (k : ℕ). Ascending k position qs) (sym m) s.1, x.2),
           )
 
   -- it is read
-  pub read_more : count.found ≡ true → tests last position task.value count.value ≡ true → Read bs from position (set ran (task.value - 1) count.value) task.value count.next
+  pub read_more : tests last position part.task part.count ≡ true → Read bs from position (set ran (part.task - 1) part.count) part.task part.next
   unfolding parts
-  read_more f t =
-      let g = passed last position task.value count.value t in
-      let q : ℕ = task.value in
-      let n : ℕ = count.value in
+  read_more t =
+      let g = passed last position part.task part.count t in
+      let q : ℕ = part.task in
+      let n : ℕ = part.count in
       let l : last < q = g.0 in
       let b : q < position = g.1 in
       let z : suc (0 + (q - 1)) ≡ q = omega arith in
       let w : q - 1 < length ran = omega (arith, read.size) in
       record {
         size = length-set ran (q - 1) n ∙ read.size;
-        within = (here f).1;
+        within = found.within;
         above = omega arith;
         fits = λ k. fit k (eqb k (q - 1)) refl w;
         zeros =
             λ k h.
             get_or-set_other ran (q - 1) k n 0 (λ e. omega arith) ∙ read.zeros k (omega arith);
         before =
-            read.before ∙ ap (parts (named ran)) (here f).4 ∙ sym (parts-append (named ran) (record { position = q; count = n } ∷ []) (drop count.next bs))
-            ∙ ap (λ (ps : List Part). parts ps (drop count.next bs))
+            read.before ∙ ap (parts (named ran)) found.there ∙ sym (parts-append (named ran) (record { position = q; count = n } ∷ []) (drop part.next bs))
+            ∙ ap (λ (ps : List Part). parts ps (drop part.next bs))
             (sym (named_set 0 ran (q - 1) n w g.2 (λ k h. read.zeros k (omega arith)) ∙ ap (λ (k : ℕ). named ran ++ (record { position = k; count = n } ∷ [])) z));
-        after = λ ps r e. (part_left f ps r e).1;
+        after = λ ps r e. (part_left ps r e).1;
       }
     where
-      fit : (k : ℕ) (t : Bool) → eqb k (task.value - 1) ≡ t → task.value - 1 < length ran → get_or (set ran (task.value - 1) count.value) k 0 < limit
+      fit : (k : ℕ) (t : Bool) → eqb k (part.task - 1) ≡ t → part.task - 1 < length ran → get_or (set ran (part.task - 1) part.count) k 0 < limit
       fit k true e w =
-          let v : get_or (set ran (task.value - 1) count.value) k 0 ≡ count.value =
-          ap (λ (j : ℕ). get_or (set ran (task.value - 1) count.value) j 0) (eqb-true k (task.value - 1) e) ∙ get_or-set_same ran (task.value - 1) count.value 0 w in
-          omega (arith, (here f).2)
+          let v : get_or (set ran (part.task - 1) part.count) k 0 ≡ part.count =
+          ap (λ (j : ℕ). get_or (set ran (part.task - 1) part.count) j 0) (eqb-true k (part.task - 1) e) ∙ get_or-set_same ran (part.task - 1) part.count 0 w in
+          omega (arith, found.count)
       fit k false e w =
-          let v = get_or-set_other ran (task.value - 1) k count.value 0 (eqb-false k (task.value - 1) e) in
+          let v = get_or-set_other ran (part.task - 1) k part.count 0 (eqb-false k (part.task - 1) e) in
           omega (arith, read.fits k)
 
   -- it may not be here
-  pub read-wrong : count.found ≡ true → tests last position task.value count.value ≡ false → PartsOf bs from position (record { found = false; ran = ran })
-  read-wrong f t = record {
-    there = λ q. absurd (false≢true q);
-    none =
-        λ q ps r e.
-        let g = (part_left f ps r e).0 in
-        false≢true (sym t
-        ∙ and_both (ltb last task.value) (ltb task.value position && ltb 0 count.value) (lt-ltb last task.value g.later)
-        (and_both (ltb task.value position) (ltb 0 count.value) (lt-ltb task.value position g.above) (lt-ltb 0 count.value g.some)));
-  }
-
-  -- there is no part: the sentence ends here or nowhere
-  pub read-stop : count.found ≡ false → PartsOf bs from position (record { found = same (drop at bs) (letters "."); ran = ran })
-  unfolding parts Ascending
-  read-stop f = record {
-    there =
-        λ q. (
-          named-ascending 0 position ran read.fits (λ k l. read.zeros k (let a = read.above in omega arith)),
-          read.before ∙ ap (parts (named ran)) ((same-exact (drop at bs) (letters ".")).0 q),
-        );
-    none = λ q ps r e. let a = read.after ps r e in go q a.0 a.1 a.2;
-  }
-    where
-      go : same (drop at bs) (letters ".") ≡ false → (qs : List Part) → Ascending last position qs → drop at bs ≡ parts qs (letters ".") → ⊥
-      go q [] s d = false≢true (sym q ∙ (same-exact (drop at bs) (letters ".")).1 d)
-      go q (p ∷ qs) s d = false≢true (sym f ∙ (part-found p qs s.0 d).0)
+  pub read-wrong : tests last position part.task part.count ≡ false → NoParts bs from position
+  read-wrong t ps r e =
+      let g = (part_left ps r e).0 in
+      false≢true (sym t
+      ∙ and_both (ltb last part.task) (ltb part.task position && ltb 0 part.count) (lt-ltb last part.task g.later)
+      (and_both (ltb part.task position) (ltb 0 part.count) (lt-ltb part.task position g.above) (lt-ltb 0 part.count g.some)))

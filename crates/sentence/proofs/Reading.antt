@@ -4,17 +4,20 @@ use mathlib.Core.List.{List, [], ◌∷◌, ◌++◌}
 use mathlib.Core.Path.{◌≡◌, refl, ap, ap₂, sym, subst, ◌∙◌}
 use Prim.Native.Nat.{ℕ, suc, ◌+◌, ◌*◌, ◌-◌, ◌^◌, ◌≤◌, ◌<◌}
 use native.Mathlib.Nat.{mul-le-mul_left, pow-le-pow_right}
-use native.Mathlib.Numerals.{add-one}
 use native.Mathlib.Omega.{arith}
-use lib.ListN.{length, get_or, take, drop, length-append, length-drop, take-append-drop, drop_of_length-le, get_or-append}
-use lib.Seq.{drop-cons, take-append_seam, length-take-le, get_or-take}
+use lib.ListN.{length, get_or, take, drop, length-append, length-drop, take-append-drop, get_or-append}
+use lib.Seq.{take-append_seam, length-take-le, get_or-take}
 use lib.Dec.{eqb, ltb}
-use borrow.Author.Tests.{eqb-true, eq-eqb, lt-leb, le-leb, ltb-false}
-use Rattle.model.proofs.Bools.{and_left, and_right, and_both}
+use borrow.Author.Tests.{eqb-true, eq-eqb, ltb-false}
+use Rattle.std.proofs.Common.{Option}
+use Rattle.std.specs.Option.{MatchOption, unwrap_or}
+use Rattle.std.specs.List.{AllWithin, HoldsAt}
+use Rattle.std.specs.Cmp.Lexicographic.{pointwise}
+use Rattle.std.proofs.lemmas.Iterator.{index_from_first}
+use Rattle.model.proofs.Bools.{and_left, and_right, and_both, not-true-false}
 use Rattle.text.specs.Decimal.{all, is_digit, Digit, value, decimal}
 use Rattle.text.proofs.Values.{digit-exact, digits-exact}
 use Rattle.text.proofs.Decimals.{decimal-digits, decimal-some, decimal-length, decimal-lead, decimal-only, count-one}
-use Rattle.text.specs.Output.{letters}
 use Rattle.sentence.specs.Parsed.{same}
 use Rattle.sentence.specs.Reading.{starts_with, digits_of, Stops}
 
@@ -40,19 +43,12 @@ begins-within word bs i l e =
     ap length (begins-there word (drop i bs) e) ∙ length-append word (drop (length word) (drop i bs)) in
     omega (arith, length-drop i bs)
 
--- .. byte by byte
-pub begins-over : (word bs : List ℕ) (k : ℕ) → length word ≤ k → starts_with (drop k word) bs ≡ true
+-- the test of the library is the same
+pub begins-pointwise : (word bs : List ℕ) → pointwise eqb word (take (length word) bs) ≡ starts_with word bs
 unfolding starts_with
-begins-over word bs k h = rw (drop_of_length-le word h)
-
-pub begins-past : (word bs : List ℕ) (k i : ℕ) → k < length word → length bs ≤ i → starts_with (drop k word) (drop i bs) ≡ false
-unfolding starts_with
-begins-past word bs k i h l = rw (drop-cons word k 0 h, drop_of_length-le bs l)
-
-pub begins-on : (word bs : List ℕ) (k i : ℕ) → k < length word → i < length bs →
-    starts_with (drop k word) (drop i bs) ≡ eqb (get_or word k 0) (get_or bs i 0) && starts_with (drop (suc k) word) (drop (suc i) bs)
-unfolding starts_with
-begins-on word bs k i h l = rw (drop-cons word k 0 h, drop-cons bs i 0 l)
+begins-pointwise [] bs = refl
+begins-pointwise (c ∷ cs) [] = refl
+begins-pointwise (c ∷ cs) (b ∷ bs) = ap (λ (t : Bool). eqb c b && t) (begins-pointwise cs bs)
 
 -- DIGITS
 
@@ -90,22 +86,17 @@ digits_append [] (b ∷ bs) e h = rw h
 digits_append (d ∷ ds) rest e h =
     rw (and_left (is_digit d) (all is_digit ds) e) (ap suc (digits_append ds rest (and_right (is_digit d) (all is_digit ds) e) h))
 
--- .. from an index on
-pub digits-on : (bs : List ℕ) (i : ℕ) → i < length bs → Digit (get_or bs i 0) → digits_of (drop i bs) ≡ suc (digits_of (drop (i + 1) bs))
+-- .. and the index of the first byte that is no digit ends them, where there is one
+pub digits-first :
+    (bs : List ℕ) (r : Option ℕ)
+    → MatchOption r (AllWithin Digit bs 0 (length bs)) (λ i. (i < length bs) × HoldsAt (λ b. Digit b → ⊥) bs i × AllWithin Digit bs 0 i)
+    → digits_of bs ≡ unwrap_or r (length bs)
 unfolding digits_of
-digits-on bs i l d = rw (add-one, drop-cons bs i 0 l, (digit-exact (get_or bs i 0)).1 d)
-
-pub digits_low : (bs : List ℕ) (i : ℕ) → i < length bs → get_or bs i 0 < 48 → digits_of (drop i bs) ≡ 0
-unfolding digits_of
-digits_low bs i l h = rw (drop-cons bs i 0 l, lt-leb 48 (get_or bs i 0) h)
-
-pub digits-high : (bs : List ℕ) (i : ℕ) → i < length bs → 57 < get_or bs i 0 → digits_of (drop i bs) ≡ 0
-unfolding digits_of
-digits-high bs i l h = rw (drop-cons bs i 0 l, le-leb 48 (get_or bs i 0) (omega arith), lt-leb (get_or bs i 0) 57 h)
-
-pub digits-none : (bs : List ℕ) (i : ℕ) → length bs ≤ i → digits_of (drop i bs) ≡ 0
-unfolding digits_of
-digits-none bs i l = rw (drop_of_length-le bs l)
+digits-first bs r h =
+    index_from_first digits_of (λ b. Digit b → ⊥) Digit refl
+    (λ b bs n. rw (not-true-false (is_digit b) (λ e. n ((digit-exact b).0 e))))
+    (λ b bs d. rw ((digit-exact b).1 d) (omega arith))
+    bs r h
 
 -- NUMBERS
 
@@ -164,27 +155,10 @@ value-front k ds = subst (λ (xs : List ℕ). value (take k ds) ≤ value xs) (t
 
 -- THE END
 
--- one byte is left: it is the full stop or not
-pub stop-one : (bs : List ℕ) (i : ℕ) → length bs - i ≡ 1 → eqb (get_or bs i 0) 46 ≡ same (drop i bs) (letters ".")
+-- the library's test of two texts is the same
+pub same-pointwise : (bs cs : List ℕ) → pointwise eqb bs cs ≡ same bs cs
 unfolding same
-stop-one bs i h =
-    let e : drop (suc i) bs ≡ [] = drop_of_length-le bs {i = suc i} (omega arith) in
-    rw (drop-cons bs i 0 (omega arith), e) (go (eqb (get_or bs i 0) 46))
-  where
-    go : (t : Bool) → t ≡ t && true
-    go true = refl
-    go false = refl
-
--- fewer or more are left
-pub stop-none : (bs : List ℕ) (i : ℕ) → (length bs - i ≡ 1 → ⊥) → false ≡ same (drop i bs) (letters ".")
-unfolding same
-stop-none bs i h = go (drop i bs) (λ e. h (sym (length-drop i bs) ∙ e))
-  where
-    longer : (t : Bool) → false ≡ t && false
-    longer true = refl
-    longer false = refl
-
-    go : (xs : List ℕ) → (length xs ≡ 1 → ⊥) → false ≡ same xs (letters ".")
-    go [] q = refl
-    go (b ∷ []) q = absurd (q refl)
-    go (b ∷ c ∷ xs) q = longer (eqb b 46)
+same-pointwise [] [] = refl
+same-pointwise [] (c ∷ cs) = refl
+same-pointwise (b ∷ bs) [] = refl
+same-pointwise (b ∷ bs) (c ∷ cs) = ap (λ (t : Bool). eqb b c && t) (same-pointwise bs cs)

@@ -13,14 +13,14 @@ use Rattle.model.specs.Search.{any, least}
 use Rattle.model.specs.Task.{Table}
 use Rattle.model.specs.Horizon.{horizon}
 use Rattle.model.specs.Verdict.{missed_at, missed_in, first_miss}
-use Rattle.judge.specs.declared.Missed.TheVariants.{Never, At}
+use Rattle.judge.specs.FirstMiss.{Never, At}
 use Rattle.judge.specs.FirstMiss.{missed_before}
 use Rattle.text.specs.Written.{Put}
 use Rattle.sentence.specs.Facts.{Facts}
 use Rattle.sentence.specs.Sentence.{sentence_text}
 use Rattle.sentence.specs.Waiting.{facts_at, miss_place, facts_in}
 use Rattle.sentence.specs.SentenceAnswer.{by_buffer, by_table, front}
-use Rattle.sentence.specs.declared.SentenceAnswer.TheVariants.{Length, Refused}
+use Rattle.sentence.specs.SentenceAnswer.{Length, Refused}
 
 -- by the buffer's length
 pub too_short : (f : Facts) (bytes : ℕ) → bytes < length (sentence_text f) → Refused 18 0 ≡ by_buffer f bytes

@@ -1,11 +1,11 @@
 -- The answer of `sentence`, and the contract of it and of the buffer (request 'the miss in a sentence').
-use Rattle.std.specs.Prelude.{◌≡◌, cond, List, ◌++◌, ◌↔◌, ℕ, suc, ◌≤◌, ltb, length, get_or, take, drop}
+use Rattle.std.specs.Prelude.{Result, Ok, Err, ◌≡◌, cond, List, ◌++◌, ◌↔◌, ℕ, suc, ◌≤◌, ltb, length, get_or, take, drop}
 use Rattle.model.specs.Search.{any}
 use Rattle.model.specs.Task.{Table}
 use Rattle.model.specs.Horizon.{horizon}
 use Rattle.model.specs.Verdict.{Miss, missed_in}
-use Rattle.table.specs.declared.Answer.{Answer}
-use Rattle.table.specs.declared.Answer.TheVariants as table
+use Rattle.table.specs.Answer.{Answer}
+use Rattle.table.specs.Answer as table
 use Rattle.table.specs.Limits.{most_horizon}
 use Rattle.table.specs.Words.{table_of}
 use Rattle.table.specs.Answer.{answer_of}
@@ -17,8 +17,18 @@ use Rattle.sentence.specs.Waiting.{facts_in, facts_of}
 use Rattle.sentence.specs.Numbers.{First, NoneApplies}
 use Rattle.sentence.specs.Limits.{longest_sentence}
 use Rattle.sentence.specs.Parsed.{facts, parsed}
-use Rattle.sentence.specs.declared.SentenceAnswer.{SentenceAnswer}
-use Rattle.sentence.specs.declared.SentenceAnswer.TheVariants.{Length, Refused}
+use Rattle.model.specs.declared.refusal.Refusal.{Refusal}
+use Rattle.model.specs.Refusal.{number_of, position_of}
+
+-- the answer of `sentence`: the sentence's length, or refused with number and position
+pub data SentenceAnswer : Type 0 where
+  Length : ℕ → SentenceAnswer
+  Refused : ℕ → ℕ → SentenceAnswer
+
+-- as code returns it
+abbrev pub answered : Result ℕ Refusal → SentenceAnswer
+answered (Ok n) = Length n
+answered (Err e) = Refused (number_of e) (position_of e)
 
 -- facts are written into a buffer of this number of bytes: 18 where it is shorter than the sentence, else the sentence's length
 unfoldable pub by_buffer : Facts → ℕ → SentenceAnswer

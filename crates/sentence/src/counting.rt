@@ -10,6 +10,7 @@ ghost use Rattle.sentence.specs.Counting.{added, above};
 
 use crate::Facts;
 use model::MOST_TASKS;
+use model::sets::Members;
 use table::Loaded;
 
 // Whether a place is in a set.
@@ -25,11 +26,8 @@ fn add(granted: u32, ran: &mut [u64; MOST_TASKS])
     requires { (q : ℕ) → get_or ran.old q 0 < 2 ^ 32 }
     ensures { ran.new ≡ added granted ran.old }
 {
-    let mut rest = granted;
-    while 0 < rest {
-        let place = u32::trailing_zeros(rest);
-        rest -= 1u32 << place;
-        ran[place as usize] += 1;
+    for place in Members::from(granted) {
+        ran[place] += 1;
     }
 }
 
@@ -39,11 +37,7 @@ fn counts_above(ran: [u64; MOST_TASKS], place: usize) -> [u64; MOST_TASKS]
     ensures { result ≡ above place ran }
 {
     let mut counts = [0u64; MOST_TASKS];
-    let mut i: usize = 0;
-    while i < place {
-        counts[i] = ran[i];
-        i += 1;
-    }
+    counts[..place].copy_from_slice(&ran[..place]);
     counts
 }
 
@@ -64,6 +58,7 @@ pub fn count(table: Loaded, tick: u32, place: usize) -> Facts
     let mut registers = machine.registers;
     let mut places = machine.places;
     let mut ran = [0u64; MOST_TASKS];
+    // no plainer as a `for`: the tick is a register of the run, and a step sets it
     while registers.tick < tick {
         let before = registers.tick;
         let on = judge::by_ticks::run_on(

@@ -7,11 +7,10 @@ ghost use Rattle.table.specs.Fit.{loaded_table, Fit};
 ghost use Rattle.sentence.specs.Parsed.{no_facts, FactsOf};
 ghost use Rattle.sentence.specs.Waiting.{facts_at, facts_in};
 ghost use Rattle.sentence.specs.Counting.{LengthsWithin};
-ghost use Rattle.sentence.specs.SentenceAnswer.{by_buffer, by_table, sentence_meaning, left_in, SentenceOf};
+ghost use Rattle.sentence.specs.SentenceAnswer.{answered, by_buffer, by_table, sentence_meaning, left_in, SentenceOf};
 
-use judge::Missed;
-use model::MOST_TASKS;
-use table::{Answer, Loaded};
+use model::{MOST_TASKS, Refusal};
+use table::Loaded;
 
 pub mod counting; // counting.rt: the facts of a miss, counted in the full-length run
 pub mod reader; // reader.rt: a sentence parsed
@@ -20,14 +19,8 @@ pub mod writer; // writer.rt: a sentence written
 // No sentence is longer than this, for ticks up to 1,000,000,000.
 pub const LONGEST: usize = 700;
 
-// The answer of `sentence`: the sentence's length, or Refused with number and position.
-#[derive(Clone, Copy)]
-pub enum SentenceAnswer {
-    Length(usize),
-    Refused(u32, u32),
-}
-
 // The facts of a miss: `ran[q]` is the count of the task at position q + 1, and 0 where it has no part.
+// Zeros where a task has no part, since C reads 32 counts.
 #[derive(Clone, Copy)]
 pub struct Facts {
     pub position: u32,
@@ -65,15 +58,12 @@ fn no_facts() -> ParsedFacts
 pub fn facts_of(bytes: &[u8]) -> ParsedFacts
     ensures { FactsOf bytes.now result }
 {
-    let head = reader::read_head(bytes);
-    if !head.found {
+    let Some(head) = reader::read_head(bytes) else {
         return no_facts();
-    }
-    let parts = reader::read_parts(bytes, head.next, head.position);
-    if !parts.found {
+    };
+    let Some(ran) = reader::read_parts(bytes, head.next, head.position) else {
         return no_facts();
-    }
-    let ran = parts.ran;
+    };
     ParsedFacts {
         found: true,
         facts: Facts {
@@ -86,42 +76,38 @@ pub fn facts_of(bytes: &[u8]) -> ParsedFacts
     }
 }
 
-// Writes the sentence of a miss of a place at a tick at the front of the buffer, or returns 18 where it is too short.
-fn write_miss(table: Loaded, tick: u32, place: usize, buffer: &mut [u8]) -> SentenceAnswer
+// Writes the sentence of a miss of a place at a tick at the front of the buffer, and returns its length; 18 where the buffer is too short.
+fn write_miss(table: Loaded, tick: u32, place: usize, buffer: &mut [u8]) -> Result<usize, Refusal>
     requires { Fit table × FirstMiss (loaded_table table) tick (suc place) × (tick ≤ table.horizon) × LengthsWithin table }
-    ensures { (result ≡ by_buffer (facts_at (loaded_table table) tick place) (length buffer.old))
-        × (buffer.new ≡ left_in (sentence_meaning result) (facts_at (loaded_table table) tick place) buffer.old) }
+    ensures { (answered result ≡ by_buffer (facts_at (loaded_table table) tick place) (length buffer.old))
+        × (buffer.new ≡ left_in (sentence_meaning (answered result)) (facts_at (loaded_table table) tick place) buffer.old) }
 {
     let facts = counting::count(table, tick, place);
     let mut text = [0u8; LONGEST];
     let length = writer::put(facts, &mut text);
     if buffer.len() < length {
-        return SentenceAnswer::Refused(18, 0);
+        return Err(Refusal::ShortBuffer);
     }
-    let end = text::row::copy(&text, 0, length, buffer, 0);
-    SentenceAnswer::Length(end)
+    Ok(text::row::copy(&text, 0, length, buffer, 0))
 }
 
 // The sentence of a table that passed: number 17 or 18, or its first miss.
-fn by_table(table: Loaded, buffer: &mut [u8]) -> SentenceAnswer
+fn by_table(table: Loaded, buffer: &mut [u8]) -> Result<usize, Refusal>
     requires { Fit table × LengthsWithin table }
-    ensures { (result ≡ by_table (loaded_table table) (length buffer.old)) × (buffer.new ≡ left_in (sentence_meaning result) (facts_in (loaded_table table)) buffer.old) }
+    ensures { (answered result ≡ by_table (loaded_table table) (length buffer.old))
+        × (buffer.new ≡ left_in (sentence_meaning (answered result)) (facts_in (loaded_table table)) buffer.old) }
 {
-    let missed = judge::fastest::first_miss(table, table.horizon + 1);
-    match missed {
-        Missed::Never => SentenceAnswer::Refused(17, 0),
-        Missed::At(tick, position) => write_miss(table, tick, position as usize - 1, buffer),
+    match judge::fastest::first_miss(table, table.horizon + 1) {
+        None => Err(Refusal::NoMiss),
+        Some(miss) => write_miss(table, miss.tick, miss.position as usize - 1, buffer),
     }
 }
 
-// Writes the sentence of the first miss of the table in these words at the front of the buffer.
-pub fn sentence(words: &[u32], buffer: &mut [u8]) -> SentenceAnswer
-    ensures { SentenceOf words.now buffer.old buffer.new result }
+// Writes the sentence of the first miss of the table in these words at the front of the buffer, and returns its length; or the first number that applies,
+// and the buffer as found.
+pub fn sentence(words: &[u32], buffer: &mut [u8]) -> Result<usize, Refusal>
+    ensures { SentenceOf words.now buffer.old buffer.new (answered result) }
 {
-    let table = table::load(words);
-    let answer = table.answer;
-    match answer {
-        Answer::Passed => by_table(table, buffer),
-        Answer::Refused(number, position) => SentenceAnswer::Refused(number, position),
-    }
+    let table = table::load(words)?;
+    by_table(table, buffer)
 }

@@ -1,4 +1,5 @@
 // A sentence written into a buffer.
+// By hand: the bytes go into the caller's slice from a place on. The library's text without a heap, `InlineText`, has its own buffer.
 ghost use Rattle.std.specs.Prelude.{List, [], ◌∷◌, ◌++◌, ◌+◌, ◌≤◌, length};
 ghost use Rattle.text.specs.Decimal.{decimal};
 ghost use Rattle.text.specs.Written.{Put};
@@ -36,10 +37,8 @@ fn put_parts(line: &mut [u8], from: usize, ran: [u64; MOST_TASKS]) -> usize
     ensures { Put line.old from (parts (named ran) []) line.new result }
 {
     let mut at = from;
-    let mut place: usize = 0;
-    while place < MOST_TASKS {
-        at = put_part(line, at, place, ran[place]);
-        place += 1;
+    for (place, count) in ran.iter().enumerate() {
+        at = put_part(line, at, place, *count);
     }
     at
 }

@@ -13,17 +13,15 @@ use borrow.Author.Tests.{ne_eqb, leb-true, leb-false}
 use Rattle.text.specs.Format.{most_digits}
 use Rattle.text.specs.Input.{length_to, parse_number}
 use Rattle.text.specs.Output.{space}
-use Rattle.text.specs.declared.line.ParsedNumber.{ParsedNumber}
-use Rattle.text.specs.declared.line.ParsedNumber.TheVariants as found
+use Rattle.std.proofs.Common.{Option, Some, None}
 use Rattle.text.proofs.Lines.{mark-within, mark-stop}
 use Rattle.text.proofs.Numbers.{found_nothing}
 use Rattle.splitter.specs.Words.{words_in}
 use Rattle.splitter.proofs.Words.{words-one, words_more}
 use Rattle.session.specs.declared.operations.Numbers.{Numbers}
-use Rattle.session.specs.declared.operations.Numbers.TheVariants.{Bare, Other}
-use Rattle.session.specs.declared.operations.Operation.TheVariants.{Nothing}
+use Rattle.session.specs.declared.operations.Numbers.TheVariants.{Bare}
 use Rattle.session.specs.Operation.{none_long, one_of, two_of, numbers_of, numbers_after, advance_by, row_by, sets_by, working_by, withdraw_by, withdraw_all_by}
-use Rattle.session.specs.Operation.{operation_by, operation_of}
+use Rattle.session.specs.Operation.{operation_by, operation_with, operation_of}
 
 -- WORDS
 
@@ -34,15 +32,15 @@ words-some l = ⊎_elim (λ e. (l, [], words-one l e)) (λ h. (take (length_to s
 -- NUMBERS
 
 -- a text with a space represents no number
-spaced : (l : List ℕ) → length_to space l < length l → found.Nothing ≡ parse_number l
+spaced : (l : List ℕ) → length_to space l < length l → None ≡ parse_number l
 spaced l h = found_nothing l (λ n. omega (arith, mark-stop space l h, n.digits (length_to space l) h))
 
-two_none : (f : ParsedNumber) → two_of f found.Nothing ≡ Other
-two_none (found.Value n) = refl
-two_none found.Nothing = refl
+two_none : (f : Option ℕ) → two_of f None ≡ None
+two_none (Some n) = refl
+two_none None = refl
 
 -- three words or more are no numbers
-numbers-many : (w v l : List ℕ) → numbers_of (w ∷ v ∷ words_in l) ≡ Other
+numbers-many : (w v l : List ℕ) → numbers_of (w ∷ v ∷ words_in l) ≡ None
 unfolding numbers_of
 numbers-many w v l = let s = words-some l in ap (λ (ls : List (List ℕ)). numbers_of (w ∷ v ∷ ls)) s.2
 
@@ -71,7 +69,7 @@ numbers-two l h = ap numbers_of (words_more l h) ∙ numbers-last (take (length_
 
 -- AFTER THE LETTER
 
-pub behind-none : (l : List ℕ) → length l ≡ 0 → Bare ≡ numbers_after l
+pub behind-none : (l : List ℕ) → length l ≡ 0 → Some Bare ≡ numbers_after l
 unfolding numbers_after
 behind-none [] e = refl
 behind-none (b ∷ l) e = absurd (omega arith)
@@ -113,7 +111,21 @@ behind-two (b ∷ l) end n q e h =
     rest : take (length (b ∷ l) - suc (suc (length_to space l))) (drop (suc (length_to space l)) l) ≡ drop (suc (length_to space l)) l
     rest = take_all (length (b ∷ l) - suc (suc (length_to space l))) (drop (suc (length_to space l)) l) (omega (arith, length-drop (suc (length_to space l)) l))
 
-pub behind-other : (l : List ℕ) → (length l ≡ 0 → ⊥) → (get_or l 0 0 ≡ space → ⊥) → Other ≡ numbers_after l
+-- what is before the first space is no number
+pub behind-first :
+    (l : List ℕ) (end : ℕ) → (length l ≡ 0 → ⊥) → get_or l 0 0 ≡ space → end ≡ 1 + length_to space (drop 1 l) → None ≡ parse_number (take (end - 1) (drop 1 l))
+    → None ≡ numbers_after l
+behind-first l end n q e f = ⊎_elim whole part (eq-or-lt_of_le (word_end l end n e))
+  where
+    whole : end ≡ length l → None ≡ numbers_after l
+    whole h = ap one_of f ∙ behind-one l end n q e h
+
+    part : end < length l → None ≡ numbers_after l
+    part h =
+        ap (λ (x : Option ℕ). two_of x (parse_number (take (length l - (end + 1)) (drop (end + 1) l)))) f
+        ∙ behind-two l end n q e (λ k. omega (arith, h, k))
+
+pub behind-other : (l : List ℕ) → (length l ≡ 0 → ⊥) → (get_or l 0 0 ≡ space → ⊥) → None ≡ numbers_after l
 unfolding numbers_after
 behind-other [] n q = absurd (n refl)
 behind-other (b ∷ l) n q = rw (ne_eqb b space q)
@@ -145,33 +157,36 @@ unfolding operation_by
 by-working b ns e = rw e
 
 pub by-none :
-    (b : ℕ) (ns : Numbers) → (b ≡ 97 → ⊥) → (b ≡ 114 → ⊥) → (b ≡ 119 → ⊥) → (b ≡ 87 → ⊥) → (b ≡ 115 → ⊥) → (b ≡ 106 → ⊥) → Nothing ≡ operation_by b ns
+    (b : ℕ) (ns : Numbers) → (b ≡ 97 → ⊥) → (b ≡ 114 → ⊥) → (b ≡ 119 → ⊥) → (b ≡ 87 → ⊥) → (b ≡ 115 → ⊥) → (b ≡ 106 → ⊥) → None ≡ operation_by b ns
 unfolding operation_by
 by-none b ns a r w v s j = rw (ne_eqb b 97 a, ne_eqb b 114 r, ne_eqb b 119 w, ne_eqb b 87 v, ne_eqb b 115 s, ne_eqb b 106 j)
 
-pub asked-empty : (l : List ℕ) → length l ≡ 0 → Nothing ≡ operation_of l
+pub asked-empty : (l : List ℕ) → length l ≡ 0 → None ≡ operation_of l
 unfolding operation_of
 asked-empty [] e = refl
 asked-empty (b ∷ l) e = absurd (omega arith)
 
-pub asked_by : (l : List ℕ) → (length l ≡ 0 → ⊥) → operation_by (get_or l 0 0) (numbers_after (take (length l - 1) (drop 1 l))) ≡ operation_of l
+pub asked_first : (l : List ℕ) (b : ℕ) (rest : List ℕ) → l ≡ b ∷ rest → operation_with b (numbers_after rest) ≡ operation_of l
 unfolding operation_of
-asked_by [] n = absurd (n refl)
-asked_by (b ∷ l) n = ap (λ (x : List ℕ). operation_by b (numbers_after x)) (take_all (length (b ∷ l) - 1) l (omega arith))
+asked_first l b rest e = ap operation_of (sym e)
+
+-- a line with a letter and numbers after it
+pub asked_numbers : (l : List ℕ) (b : ℕ) (rest : List ℕ) (ns : Numbers) → l ≡ b ∷ rest → Some ns ≡ numbers_after rest → operation_by b ns ≡ operation_of l
+asked_numbers l b rest ns e n = ap (operation_with b) n ∙ asked_first l b rest e
 
 -- A LINE THAT IS TOO LONG
 
 -- two numbers and the space between them have at most 21 bytes
-numbers-long : (l : List ℕ) → 2 * most_digits + 1 < length l → numbers_of (words_in l) ≡ Other
+numbers-long : (l : List ℕ) → 2 * most_digits + 1 < length l → numbers_of (words_in l) ≡ None
 numbers-long l h = ⊎_elim whole part (eq-or-lt_of_le (mark-within space l))
   where
-    none : (w : List ℕ) → most_digits < length w → found.Nothing ≡ parse_number w
+    none : (w : List ℕ) → most_digits < length w → None ≡ parse_number w
     none w q = found_nothing w (λ n. omega (arith, q, n.short))
 
-    whole : length_to space l ≡ length l → numbers_of (words_in l) ≡ Other
+    whole : length_to space l ≡ length l → numbers_of (words_in l) ≡ None
     whole e = numbers-one l e ∙ ap one_of (sym (none l (omega (arith, h))))
 
-    part : length_to space l < length l → numbers_of (words_in l) ≡ Other
+    part : length_to space l < length l → numbers_of (words_in l) ≡ None
     part q = numbers-two l q ∙ go (leb (length_to space l) most_digits) refl
       where
         first : List ℕ
@@ -180,34 +195,21 @@ numbers-long l h = ⊎_elim whole part (eq-or-lt_of_le (mark-within space l))
         second : List ℕ
         second = drop (suc (length_to space l)) l
 
-        go : (t : Bool) → leb (length_to space l) most_digits ≡ t → two_of (parse_number first) (parse_number second) ≡ Other
+        go : (t : Bool) → leb (length_to space l) most_digits ≡ t → two_of (parse_number first) (parse_number second) ≡ None
         go true e =
             let s = leb-true (length_to space l) most_digits e in
             ap (two_of (parse_number first)) (sym (none second (omega (arith, h, s, length-drop (suc (length_to space l)) l)))) ∙ two_none (parse_number first)
         go false e =
             let s = leb-false (length_to space l) most_digits e in
-            ap (λ (f : ParsedNumber). two_of f (parse_number second)) (sym (none first (omega (arith, q, s, length-take (length_to space l) l))))
-
-by-other : (b : ℕ) → operation_by b Other ≡ Nothing
-unfolding operation_by
-by-other b = go (eqb b 97) (eqb b 114) (eqb b 119) (eqb b 87) (eqb b 115) (eqb b 106)
-  where
-    go : (t u v w x y : Bool) → cond t Nothing (cond u Nothing (cond v Nothing (cond w Nothing (cond x Nothing (cond y Nothing Nothing))))) ≡ Nothing
-    go true u v w x y = refl
-    go false true v w x y = refl
-    go false false true w x y = refl
-    go false false false true x y = refl
-    go false false false false true y = refl
-    go false false false false false true = refl
-    go false false false false false false = refl
+            ap (λ (f : Option ℕ). two_of f (parse_number second)) (sym (none first (omega (arith, q, s, length-take (length_to space l) l))))
 
 -- an operation has at most 23 bytes: a letter, and twice a space and ten digits
-pub long-none : (l : List ℕ) → none_long ≤ length l → operation_of l ≡ Nothing
+pub long-none : (l : List ℕ) → none_long ≤ length l → operation_of l ≡ None
 unfolding operation_of numbers_after
 long-none [] h = absurd (not-suc-le-zero h)
 long-none (a ∷ []) h = absurd (not-suc-le-zero (le_of_suc-le-suc h))
-long-none (a ∷ b ∷ l) h = ap (operation_by a) (go (eqb b space)) ∙ by-other a
+long-none (a ∷ b ∷ l) h = ap (operation_with a) (go (eqb b space))
   where
-    go : (t : Bool) → cond t (numbers_of (words_in l)) Other ≡ Other
+    go : (t : Bool) → cond t (numbers_of (words_in l)) None ≡ None
     go true = numbers-long l (omega (arith, h))
     go false = refl

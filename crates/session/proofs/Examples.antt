@@ -5,6 +5,7 @@ use mathlib.Core.Path.{◌≡◌, refl}
 use Prim.Native.Nat.{ℕ}
 use Prim.Native.String.{String}
 use lib.ListN.{drop, replicate}
+use Rattle.std.proofs.Common.{Option, Some, None}
 use Rattle.model.proofs.Computing.{computing}
 use Rattle.model.proofs.LineByLine.{LineByLine, by-line}
 use Rattle.phase.specs.declared.Phase.TheVariants as phase
@@ -25,7 +26,7 @@ use Rattle.text.specs.Output.{letters, fields, line_of}
 use Rattle.splitter.specs.Split.{nothing, last_line, lines_from}
 use Rattle.splitter.specs.Words.{words_in}
 use Rattle.session.specs.declared.operations.Operation.{Operation}
-use Rattle.session.specs.declared.operations.Operation.TheVariants.{Advance, Withdraw, WithdrawAll, Row, Sets, Working, Nothing}
+use Rattle.session.specs.declared.operations.Operation.TheVariants.{Advance, Withdraw, WithdrawAll, Row, Sets, Working}
 use Rattle.session.specs.Operation.{numbers_of, numbers_after, operation_by, operation_of, word_line, answer_line, shown_line, sets_line, working_line, reply, run_after}
 use Rattle.session.specs.Transcript.{replies}
 
@@ -34,116 +35,116 @@ use Rattle.session.specs.Transcript.{replies}
 -- a line and the operation that it is
 pub record Line : Type 0 where
   pub text : String
-  pub operation : Operation
+  pub operation : Option Operation
 
-abbrev asks : String → Operation → Line
+abbrev asks : String → Option Operation → Line
 asks s o = record { text = s; operation = o }
 
 abbrev pub lines : List Line
 lines =
-    asks "a 1" (Advance 1 0)
-    ∷ asks "a 1 2" (Advance 1 2)
-    ∷ asks "r" (Row 0)
-    ∷ asks "r 1" (Row 1)
-    ∷ asks "w 1" (Withdraw 1)
-    ∷ asks "W 1" (WithdrawAll 1)
-    ∷ asks "s" (Sets 0)
-    ∷ asks "s 1" (Sets 1)
-    ∷ asks "j" (Working 0)
-    ∷ asks "j 1" (Working 1)
+    asks "a 1" (Some (Advance 1 0))
+    ∷ asks "a 1 2" (Some (Advance 1 2))
+    ∷ asks "r" (Some (Row 0))
+    ∷ asks "r 1" (Some (Row 1))
+    ∷ asks "w 1" (Some (Withdraw 1))
+    ∷ asks "W 1" (Some (WithdrawAll 1))
+    ∷ asks "s" (Some (Sets 0))
+    ∷ asks "s 1" (Some (Sets 1))
+    ∷ asks "j" (Some (Working 0))
+    ∷ asks "j 1" (Some (Working 1))
     -- a letter is needed, and it is the first byte
-    ∷ asks "" Nothing
-    ∷ asks " " Nothing
-    ∷ asks " r" Nothing
-    ∷ asks " a 1" Nothing
-    ∷ asks "1" Nothing
-    ∷ asks "A 1" Nothing
-    ∷ asks "R" Nothing
-    ∷ asks "V 1" Nothing
-    ∷ asks "wW 1" Nothing
-    ∷ asks "S" Nothing
-    ∷ asks "--" Nothing
+    ∷ asks "" None
+    ∷ asks " " None
+    ∷ asks " r" None
+    ∷ asks " a 1" None
+    ∷ asks "1" None
+    ∷ asks "A 1" None
+    ∷ asks "R" None
+    ∷ asks "V 1" None
+    ∷ asks "wW 1" None
+    ∷ asks "S" None
+    ∷ asks "--" None
     -- an advance has one number or two, a row none or one, as sets too, a withdrawal, of a position or of a set, one
-    ∷ asks "a" Nothing
-    ∷ asks "a 1 2 3" Nothing
-    ∷ asks "r 1 2" Nothing
-    ∷ asks "s 1 2" Nothing
-    ∷ asks "j 1 2" Nothing
-    ∷ asks "J" Nothing
-    ∷ asks "w" Nothing
-    ∷ asks "w 1 2" Nothing
-    ∷ asks "W" Nothing
-    ∷ asks "W 1 2" Nothing
+    ∷ asks "a" None
+    ∷ asks "a 1 2 3" None
+    ∷ asks "r 1 2" None
+    ∷ asks "s 1 2" None
+    ∷ asks "j 1 2" None
+    ∷ asks "J" None
+    ∷ asks "w" None
+    ∷ asks "w 1 2" None
+    ∷ asks "W" None
+    ∷ asks "W 1 2" None
     -- one space before each number, and nothing after the last
-    ∷ asks "a " Nothing
-    ∷ asks "a  1" Nothing
-    ∷ asks "a 1 " Nothing
-    ∷ asks "a 1  2" Nothing
-    ∷ asks "a 1 2 " Nothing
-    ∷ asks "r " Nothing
-    ∷ asks "r  1" Nothing
-    ∷ asks "r 1 " Nothing
-    ∷ asks "s " Nothing
-    ∷ asks "s1" Nothing
-    ∷ asks "j " Nothing
-    ∷ asks "j1" Nothing
-    ∷ asks "w " Nothing
-    ∷ asks "w  1" Nothing
-    ∷ asks "w 1 " Nothing
-    ∷ asks "W " Nothing
-    ∷ asks "W  1" Nothing
-    ∷ asks "W 1 " Nothing
-    ∷ asks "a1" Nothing
-    ∷ asks "a1 2" Nothing
-    ∷ asks "r1" Nothing
-    ∷ asks "w1" Nothing
-    ∷ asks "W1" Nothing
-    ∷ asks "ar 1" Nothing
-    ∷ asks "a\t1" Nothing
-    ∷ asks "a 1,2" Nothing
+    ∷ asks "a " None
+    ∷ asks "a  1" None
+    ∷ asks "a 1 " None
+    ∷ asks "a 1  2" None
+    ∷ asks "a 1 2 " None
+    ∷ asks "r " None
+    ∷ asks "r  1" None
+    ∷ asks "r 1 " None
+    ∷ asks "s " None
+    ∷ asks "s1" None
+    ∷ asks "j " None
+    ∷ asks "j1" None
+    ∷ asks "w " None
+    ∷ asks "w  1" None
+    ∷ asks "w 1 " None
+    ∷ asks "W " None
+    ∷ asks "W  1" None
+    ∷ asks "W 1 " None
+    ∷ asks "a1" None
+    ∷ asks "a1 2" None
+    ∷ asks "r1" None
+    ∷ asks "w1" None
+    ∷ asks "W1" None
+    ∷ asks "ar 1" None
+    ∷ asks "a\t1" None
+    ∷ asks "a 1,2" None
     -- digits alone
-    ∷ asks "a +1" Nothing
-    ∷ asks "a 1 -2" Nothing
-    ∷ asks "a r" Nothing
-    ∷ asks "r\r" Nothing
-    ∷ asks "w 1\r" Nothing
-    ∷ asks "W 1\r" Nothing
-    ∷ asks "a 1\r" Nothing
-    ∷ asks "a 1 2\r" Nothing
+    ∷ asks "a +1" None
+    ∷ asks "a 1 -2" None
+    ∷ asks "a r" None
+    ∷ asks "r\r" None
+    ∷ asks "w 1\r" None
+    ∷ asks "W 1\r" None
+    ∷ asks "a 1\r" None
+    ∷ asks "a 1 2\r" None
     -- one to ten digits, zeros in front among them
-    ∷ asks "a 0000000001 0000000002" (Advance 1 2)
-    ∷ asks "r 0000000003" (Row 3)
-    ∷ asks "a 00000000001" Nothing
-    ∷ asks "a 00000000001 2" Nothing
-    ∷ asks "a 1 00000000002" Nothing
-    ∷ asks "r 00000000003" Nothing
-    ∷ asks "w 0000000004" (Withdraw 4)
-    ∷ asks "w 00000000004" Nothing
-    ∷ asks "W 0000000005" (WithdrawAll 5)
-    ∷ asks "W 00000000005" Nothing
+    ∷ asks "a 0000000001 0000000002" (Some (Advance 1 2))
+    ∷ asks "r 0000000003" (Some (Row 3))
+    ∷ asks "a 00000000001" None
+    ∷ asks "a 00000000001 2" None
+    ∷ asks "a 1 00000000002" None
+    ∷ asks "r 00000000003" None
+    ∷ asks "w 0000000004" (Some (Withdraw 4))
+    ∷ asks "w 00000000004" None
+    ∷ asks "W 0000000005" (Some (WithdrawAll 5))
+    ∷ asks "W 00000000005" None
     -- up to 4,294,967,295
-    ∷ asks "a 4294967295" (Advance 4294967295 0)
-    ∷ asks "a 4294967296" Nothing
-    ∷ asks "a 0 4294967295" (Advance 0 4294967295)
-    ∷ asks "a 0 4294967296" Nothing
-    ∷ asks "a 4294967296 0" Nothing
-    ∷ asks "r 4294967295" (Row 4294967295)
-    ∷ asks "r 4294967296" Nothing
-    ∷ asks "s 4294967295" (Sets 4294967295)
-    ∷ asks "s 4294967296" Nothing
-    ∷ asks "j 4294967295" (Working 4294967295)
-    ∷ asks "j 4294967296" Nothing
-    ∷ asks "w 0" (Withdraw 0)
-    ∷ asks "w 4294967295" (Withdraw 4294967295)
-    ∷ asks "w 4294967296" Nothing
-    ∷ asks "W 0" (WithdrawAll 0)
-    ∷ asks "W 4294967295" (WithdrawAll 4294967295)
-    ∷ asks "W 4294967296" Nothing
+    ∷ asks "a 4294967295" (Some (Advance 4294967295 0))
+    ∷ asks "a 4294967296" None
+    ∷ asks "a 0 4294967295" (Some (Advance 0 4294967295))
+    ∷ asks "a 0 4294967296" None
+    ∷ asks "a 4294967296 0" None
+    ∷ asks "r 4294967295" (Some (Row 4294967295))
+    ∷ asks "r 4294967296" None
+    ∷ asks "s 4294967295" (Some (Sets 4294967295))
+    ∷ asks "s 4294967296" None
+    ∷ asks "j 4294967295" (Some (Working 4294967295))
+    ∷ asks "j 4294967296" None
+    ∷ asks "w 0" (Some (Withdraw 0))
+    ∷ asks "w 4294967295" (Some (Withdraw 4294967295))
+    ∷ asks "w 4294967296" None
+    ∷ asks "W 0" (Some (WithdrawAll 0))
+    ∷ asks "W 4294967295" (Some (WithdrawAll 4294967295))
+    ∷ asks "W 4294967296" None
     -- the longest operation has 23 bytes; one byte more is none
-    ∷ asks "a 4294967295 4294967295" (Advance 4294967295 4294967295)
-    ∷ asks "a 4294967295 42949672950" Nothing
-    ∷ asks "a 4294967295 4294967295 " Nothing
-    ∷ asks "a 4294967295  4294967295" Nothing
+    ∷ asks "a 4294967295 4294967295" (Some (Advance 4294967295 4294967295))
+    ∷ asks "a 4294967295 42949672950" None
+    ∷ asks "a 4294967295 4294967295 " None
+    ∷ asks "a 4294967295  4294967295" None
     ∷ []
 
 -- the value by the definitions of a line; it is named by its text

@@ -1,5 +1,5 @@
 -- Some bytes of the input: the table or a line of them is answered, and the session that is returned gives the rest.
-use mathlib.Core.Bool.{Bool, true, false, cond, true≢false}
+use mathlib.Core.Bool.{Bool, true, false, true≢false}
 use mathlib.Core.List.{List, [], ◌∷◌, ◌++◌, append-nil}
 use mathlib.Core.Logic.{◌⊎◌, inl, inr}
 use mathlib.Core.Path.{◌≡◌, refl, sym, ap, ap₂, ◌∙◌, subst, subst⁻¹}
@@ -18,10 +18,10 @@ use Rattle.session.specs.declared.Session.{Session}
 use Rattle.session.specs.declared.Fed.{Fed}
 use Rattle.session.specs.declared.open.Opened.{Opened}
 use Rattle.session.specs.declared.operations.Operation.{Operation}
-use Rattle.session.specs.declared.operations.Operation.TheVariants.{Nothing}
+use Rattle.std.proofs.Common.{Option, Some, None}
 use Rattle.session.specs.Operation.{none_long, operation_of, reply, run_after, is_last}
 use Rattle.session.specs.Transcript.{replies, opened, answers_to}
-use Rattle.session.specs.Session.{transcript_in, IsPrefix, FedBy, FedOf, stage_after, TextWritten, OpenedOf, fed_with}
+use Rattle.session.specs.Session.{transcript_in, IsPrefix, FedBy, FedOf, replies_after, TextWritten, OpenedOf, fed_with}
 use Rattle.session.proofs.Asking.{long-none}
 use Rattle.session.proofs.Transcripts.{begins-with, all-opened, due-opened, due-none, no_operation, replies-none, replies-long, replies-due, replies-line, replies-last}
 
@@ -71,29 +71,26 @@ over-fed run ended bytes before = record {
 module _ (run : Run) (ended : Bool) (bytes before after : List ℕ) (p : Part) (w : TableOf bytes ended p) where
   -- its text is answered
   pub table-fed :
-      (o : Opened) (stage : Stage) → p.whole ≡ true → OpenedOf (take p.end bytes) before after o → stage ≡ stage_after o.over
-      → FedBy (transcript_in Table run) ended bytes before after (fed_with stage o.run p.next o.length)
-  table-fed o stage h b g = subst⁻¹ (λ (x : Stage). FedBy (transcript_in Table run) ended bytes before after (fed_with x o.run p.next o.length)) g (record {
+      (o : Opened) (stage : Stage) (run' : Run) → p.whole ≡ true → OpenedOf (take p.end bytes) before after o
+      → ((e : InputEnd) (bs : List ℕ) → replies_after o.run (lines_from e [] bs) ≡ transcript_in stage run' e bs)
+      → FedBy (transcript_in Table run) ended bytes before after (fed_with stage run' p.next o.length)
+  table-fed o stage run' h b g = record {
     taken = w.next;
     room = b.room;
     same = b.same;
     behind = b.behind;
     text = λ more c. all-opened (split nothing (bytes ++ more)) (take p.end bytes) _ (w.text h nothing more c) ∙ answered nothing more;
     at_once = λ f more. subst (IsPrefix (answers_to (split unknown (bytes ++ more)))) (answered unknown more) (due-opened (split unknown (bytes ++ more)) (take p.end bytes) _ (w.text h unknown more (any f)));
-    rest = λ z. ap (transcript_in (stage_after o.over) o.run (end_of ended)) (no_bytes bytes p.next w.moves z) ∙ left o.over;
+    rest = λ z. ap (transcript_in stage run' (end_of ended)) (no_bytes bytes p.next w.moves z) ∙ sym (g (end_of ended) []) ∙ left o.run;
     short = λ z _. let e = ap length (no_bytes bytes p.next w.moves z) in omega (arith, e);
-  })
+  }
     where
-      after-lines : (e : InputEnd) (over : Bool) (bs : List ℕ) → cond over [] (replies o.run (lines_from e [] bs)) ≡ transcript_in (stage_after over) o.run e bs
-      after-lines e true bs = refl
-      after-lines e false bs = refl
+      answered : (e : InputEnd) (more : List ℕ) → opened (take p.end bytes) (lines_from e [] (drop p.next bytes ++ more)) ≡ take o.length after ++ transcript_in stage run' e (drop p.next bytes ++ more)
+      answered e more = b.text (lines_from e [] (drop p.next bytes ++ more)) ∙ ap (λ (y : List ℕ). take o.length after ++ y) (g e (drop p.next bytes ++ more))
 
-      answered : (e : InputEnd) (more : List ℕ) → opened (take p.end bytes) (lines_from e [] (drop p.next bytes ++ more)) ≡ take o.length after ++ transcript_in (stage_after o.over) o.run e (drop p.next bytes ++ more)
-      answered e more = b.text (lines_from e [] (drop p.next bytes ++ more)) ∙ ap (λ (y : List ℕ). take o.length after ++ y) (after-lines e o.over (drop p.next bytes ++ more))
-
-      left : (over : Bool) → transcript_in (stage_after over) o.run (end_of ended) [] ≡ []
-      left true = refl
-      left false = none-replied o.run (end_of ended)
+      left : (r : Option Run) → replies_after r (lines_from (end_of ended) [] []) ≡ []
+      left (Some r) = none-replied r (end_of ended)
+      left None = refl
 
   -- its end is still to come
   pub table-waits : p.whole ≡ false → FedBy (transcript_in Table run) ended bytes before before (fed_with Table run 0 0)
@@ -110,12 +107,12 @@ module _ (run : Run) (ended : Bool) (bytes before after : List ℕ) (p : Part) (
   line = take p.end bytes
 
   -- a line that is longer than any operation
-  long : p.end ≡ length bytes → none_long ≤ length bytes → operation_of line ≡ Nothing
+  long : p.end ≡ length bytes → none_long ≤ length bytes → operation_of line ≡ None
   long e l = ap operation_of (take_all p.end bytes (omega (arith, e))) ∙ long-none bytes l
 
-  no-reply : (o : Operation) → o ≡ Nothing → no_operation ≡ reply o run
+  no-reply : (o : Option Operation) → o ≡ None → no_operation ≡ reply o run
   unfolding reply
-  no-reply o e = ap (λ (x : Operation). reply x run) (sym e)
+  no-reply o e = ap (λ (x : Option Operation). reply x run) (sym e)
 
   -- no operation: the session is over
   pub operation-last :

@@ -1,4 +1,4 @@
--- Laws of a session: the replies case by case, lines that come in pieces, a chunk of the input, and the whole of it. Computed examples.
+-- Laws of a session: the answer to a table, lines that come in pieces, a chunk of the input, and the whole of it. Computed examples.
 pub mod TextWritten
 pub mod Asking
 pub mod Transcripts

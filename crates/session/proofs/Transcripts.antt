@@ -14,7 +14,7 @@ use Rattle.text.specs.Output.{letters, line_of}
 use Rattle.splitter.specs.Split.{too_many, nothing, unknown, last_line, lines_from, Split, closed, growing, TooLong}
 use Rattle.splitter.specs.Parts.{SplitInto}
 use Rattle.run.specs.declared.Run.{Run}
-use Rattle.session.specs.declared.operations.Operation.TheVariants.{Nothing}
+use Rattle.std.proofs.Common.{None}
 use Rattle.session.specs.Operation.{none_long, operation_of, word_line, reply, run_after, is_last}
 use Rattle.session.specs.Transcript.{replies, opened, answers_to}
 use Rattle.session.specs.Session.{IsPrefix}
@@ -76,7 +76,7 @@ replies-none r = refl
 abbrev pub no_operation : List ℕ
 no_operation = word_line (letters "not an operation")
 
-no-operation : (r : Run) (l : List ℕ) (ls : List (List ℕ)) → operation_of l ≡ Nothing → replies r (l ∷ ls) ≡ no_operation
+no-operation : (r : Run) (l : List ℕ) (ls : List (List ℕ)) → operation_of l ≡ None → replies r (l ∷ ls) ≡ no_operation
 unfolding replies reply
 no-operation r l ls e = rw e (append-nil no_operation)
 

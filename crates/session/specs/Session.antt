@@ -1,5 +1,5 @@
 -- The state of a session: its transcript for the bytes to come.
-use Rattle.std.specs.Prelude.{Bool, true, false, cond, List, [], ◌++◌, ◌≡◌, ℕ, ◌≤◌, ◌<◌, length, take, drop}
+use Rattle.std.specs.Prelude.{Bool, true, false, Option, Some, None, List, [], ◌++◌, ◌≡◌, ℕ, ◌≤◌, ◌<◌, length, take, drop}
 use Rattle.splitter.specs.Split.{too_many, InputEnd, nothing, unknown, lines_from, split}
 use Rattle.splitter.specs.Parts.{Comes, end_of}
 use Rattle.run.specs.declared.Run.{Run}
@@ -61,17 +61,17 @@ pub record TextWritten (text before after : List ℕ) (n : ℕ) : Type 0 where
 abbrev pub NewOf : Session → Type 0
 NewOf s = (bs : List ℕ) → (transcript_of s nothing bs ≡ transcript bs) × (transcript_of s unknown bs ≡ transcript_so_far bs)
 
--- the stage after the table: the operations, or none
-abbrev pub stage_after : Bool → Stage
-stage_after true = Over
-stage_after false = Operations
+-- the replies to the lines after the table: on the run that it leaves, or none where the session is over
+abbrev pub replies_after : Option Run → List (List ℕ) → List ℕ
+replies_after (Some r) ls = replies r ls
+replies_after None ls = []
 
 -- the contract of `begin` of a table's text
 pub record OpenedOf (table before after : List ℕ) (r : Opened) : Type 0 where
   pub room : r.length ≤ length before
   pub same : length after ≡ length before
   pub behind : drop r.length after ≡ drop r.length before
-  pub text : (ls : List (List ℕ)) → opened table ls ≡ take r.length after ++ cond r.over [] (replies r.run ls)
+  pub text : (ls : List (List ℕ)) → opened table ls ≡ take r.length after ++ replies_after r.run ls
 
 -- a session in a stage, after a number of bytes taken and a number of bytes written
 abbrev pub fed_with : Stage → Run → ℕ → ℕ → Fed

@@ -3,7 +3,7 @@
 
 ghost use Rattle.std.specs.Prelude.{◌≡◌};
 ghost use Rattle.session.specs.declared.Stage.TheVariants.{Table, Operations};
-ghost use Rattle.session.specs.Session.{transcript_in, is_over, stage_after, fed_with, FedBy, FedOf, NewOf};
+ghost use Rattle.session.specs.Session.{transcript_in, is_over, fed_with, FedBy, FedOf, NewOf};
 
 pub mod open; // open.rt: the table, and the run that it starts
 pub mod operations; // operations.rt: the operation of a line
@@ -19,6 +19,7 @@ const NONE_LONG: usize = 1 + 2 * (1 + text::DIGITS) + 1;
 pub const REPLY: usize = 4 + MOST_TASKS * (1 + 20) + 1;
 
 // What the next bytes are read as: the table, the operations, or nothing any more.
+// Like plan_text's, but what follows the table differs.
 #[derive(Clone, Copy)]
 pub enum Stage {
     Table,
@@ -34,6 +35,7 @@ pub struct Session {
 }
 
 // The number of bytes taken, the number of bytes written, and the session after them.
+// The buffer is the caller's, and a count of its bytes is returned, as a read does.
 #[derive(Clone, Copy)]
 pub struct Fed {
     pub session: Session,
@@ -46,20 +48,10 @@ fn fed_with(stage: Stage, run: Run, taken: usize, length: usize) -> Fed
     ensures { result ≡ fed_with stage run taken length }
 {
     Fed {
-        session: Session {
-            stage: stage,
-            run: run,
-        },
-        taken: taken,
-        length: length,
+        session: Session { stage, run },
+        taken,
+        length,
     }
-}
-
-// The stage after the table.
-fn stage_after(over: bool) -> Stage
-    ensures { result ≡ stage_after over }
-{
-    if over { Stage::Over } else { Stage::Operations }
 }
 
 // The table, once it has ended, and the answer to it.
@@ -68,10 +60,11 @@ fn feed_table(run: Run, bytes: &[u8], ended: bool, out: &mut [u8; REPLY]) -> Fed
 {
     let part = splitter::table(bytes, ended);
     if part.whole {
-        let end = part.end;
-        let opened = open::begin(&bytes[..end], out);
-        let begun = opened.run;
-        return fed_with(stage_after(opened.over), begun, part.next, opened.length);
+        let opened = open::begin(&bytes[..part.end], out);
+        return match opened.run {
+            Some(begun) => fed_with(Stage::Operations, begun, part.next, opened.length),
+            None => fed_with(Stage::Over, run, part.next, opened.length),
+        };
     }
     fed_with(Stage::Table, run, 0, 0)
 }
@@ -82,28 +75,25 @@ fn feed_operations(run: Run, bytes: &[u8], ended: bool, out: &mut [u8; REPLY]) -
 {
     let part = splitter::line(bytes, NONE_LONG, ended);
     if part.whole {
-        let end = part.end;
-        let reply = replies::answer(run, operations::operation_of(&bytes[..end]), out);
-        let next = reply.run;
-        if reply.last {
-            return fed_with(Stage::Over, next, bytes.len(), reply.length);
-        }
-        return fed_with(Stage::Operations, next, part.next, reply.length);
+        let Some(operation) = operations::operation_of(&bytes[..part.end]) else {
+            let length = replies::write_word(b"not an operation", out);
+            return fed_with(Stage::Over, run, bytes.len(), length);
+        };
+        let reply = replies::answer(run, operation, out);
+        return fed_with(Stage::Operations, reply.run, part.next, reply.length);
     }
     fed_with(Stage::Operations, run, 0, 0)
 }
 
 impl Session {
     // A session before its first byte.
+    #[tactic(auto, unfolding(crate::specs::Transcript::transcript, crate::specs::Transcript::transcript_so_far))]
     pub fn new() -> Session
         ensures { NewOf result }
     {
-        let none = [0u32; 1];
-        let started = run::start(&none);
-        let run = started.run;
         Session {
             stage: Stage::Table,
-            run: run,
+            run: run::starts::empty(),
         }
     }
 
@@ -111,12 +101,10 @@ impl Session {
     pub fn feed(self, bytes: &[u8], ended: bool, out: &mut [u8; REPLY]) -> Fed
         ensures { FedOf self ended bytes.now out.old out.new result }
     {
-        let stage = self.stage;
-        let run = self.run;
-        match stage {
-            Stage::Table => feed_table(run, bytes, ended, out),
-            Stage::Operations => feed_operations(run, bytes, ended, out),
-            Stage::Over => fed_with(Stage::Over, run, bytes.len(), 0),
+        match self.stage {
+            Stage::Table => feed_table(self.run, bytes, ended, out),
+            Stage::Operations => feed_operations(self.run, bytes, ended, out),
+            Stage::Over => fed_with(Stage::Over, self.run, bytes.len(), 0),
         }
     }
 
@@ -124,11 +112,6 @@ impl Session {
     pub fn is_over(self) -> bool
         ensures { result ≡ is_over self.stage }
     {
-        let stage = self.stage;
-        match stage {
-            Stage::Table => false,
-            Stage::Operations => false,
-            Stage::Over => true,
-        }
+        matches!(self.stage, Stage::Over)
     }
 }

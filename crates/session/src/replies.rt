@@ -1,31 +1,36 @@
 // The reply to an operation.
-ghost use Rattle.std.specs.Prelude.{◌≡◌, false, [], ◌∷◌, ◌+◌, ◌≤◌, length, take};
+// By hand: the bytes go into the caller's slice from a place on. The library's text without a heap, `InlineText`, has its own buffer.
+ghost use Rattle.std.specs.Prelude.{◌≡◌, Some, [], ◌∷◌, ◌+◌, ◌≤◌, length, take};
 ghost use Rattle.text.specs.Decimal.{decimal};
 ghost use Rattle.text.specs.Output.{fields, letters, line_of, space};
 ghost use Rattle.text.specs.Written.{Put};
-ghost use Rattle.session.specs.Operation.{word_line, answer_line, shown_line, sets_line, working_line, reply, run_after, is_last};
+ghost use Rattle.model.specs.Refusal.{number_of, position_of};
+ghost use Rattle.run.specs.Advance.{advanced};
+ghost use Rattle.run.specs.Row.{row_asked};
+ghost use Rattle.run.specs.Sets.{sets_asked};
+ghost use Rattle.run.specs.Working.{working_asked};
+ghost use Rattle.session.specs.Operation.{word_line, answer_line, shown_line, sets_line, working_line, reply, run_after};
 ghost use Rattle.session.specs.Session.{TextWritten};
 
 use crate::REPLY;
 use crate::operations::Operation;
-use model::{MOST_TASKS, ROW};
-use run::{Advanced, Answer, Row, Run, Sets, WorkingPositions};
+use model::{MOST_TASKS, ROW, Refusal};
+use run::Run;
 use text::row::CELLS;
 use text::{decimal, first, row};
 
-// The length of the reply, and the run after it; whether that was the last.
+// The length of the reply, and the run after it.
 #[derive(Clone, Copy)]
 pub struct Reply {
     pub run: Run,
     pub length: usize,
-    pub last: bool,
 }
 
-// Writes a refusal with number and position; returns where it ends.
-pub(crate) fn write_refused(number: u32, position: u32, out: &mut [u8; REPLY]) -> usize
-    ensures { TextWritten (line_of (letters "refused") (number ∷ position ∷ [])) out.old out.new result }
+// Writes a refusal with its number and position; returns where it ends.
+pub(crate) fn write_refused(refusal: Refusal, out: &mut [u8; REPLY]) -> usize
+    ensures { TextWritten (line_of (letters "refused") (number_of refusal ∷ position_of refusal ∷ [])) out.old out.new result }
 {
-    first::put_pair(out, b"refused", number, position)
+    first::put_pair(out, b"refused", refusal.number(), refusal.position())
 }
 
 // Writes a word and a newline; returns where they end.
@@ -38,28 +43,20 @@ pub(crate) fn write_word(word: &[u8], out: &mut [u8; REPLY]) -> usize
     end + 1
 }
 
-// Writes an answer: the word where it is taken.
-pub(crate) fn write_answer(word: &[u8], answer: Answer, out: &mut [u8; REPLY]) -> usize
-    requires { length word.now ≤ 16 }
-    ensures { TextWritten (answer_line word.now answer) out.old out.new result }
+// Writes the answer to an advance or a withdrawal of a run, and returns the run after it: where it is refused, the run as it was.
+#[tactic(auto, unfolding(crate::specs::Operation::answer_line))]
+fn write_moved(run: Run, moved: Result<Run, Refusal>, out: &mut [u8; REPLY]) -> Reply
+    ensures { TextWritten (answer_line (letters "taken") (advanced run moved).answer) out.old out.new result.length × (result.run ≡ (advanced run moved).run) }
 {
-    match answer {
-        Answer::Taken => write_word(word, out),
-        Answer::Refused(number, position) => write_refused(number, position, out),
-    }
-}
-
-// Writes the answer to an advance or a withdrawal, and returns the run after it.
-fn write_moved(advanced: Advanced, out: &mut [u8; REPLY]) -> Reply
-    ensures { TextWritten (answer_line (letters "taken") advanced.answer) out.old out.new result.length × (result.run ≡ advanced.run) × (result.last ≡ false) }
-{
-    let answer = advanced.answer;
-    let next = advanced.run;
-    let length = write_answer(b"taken", answer, out);
-    Reply {
-        run: next,
-        length: length,
-        last: false,
+    match moved {
+        Ok(next) => Reply {
+            run: next,
+            length: write_word(b"taken", out),
+        },
+        Err(refusal) => Reply {
+            run,
+            length: write_refused(refusal, out),
+        },
     }
 }
 
@@ -68,21 +65,20 @@ fn write_cores(cores: u32, bytes: [u8; ROW], out: &mut [u8; REPLY]) -> usize
     ensures { TextWritten (line_of (letters "row") (take cores bytes)) out.old out.new result }
 {
     let mut text = [0u8; CELLS];
-    let count = text::smaller(cores as usize, ROW);
+    let count = (cores as usize).min(ROW);
     let size = row::put_cells(bytes, count, &mut text);
     let start = row::copy(b"row", 0, 3, out, 0);
     row::copy(&text, 0, size, out, start)
 }
 
 // Writes a row, or its refusal.
-fn write_row(cores: u32, row: Row, out: &mut [u8; REPLY]) -> usize
-    ensures { TextWritten (shown_line cores row.answer row.bytes) out.old out.new result }
+#[tactic(auto, unfolding(crate::specs::Operation::shown_line))]
+fn write_row(cores: u32, row: Result<[u8; ROW], Refusal>, out: &mut [u8; REPLY]) -> usize
+    ensures { TextWritten (shown_line cores (row_asked row).answer (row_asked row).bytes) out.old out.new result }
 {
-    let answer = row.answer;
-    let bytes = row.bytes;
-    match answer {
-        Answer::Taken => write_cores(cores, bytes, out),
-        Answer::Refused(number, position) => write_refused(number, position, out),
+    match row {
+        Ok(bytes) => write_cores(cores, bytes, out),
+        Err(refusal) => write_refused(refusal, out),
     }
 }
 
@@ -101,10 +97,8 @@ fn put_sets(line: &mut [u8], from: usize, sets: [u64; MOST_TASKS]) -> usize
     ensures { (Put line.old from (fields sets) line.new result) × (result ≤ from + 672) }
 {
     let mut at = from;
-    let mut i: usize = 0;
-    while i < MOST_TASKS {
-        at = put_set(line, at, sets[i]);
-        i += 1;
+    for set in &sets {
+        at = put_set(line, at, *set);
     }
     at
 }
@@ -120,14 +114,13 @@ fn write_each(sets: [u64; MOST_TASKS], out: &mut [u8; REPLY]) -> usize
 }
 
 // Writes a row as sets, or its refusal.
-fn write_sets(shown: Sets, out: &mut [u8; REPLY]) -> usize
-    ensures { TextWritten (sets_line shown.answer shown.sets) out.old out.new result }
+#[tactic(auto, unfolding(crate::specs::Operation::sets_line))]
+fn write_sets(shown: Result<[u64; MOST_TASKS], Refusal>, out: &mut [u8; REPLY]) -> usize
+    ensures { TextWritten (sets_line (sets_asked shown).answer (sets_asked shown).sets) out.old out.new result }
 {
-    let answer = shown.answer;
-    let sets = shown.sets;
-    match answer {
-        Answer::Taken => write_each(sets, out),
-        Answer::Refused(number, position) => write_refused(number, position, out),
+    match shown {
+        Ok(sets) => write_each(sets, out),
+        Err(refusal) => write_refused(refusal, out),
     }
 }
 
@@ -142,59 +135,40 @@ fn write_positions(set: u32, out: &mut [u8; REPLY]) -> usize
 }
 
 // Writes who works, or its refusal.
-fn write_working(asked: WorkingPositions, out: &mut [u8; REPLY]) -> usize
-    ensures { TextWritten (working_line asked.answer asked.set) out.old out.new result }
+#[tactic(auto, unfolding(crate::specs::Operation::working_line))]
+fn write_working(asked: Result<u32, Refusal>, out: &mut [u8; REPLY]) -> usize
+    ensures { TextWritten (working_line (working_asked asked).answer (working_asked asked).set) out.old out.new result }
 {
-    let answer = asked.answer;
-    let set = asked.set;
-    match answer {
-        Answer::Taken => write_positions(set, out),
-        Answer::Refused(number, position) => write_refused(number, position, out),
+    match asked {
+        Ok(set) => write_positions(set, out),
+        Err(refusal) => write_refused(refusal, out),
     }
 }
 
 // Does an operation, and writes the reply to it.
 pub(crate) fn answer(run: Run, operation: Operation, out: &mut [u8; REPLY]) -> Reply
-    ensures { TextWritten (reply operation run) out.old out.new result.length × (result.run ≡ run_after operation run) × (result.last ≡ is_last operation) }
+    ensures { TextWritten (reply (Some operation) run) out.old out.new result.length × (result.run ≡ run_after (Some operation) run) }
 {
     match operation {
-        Operation::Advance(reports, empties) => write_moved(run.advance(reports, empties), out),
-        Operation::Withdraw(position) => write_moved(run.withdraw(position), out),
-        Operation::WithdrawAll(set) => write_moved(run.withdraw_all(set), out),
+        Operation::Advance(reports, empties) => {
+            write_moved(run, run.advance(reports, empties), out)
+        }
+        Operation::Withdraw(position) => write_moved(run, run.withdraw(position), out),
+        Operation::WithdrawAll(set) => write_moved(run, run.withdraw_all(set), out),
         Operation::Row(empties) => {
             let row = run.row(empties);
             let length = write_row(run.cores, row, out);
-            Reply {
-                run: run,
-                length: length,
-                last: false,
-            }
+            Reply { run, length }
         }
         Operation::Sets(empties) => {
             let shown = run.sets(empties);
             let length = write_sets(shown, out);
-            Reply {
-                run: run,
-                length: length,
-                last: false,
-            }
+            Reply { run, length }
         }
         Operation::Working(empties) => {
             let asked = run.working(empties);
             let length = write_working(asked, out);
-            Reply {
-                run: run,
-                length: length,
-                last: false,
-            }
-        }
-        Operation::Nothing => {
-            let length = write_word(b"not an operation", out);
-            Reply {
-                run: run,
-                length: length,
-                last: true,
-            }
+            Reply { run, length }
         }
     }
 }

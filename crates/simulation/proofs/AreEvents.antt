@@ -1,6 +1,6 @@
 -- THEOREM (jumps-over-events): for the words of every table that no number refuses, the ticks reached by repeating the jump from tick 0 are 0 and all events,
 -- in order, none left out, up to the first miss; and between two of them the cores and the row stay the same.
-use mathlib.Core.Path.{◌≡◌, refl, sym, ◌∙◌, subst}
+use mathlib.Core.Path.{◌≡◌, refl, sym, subst}
 use mathlib.Core.Bool.{Bool, true, false}
 use mathlib.Core.List.{List, map}
 use mathlib.Core.Logic.{⊎_elim}
@@ -20,13 +20,11 @@ use Rattle.simulation.specs.Machine.{started}
 use Rattle.simulation.specs.TickState.{Numbers, loaded_numbers}
 use Rattle.simulation.proofs.Sets.{set_is}
 use Rattle.simulation.proofs.WidthParity.{toggled-start}
-use Rattle.table.specs.declared.Answer.TheVariants.{Passed}
 use Rattle.table.specs.Fit.{loaded_table, Fit}
-use Rattle.table.specs.Load.{LoadOf, load_of}
+use Rattle.table.specs.Load.{loaded_of}
 use Rattle.table.specs.Numbers.{NoneApplies}
 use Rattle.table.specs.Words.{table_of}
-use Rattle.table.proofs.Contract.{contract-of, load-answer}
-use Rattle.table.proofs.Exact.{passed-exact}
+use Rattle.table.proofs.Contract.{passing-holds}
 use Rattle.table.proofs.Fit.{same-table}
 use Rattle.table.proofs.Fit as table
 use Rattle.simulation.proofs.AtTick.{few, column, columns, paired, chosen_none}
@@ -141,8 +139,7 @@ module _ (t : Loaded) (fit : Fit t) where
   }
 
 -- THE THEOREM, over the words
-pub jumps-over-events : (ws : List ℕ) → NoneApplies ws → AreEvents (table_of ws) (load_of ws)
+pub jumps-over-events : (ws : List ℕ) → NoneApplies ws → AreEvents (table_of ws) (loaded_of ws)
 jumps-over-events ws none =
-    let l : LoadOf ws (load_of ws) = contract-of ws (load_of ws) refl in
-    let passed : (load_of ws).answer ≡ Passed = load-answer ws ∙ (passed-exact ws).1 none in
-    subst (λ (s : Table). AreEvents s (load_of ws)) (same-table ws (load_of ws) l passed) (jumps-are-events (load_of ws) (table.fit ws (load_of ws) l passed))
+    let l = passing-holds ws none in
+    subst (λ (s : Table). AreEvents s (loaded_of ws)) (same-table ws (loaded_of ws) l none) (jumps-are-events (loaded_of ws) (table.fit ws (loaded_of ws) l none))

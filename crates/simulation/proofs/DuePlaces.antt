@@ -43,12 +43,6 @@ pub due-one : (t n : ℕ) (ms : List ℕ) (set : ℕ) → DueTo t n ms set → s
 unfolding due_at
 due-one t n ms set h = set_is 32 set (λ p. ltb p n && eqb (get_or ms p 0) t) h.small (λ i l. h.bits i)
 
-pub due-none : (t : ℕ) (ms : List ℕ) → DueTo t 0 ms 0
-due-none t ms = record {
-  small = omega arith;
-  bits = λ p. bit-none p ∙ ap (λ (b : Bool). b && eqb (get_or ms p 0) t) (sym (le-ltb p 0 (omega arith)));
-}
-
 -- where no event is t no place is due
 pub no-place-due : (t n : ℕ) (ms : List ℕ) → ((p : ℕ) → p < n → get_or ms p 0 ≡ t → ⊥) → 0 ≡ due_at t n ms
 no-place-due t n ms away = due-one t n ms 0 (record { small = omega arith; bits = λ p. bit-none p ∙ sym (go p (ltb p n) refl) })

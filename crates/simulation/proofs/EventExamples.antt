@@ -14,7 +14,6 @@ use Rattle.model.specs.Search.{filtered, up_from}
 use Rattle.model.proofs.Computing.{computing}
 use Rattle.model.proofs.Examples.{t, on}
 use Rattle.model.proofs.Runs.{full-fresh}
-use Rattle.table.specs.declared.Answer.TheVariants.{Passed}
 use Rattle.table.specs.declared.Task.{Task}
 use Rattle.table.specs.declared.Loaded.{Loaded}
 use Rattle.table.specs.Task.{no_task}
@@ -97,7 +96,6 @@ task-of o v c d p = task-of₂ o v v c d p
 
 abbrev loaded : ℕ → ℕ → List Task → Loaded
 loaded m r ts = record {
-  answer = Passed;
   count = length ts;
   cores = m;
   fence = 0;

@@ -6,7 +6,6 @@ use mathlib.Core.Path.{◌≡◌, refl}
 use lib.ListN.{replicate}
 use Rattle.model.specs.Grants.{claimants, given, grants, left}
 use Rattle.model.specs.Search.{filtered, up_from}
-use Rattle.table.specs.declared.Answer.TheVariants.{Passed}
 use Rattle.table.specs.declared.Loaded.{Loaded}
 use Rattle.table.specs.Task.{no_task}
 use Rattle.rule.specs.Widths.{widths_in}
@@ -16,7 +15,6 @@ use Rattle.simulation.specs.TickState.{Numbers, TickState, after_events, next_ev
 
 abbrev two : Loaded
 two = record {
-  answer = Passed;
   count = 2;
   cores = 2;
   fence = 0;

@@ -12,7 +12,7 @@ use lib.Pow.{pow-lt}
 use lib.Seq.{take-suc, take-suc-set, take_all}
 use borrow.Author.Tests.{eqb-true, eqb-false, eq-eqb, ne_eqb, lt-ltb, le-ltb, ltb-true, ltb-false}
 use Rattle.model.specs.Search.{bit}
-use Rattle.model.proofs.Digits.{bit-none, bit-power, or-bit}
+use Rattle.model.proofs.Digits.{bit-power, or-bit}
 use Rattle.table.specs.declared.Task.{Task}
 use Rattle.table.specs.Task.{no_task}
 use Rattle.simulation.specs.TickState.{paired_in}
@@ -56,9 +56,6 @@ pub record FieldAt (ts : List Task) (i x : ℕ) : Type 0 where
   pub marks : (p : ℕ) → bit x p ≡ ltb p i && differs ts p
 
 module _ (ts : List Task) where
-  pub field-none : FieldAt ts 0 0
-  field-none = record { small = omega arith; marks = λ p. bit-none p ∙ ap (λ (b : Bool). b && differs ts p) (sym (le-ltb p 0 (omega arith))) }
-
   -- at another place nothing changes
   others : (i p : ℕ) → (p ≡ i → ⊥) → ltb p (i + 1) ≡ ltb p i
   others i p ne = go (ltb p i) refl

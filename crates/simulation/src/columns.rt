@@ -8,6 +8,7 @@ use rule::PAIR;
 use table::{Loaded, Task};
 
 // The constants of a run, beside the tasks: the rule, the number of cores, the fence, the number of tasks, and the set of the places with two widths.
+// The rule is a number, since a table of any rule has columns (`numbers_by`).
 #[derive(Clone, Copy)]
 pub struct Setting {
     pub rule: u32,
@@ -19,6 +20,7 @@ pub struct Setting {
 
 // The numbers of a table that its run is stepped with; `widths` has the first of each place before the second, `times` has the lengths first,
 // then the deadlines, then the periods.
+// One array of widths and one of times, for speed: a width is one read (docs/DECISIONS.md, 'Widths in code').
 #[derive(Clone, Copy)]
 pub struct Columns {
     pub setting: Setting,
@@ -31,13 +33,10 @@ pub fn paired_in(tasks: [Task; MOST_TASKS]) -> u32
     ensures { result ≡ paired_in tasks }
 {
     let mut paired: u32 = 0;
-    let mut i: usize = 0;
-    while i < MOST_TASKS {
-        let task = tasks[i];
+    for (i, task) in tasks.iter().enumerate() {
         if task.width != task.second {
-            paired |= 1u32 << (i as u32);
+            paired |= 1u32 << i;
         }
-        i += 1;
     }
     paired
 }
@@ -46,29 +45,25 @@ pub fn paired_in(tasks: [Task; MOST_TASKS]) -> u32
 pub fn columns_of(table: Loaded) -> Columns
     ensures { numbers_by result.setting result.widths result.times ≡ loaded_numbers table }
 {
-    let tasks = table.tasks;
     let mut widths = [0u32; PAIR];
     let mut times = [0u32; TRIPLE];
-    let mut i: usize = 0;
-    while i < MOST_TASKS {
-        let task = tasks[i];
+    for (i, task) in table.tasks.iter().enumerate() {
         widths[i] = task.width;
         widths[MOST_TASKS + i] = task.second;
         times[i] = task.length;
         times[crate::DEADLINE + i] = task.deadline;
         times[crate::PERIOD + i] = task.period;
-        i += 1;
     }
     let setting = Setting {
         rule: table.rule,
         cores: table.cores,
         fence: table.fence,
         count: table.count,
-        paired: paired_in(tasks),
+        paired: paired_in(table.tasks),
     };
     Columns {
-        setting: setting,
-        widths: widths,
-        times: times,
+        setting,
+        widths,
+        times,
     }
 }

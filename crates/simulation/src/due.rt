@@ -8,6 +8,7 @@ ghost use Rattle.simulation.specs.EventState.{due_at, earliest_of};
 ghost use Rattle.simulation.specs.Jump.{handled, handled_all};
 
 use crate::{EVENT, NEXT, TRIPLE};
+use model::sets::Members;
 
 // The set of those of the first `count` places whose event is this tick.
 pub(crate) fn due_places(tick: u32, count: usize, places: &[u32; TRIPLE]) -> u32
@@ -15,12 +16,10 @@ pub(crate) fn due_places(tick: u32, count: usize, places: &[u32; TRIPLE]) -> u32
     ensures { result ≡ due_at tick count (segment second places.now) }
 {
     let mut set: u32 = 0;
-    let mut i: usize = 0;
-    while i < count {
+    for i in 0..count {
         if places[EVENT + i] == tick {
             set |= 1u32 << i;
         }
-        i += 1;
     }
     set
 }
@@ -42,10 +41,8 @@ pub(crate) fn earliest(count: usize, places: &[u32; TRIPLE]) -> u32
     ensures { result ≡ earliest_of count (segment second places.now) }
 {
     let mut event = places[EVENT];
-    let mut i: usize = 0;
-    while i < count {
-        event = crate::earlier(event, places[EVENT + i]);
-        i += 1;
+    for i in 0..count {
+        event = event.min(places[EVENT + i]);
     }
     event
 }
@@ -81,12 +78,9 @@ pub(crate) fn handle_due(
     ensures { machine_of places.new result ≡ handled_all tick (bit due) (segment 0 times.now)
         (segment second times.now) (segment third times.now) (machine_of places.old claiming) }
 {
-    let mut rest = due;
     let mut set = claiming;
-    while 0 < rest {
-        let place = u32::trailing_zeros(rest);
-        rest &= rest - 1;
-        set = handle_event(place as usize, tick, set, times, places);
+    for place in Members::from(due) {
+        set = handle_event(place, tick, set, times, places);
     }
     set
 }

@@ -13,11 +13,13 @@ ghost use Rattle.simulation.specs.Jump.{least_left, GrantedOwe, elapsed, JumpSta
 
 use crate::TRIPLE;
 use crate::columns::Setting;
+use model::sets::Members;
 use rule::PAIR;
 use table::Loaded;
 
 // The state of a run: the next event, its earliest event; the set of the places whose event this tick is; the set of claimants; the claimants for which
 // the kept choice was made, and those that are granted cores by it; of the places with two widths, those that are at their second.
+// Events and ticks have their own: the due places are of events alone, and the two states take them apart.
 #[derive(Clone, Copy)]
 pub struct Registers {
     pub tick: u32,
@@ -30,6 +32,7 @@ pub struct Registers {
 }
 
 // The run: its registers, and the three numbers of each place.
+// One array for three numbers of each place, for speed (docs/DECISIONS.md, 'The machine').
 #[derive(Clone, Copy)]
 pub struct Machine {
     pub registers: Registers,
@@ -65,12 +68,9 @@ pub fn start(table: Loaded) -> Machine
 fn shortest(granted: u32, most: u32, places: &[u32; TRIPLE]) -> u32
     ensures { result ≡ least_left most_tasks (bit granted) most (segment 0 places.now) }
 {
-    let mut rest = granted;
     let mut ticks = most;
-    while 0 < rest {
-        let place = u32::trailing_zeros(rest);
-        rest &= rest - 1;
-        ticks = crate::earlier(ticks, places[place as usize]);
+    for place in Members::from(granted) {
+        ticks = ticks.min(places[place]);
     }
     ticks
 }
@@ -80,14 +80,10 @@ fn elapse(ticks: u32, granted: u32, claiming: u32, places: &mut [u32; TRIPLE]) -
     requires { GrantedOwe ticks (bit granted) (machine_of places.old claiming) }
     ensures { machine_of places.new result ≡ elapsed ticks (bit granted) (machine_of places.old claiming) }
 {
-    let mut rest = granted;
     let mut set = claiming;
-    while 0 < rest {
-        let place = u32::trailing_zeros(rest);
-        rest &= rest - 1;
-        let at = place as usize;
-        let more = places[at] - ticks;
-        places[at] = more;
+    for place in Members::from(granted) {
+        let more = places[place] - ticks;
+        places[place] = more;
         if more == 0 {
             set -= 1u32 << place;
         }

@@ -2,7 +2,7 @@
 // It is stepped tick by tick (`ticks`) or from event to event (`events`).
 #![tactic(auto)]
 
-ghost use Rattle.std.specs.Prelude.{◌≡◌, ◌+◌, ◌<◌, ◌^◌, min, get_or};
+ghost use Rattle.std.specs.Prelude.{◌≡◌, ◌+◌, ◌<◌, ◌^◌, get_or};
 ghost use Rattle.model.specs.Sizes.{most_tasks};
 ghost use Rattle.simulation.specs.Places.{segment, second, third};
 ghost use Rattle.simulation.specs.Machine.{machine_of, with_release};
@@ -46,11 +46,4 @@ pub fn release(
     places[EVENT + place] = tick + deadline;
     places[NEXT + place] = tick + period;
     claiming | (1u32 << place)
-}
-
-// The earlier of two ticks.
-pub fn earlier(a: u32, b: u32) -> u32
-    ensures { result ≡ min a b }
-{
-    if a < b { a } else { b }
 }

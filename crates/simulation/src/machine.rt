@@ -4,11 +4,11 @@ ghost use Rattle.simulation.specs.TickState.{tick_state_of, initial_tick_state};
 ghost use Rattle.simulation.specs.Places.{triple};
 
 use crate::TRIPLE;
-use model::MOST_TASKS;
 use table::Loaded;
 
 // The state of a run before a tick: the next event, before which nothing is due; the set of claimants; the claimants for which the kept choice was made,
 // and those that are granted cores by it; of the places with two widths, those that are at their second.
+// Events and ticks have their own: the due places are of events alone, and the two states take them apart.
 #[derive(Clone, Copy)]
 pub struct Registers {
     pub tick: u32,
@@ -20,6 +20,7 @@ pub struct Registers {
 }
 
 // The machine: its registers, and the three numbers of each place.
+// One array for three numbers of each place, for speed (docs/DECISIONS.md, 'The machine').
 #[derive(Clone, Copy)]
 pub struct Machine {
     pub registers: Registers,
@@ -30,14 +31,10 @@ pub struct Machine {
 pub fn start(table: Loaded) -> Machine
     ensures { (tick_state_of result.registers result.places ≡ initial_tick_state table) × (length result.places ≡ triple) }
 {
-    let tasks = table.tasks;
     let mut places = [0u32; TRIPLE];
-    let mut i: usize = 0;
-    while i < MOST_TASKS {
-        let task = tasks[i];
+    for (i, task) in table.tasks.iter().enumerate() {
         places[crate::EVENT + i] = task.offset;
         places[crate::NEXT + i] = task.offset;
-        i += 1;
     }
     let registers = Registers {
         tick: 0,
@@ -45,10 +42,7 @@ pub fn start(table: Loaded) -> Machine
         claiming: 0,
         chosen: 0,
         granted: 0,
-        even: crate::columns::paired_in(tasks),
+        even: crate::columns::paired_in(table.tasks),
     };
-    Machine {
-        registers: registers,
-        places: places,
-    }
+    Machine { registers, places }
 }

@@ -9,6 +9,7 @@ ghost use Rattle.simulation.specs.TickState.{numbers_by, tick_state_of, Steppabl
 use crate::columns::Setting;
 use crate::machine::Registers;
 use crate::{EVENT, NEXT, TRIPLE};
+use model::sets::Members;
 use rule::PAIR;
 
 // The set of claimants after the due events of a tick, and the earliest event to come.
@@ -32,37 +33,31 @@ pub fn release_due(
 {
     let mut set = claiming;
     let mut event: u32 = u32::MAX;
-    let mut i: usize = 0;
-    while i < count {
+    for i in 0..count {
         if places[EVENT + i] == tick {
             set = crate::release(i, tick, set, times, places);
         }
-        event = crate::earlier(event, places[EVENT + i]);
-        i += 1;
+        event = event.min(places[EVENT + i]);
     }
     Due {
         claiming: set,
-        event: event,
+        event,
     }
 }
 
 // A tick of the places that are granted cores; returns the set of those that still claim after it.
+// Not one with `events::elapse`: at an end this moves the event too.
 pub fn work(granted: u32, claiming: u32, places: &mut [u32; TRIPLE]) -> u32
     requires { GrantedOwed (bit granted) (machine_of places.old claiming) }
     ensures { machine_of places.new result ≡ worked_tick (bit granted) (machine_of places.old claiming) }
 {
-    let mut rest = granted;
     let mut set = claiming;
-    while 0 < rest {
-        let place = u32::trailing_zeros(rest);
-        let member = 1u32 << place;
-        rest -= member;
-        let at = place as usize;
-        let ticks = places[at] - 1;
-        places[at] = ticks;
+    for place in Members::from(granted) {
+        let ticks = places[place] - 1;
+        places[place] = ticks;
         if ticks == 0 {
-            set -= member;
-            places[EVENT + at] = places[NEXT + at];
+            set -= 1u32 << place;
+            places[EVENT + place] = places[NEXT + place];
         }
     }
     set

@@ -13,19 +13,22 @@ use Rattle.model.specs.Task.{AllValid, Table, task}
 use Rattle.table.proofs.Exact.{passed-exact, refusal-exact}
 use Rattle.table.proofs.Order.{first-only, later, not-before-itself, number-most}
 use Rattle.table.proofs.Passed.{passed-count, passed-inside, passed-valid}
-use Rattle.table.specs.declared.Answer.{Answer}
-use Rattle.table.specs.declared.Answer.TheVariants.{Passed, Refused}
+use Rattle.table.specs.Answer.{Answer}
+use Rattle.table.specs.Answer.{Passed, Refused}
 use Rattle.table.specs.declared.Loaded.{Loaded}
 use Rattle.table.specs.Answer.{answer_of}
 use Rattle.table.specs.Limits.{most_time}
-use Rattle.table.specs.Load.{LoadOf, load_meaning}
+use Rattle.std.specs.Prelude.{Result, Ok, Err}
+use Rattle.model.specs.declared.refusal.Refusal.{Refusal}
+use Rattle.table.proofs.Contract.{load-ok, load-err}
+use Rattle.table.specs.Load.{LoadOf}
 use Rattle.table.specs.Numbers as numbers
 use Rattle.table.specs.Numbers.{Earlier, place}
 use Rattle.table.specs.Words.{table_of}
 use Rattle.table.proofs.Fit.{same-table}
 use Rattle.table.specs.Fit.{loaded_table}
-use Rattle.slack.specs.declared.SlackAnswer.{SlackAnswer}
-use Rattle.slack.specs.Answer.{SlackOf, slack_in, given_slack, has_slack, slack_answer, slack_by, slack_of, no_slack}
+use Rattle.slack.specs.Answer.{SlackAnswer}
+use Rattle.slack.specs.Answer.{SlackOf, answered, slack_in, given_slack, has_slack, slack_answer, slack_by, slack_of, no_slack}
 use Rattle.slack.specs.Numbers.{Applies, First, NoneApplies, twenty-three, words}
 use Rattle.slack.specs.Ordered.{OrderedWords}
 use Rattle.slack.specs.Slack.{Slack}
@@ -137,17 +140,17 @@ module _ (ws : List ℕ) where
   by_value r e = subst (SlackOf ws) (sym e) slack-contract
 
   -- OF THE TABLE THAT WAS LOADED
-  module _ (t : Loaded) (l : LoadOf ws t) where
+  module _ (loaded : Result Loaded Refusal) (l : LoadOf ws loaded) where
     -- what is made of one that passed is the answer to the words
-    pub loaded-promise : t.answer ≡ Passed → (r : SlackAnswer) → r ≡ slack_answer (has_slack (loaded_table t)) (slack_in (loaded_table t)) → SlackOf ws r
-    loaded-promise e r q =
+    pub loaded-promise : (t : Loaded) → loaded ≡ Ok t → (r : SlackAnswer) → r ≡ slack_answer (has_slack (loaded_table t)) (slack_in (loaded_table t)) → SlackOf ws r
+    loaded-promise t e r q =
+        let (h, none, passed) = load-ok ws loaded l t e in
         by_value r
         (q
-        ∙ (ap (λ (w : Table). slack_answer (has_slack w) (slack_in w)) (same-table ws t l e)
-        ∙ (unfold slack_of in ap (λ (a : Answer). slack_by a s) (sym ((passed-exact ws).1 (l.passed.0 (ap load_meaning e)))))))
+        ∙ (ap (λ (w : Table). slack_answer (has_slack w) (slack_in w)) (same-table ws t h none)
+        ∙ (unfold slack_of in ap (λ (a : Answer). slack_by a s) (sym passed))))
 
     -- a refusal of it is the answer
-    pub refused_all : (n p : ℕ) → t.answer ≡ Refused n p → (r : SlackAnswer) → r ≡ no_slack n p → SlackOf ws r
-    refused_all n p e r q =
-        by_value r
-        (q ∙ (unfold slack_of in ap (λ (a : Answer). slack_by a s) (sym ((refusal-exact ws n p).1 ((l.refused n p).0 (ap load_meaning e))))))
+    pub refused_all : (x : Refusal) → loaded ≡ Err x → SlackOf ws (answered (Err x))
+    refused_all x e =
+        by_value (answered (Err x)) (unfold slack_of in ap (λ (a : Answer). slack_by a s) (sym (load-err ws loaded l x e).0))

@@ -16,7 +16,7 @@ use Rattle.model.specs.Verdict.{Firm, Full, Miss, Verdict, verdict}
 use Rattle.table.proofs.Examples.{chained}
 use Rattle.table.specs.Answer.{answer_of, by_horizon, by_tasks, by_walk, ending_of, first_out, header_number, last_step}
 use Rattle.table.specs.Words.{chain, count, visited, table_of}
-use Rattle.slack.specs.declared.SlackAnswer.{SlackAnswer}
+use Rattle.slack.specs.Answer.{SlackAnswer}
 use Rattle.slack.specs.Answer.{slack_in, has_slack, slack_of, no_slack}
 use Rattle.slack.specs.Answer as answers
 use Rattle.slack.specs.GrownWords.{grown_words}

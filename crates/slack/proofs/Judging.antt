@@ -11,8 +11,8 @@ use Rattle.model.specs.Horizon.{horizon}
 use Rattle.model.specs.Task.{Task, greedy, limited, rule_of}
 use Rattle.table.specs.declared.Loaded.{Loaded}
 use Rattle.judge.proofs.FirstMiss.{never-found, one_found}
-use Rattle.judge.specs.declared.Missed.{Missed}
-use Rattle.judge.specs.declared.Missed.TheVariants.{Never, At}
+use Rattle.judge.specs.FirstMiss.{Missed}
+use Rattle.judge.specs.FirstMiss.{Never, At}
 use Rattle.judge.specs.FirstMiss.{missed_before}
 use Rattle.table.specs.Fit.{Fit, loaded_table}
 use Rattle.slack.specs.Ordered.{ordered}

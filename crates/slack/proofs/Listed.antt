@@ -1,14 +1,13 @@
 -- The list of slacks: 32 numbers, that of each task at its place, and zeros past the count.
 use mathlib.Core.Bool.{Bool, false, true}
 use mathlib.Core.List.{List, map, ◌++◌}
-use mathlib.Core.Logic.{⊎_elim}
-use mathlib.Core.Path.{◌≡◌, ap, refl, subst, sym, ◌∙◌}
+use mathlib.Core.Path.{◌≡◌, ap, refl, sym, ◌∙◌}
 use Prim.Native.Nat.{ℕ, ◌+◌, ◌-◌, ◌≤◌, ◌<◌}
-use native.Mathlib.Nat.{eq-or-lt_of_le, not-suc-le-zero, zero-add}
+use native.Mathlib.Nat.{not-suc-le-zero, zero-add}
 use native.Mathlib.Omega.{arith}
 use lib.Dec.{ltb}
-use lib.ListN.{get_or-append, get_or, length, length-append, length-map, length-replicate, length-set, replicate, set}
-use lib.Seq.{ext_get_or, get_or-append-add, get_or-set_other, get_or-set_same}
+use lib.ListN.{get_or-append, get_or, length, length-append, length-map, length-replicate, replicate}
+use lib.Seq.{ext_get_or, get_or-append-add}
 use borrow.Author.Tests.{ltb-false, ltb-true}
 use Rattle.model.proofs.Lists.{get_d-zeros, map_at, up_at, up-length}
 use Rattle.model.specs.Search.{up_from}
@@ -51,16 +50,6 @@ module _ (s : Table) where
 
   pub filled-start : Filled (replicate 32 0) 0
   filled-start = record { size = refl; done = λ p l. absurd (not-suc-le-zero l); rest = λ p l. get_d-zeros 32 p }
-
-  pub filled_more : (xs : List ℕ) (i : ℕ) → i < 32 → Filled xs i → Filled (set xs i (slack s i)) (i + 1)
-  filled_more xs i l f = record {
-    size = length-set xs i (slack s i) ∙ f.size;
-    done = λ p h. ⊎_elim
-        (λ (e : p ≡ i). subst (λ (q : ℕ). get_or (set xs i (slack s i)) q 0 ≡ slack s q) (sym e) (get_or-set_same xs i (slack s i) 0 (omega (arith, f.size))))
-        (λ (m : p < i). get_or-set_other xs i p (slack s i) 0 (λ e. omega arith) ∙ f.done p m)
-        (eq-or-lt_of_le (omega arith));
-    rest = λ p h. get_or-set_other xs i p (slack s i) 0 (λ e. omega arith) ∙ f.rest p (omega arith);
-  }
 
   pub filled-end : (xs : List ℕ) (i : ℕ) → count ≤ 32 → i ≡ count → Filled xs i → xs ≡ slack_in s
   filled-end xs i few e f =

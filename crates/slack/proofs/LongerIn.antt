@@ -24,7 +24,6 @@ longer_task g x = record { offset = x.offset; width = x.width; length = x.length
 -- and the table with that of place p
 abbrev pub longer_in : Loaded → ℕ → ℕ → Loaded
 longer_in t p g = record {
-  answer = t.answer;
   count = t.count;
   cores = t.cores;
   fence = t.fence;

@@ -1,18 +1,19 @@
 -- The answer of `slack`, and its contract (request 111).
-use Rattle.std.specs.Prelude.{Bool, ◌&&◌, false, not, true, List, map, ◌++◌, ◌↔◌, ◌≡◌, ℕ, ◌+◌, ◌-◌, ◌≤◌, ◌<◌, get_or, length, replicate}
+use Rattle.std.specs.Prelude.{Result, Ok, Err, Bool, ◌&&◌, false, not, true, List, map, ◌++◌, ◌↔◌, ◌≡◌, ℕ, ◌+◌, ◌-◌, ◌≤◌, ◌<◌, get_or, length, replicate}
 use Rattle.model.specs.Refusals as book
 use Rattle.model.specs.Lists.{NeverMissed}
 use Rattle.model.specs.Search.{up_from}
 use Rattle.model.specs.Sizes.{most_tasks}
 use Rattle.model.specs.Task.{Table, task}
-use Rattle.table.specs.declared.Answer.{Answer}
-use Rattle.table.specs.declared.Answer.TheVariants.{Passed, Refused}
+use Rattle.table.specs.Answer.{Answer}
+use Rattle.table.specs.Answer.{Passed, Refused}
 use Rattle.table.specs.Answer.{answer_of}
 use Rattle.table.specs.Limits.{most_time}
 use Rattle.table.specs.Load.{load_meaning}
 use Rattle.table.specs.Numbers as table
 use Rattle.table.specs.Words.{table_of}
-use Rattle.slack.specs.declared.SlackAnswer.{SlackAnswer}
+use Rattle.model.specs.declared.refusal.Refusal.{Refusal}
+use Rattle.model.specs.Refusal.{number_of, position_of}
 use Rattle.slack.specs.GrownWords.{grown_words}
 use Rattle.slack.specs.Longer.{grown}
 use Rattle.slack.specs.Numbers.{First, NoneApplies}
@@ -23,12 +24,22 @@ use Rattle.slack.specs.Slack.{Slack, misses, slack}
 unfoldable pub slack_in : Table → List ℕ
 slack_in s = map (slack s) (up_from 0 (length s.tasks)) ++ replicate (most_tasks - length s.tasks) 0
 
+-- the answer, and the slack of each task
+pub record SlackAnswer : Type 0 where
+  pub answer : Answer
+  pub slack : List ℕ
+
 -- the slack of each task is given; or it is refused with number and position, and all of them are 0
 abbrev pub given_slack : List ℕ → SlackAnswer
 given_slack xs = record { answer = Passed; slack = xs }
 
 abbrev pub no_slack : ℕ → ℕ → SlackAnswer
 no_slack n p = record { answer = Refused n p; slack = replicate most_tasks 0 }
+
+-- as code returns it
+abbrev pub answered : Result (List ℕ) Refusal → SlackAnswer
+answered (Ok xs) = given_slack xs
+answered (Err e) = no_slack (number_of e) (position_of e)
 
 -- slack is given for the table: it is accepted, under rule 2, or under rule 1 in the width order (`gives-exact`)
 unfoldable pub has_slack : Table → Bool

@@ -10,7 +10,6 @@ ghost use Rattle.slack.specs.Longer.{grown};
 ghost use Rattle.slack.specs.Ordered.{ordered};
 ghost use Rattle.slack.specs.Slack.{misses, slack};
 
-use judge::Missed;
 use model::MOST_TASKS;
 use table::{Loaded, Task};
 
@@ -19,11 +18,7 @@ fn misses(table: Loaded) -> bool
     requires { Fit table }
     ensures { result ≡ misses (loaded_table table) }
 {
-    let missed = judge::fastest::first_miss(table, table.horizon + 1);
-    match missed {
-        Missed::Never => false,
-        Missed::At(_, _) => true,
-    }
+    judge::fastest::first_miss(table, table.horizon + 1).is_some()
 }
 
 // Whether a deadline is missed with the task at a place longer by `growth` ticks.
@@ -63,6 +58,7 @@ pub(crate) fn is_given(table: Loaded) -> bool
 }
 
 // The slack of the task at a place: bisection between a growth that fits and one that misses, from none and from one past the deadline.
+// A bisection by hand: the library's is over a slice, and here a number is sought.
 fn slack_at(table: Loaded, place: usize) -> u32
     requires { Fit table × (place < table.count) × (has_slack (loaded_table table) ≡ true) }
     ensures { result ≡ slack (loaded_table table) place }
@@ -87,10 +83,8 @@ pub(crate) fn figures(table: Loaded) -> [u32; MOST_TASKS]
     ensures { result ≡ slack_in (loaded_table table) }
 {
     let mut figures = [0u32; MOST_TASKS];
-    let mut place: usize = 0;
-    while place < table.count {
+    for place in 0..table.count {
         figures[place] = slack_at(table, place);
-        place += 1;
     }
     figures
 }

@@ -5,9 +5,10 @@ use mathlib.Core.Path.{◌≡◌, refl, sym, ap, ◌∙◌}
 use Prim.Native.Nat.{ℕ, zero, suc, ◌+◌, ◌≤◌, ◌<◌}
 use native.Mathlib.Nat.{not-suc-le-zero, le_of_suc-le-suc}
 use native.Mathlib.Omega.{arith}
-use lib.ListN.{length, get_or, take, length-append}
+use lib.ListN.{length, take, length-append}
 use lib.Seq.{append_snoc}
 use lib.Dec.{eqb}
+use Rattle.std.specs.Cmp.Lexicographic.{pointwise}
 use Rattle.text.specs.Format.{newline}
 use Rattle.text.specs.Input.{length_to, line_length}
 use Rattle.splitter.specs.Split.{too_many, InputEnd, nothing, unknown, last_line, lines_from, is_dashes, closed, unclosed, split_from, TooLong}
@@ -86,19 +87,26 @@ dashes-two (a ∷ []) e = absurd (false≢true e)
 dashes-two (a ∷ b ∷ []) e = refl
 dashes-two (a ∷ b ∷ c ∷ l) e = absurd (false≢true e)
 
-pub dashes-of : (l : List ℕ) → length l ≡ 2 → eqb (get_or l 0 0) 45 && eqb (get_or l 1 0) 45 ≡ is_dashes l
+-- .. and the same test as of the library
+pub dashes-same : (l : List ℕ) → pointwise eqb l (45 ∷ 45 ∷ []) ≡ is_dashes l
 unfolding is_dashes
-dashes-of [] e = absurd (omega arith)
-dashes-of (a ∷ []) e = absurd (omega arith)
-dashes-of (a ∷ b ∷ []) e = refl
-dashes-of (a ∷ b ∷ c ∷ l) e = absurd (omega arith)
-
-pub no-dashes : (l : List ℕ) → (length l ≡ 2 → ⊥) → false ≡ is_dashes l
-unfolding is_dashes
-no-dashes [] e = refl
-no-dashes (a ∷ []) e = refl
-no-dashes (a ∷ b ∷ []) e = absurd (e refl)
-no-dashes (a ∷ b ∷ c ∷ l) e = refl
+dashes-same [] = refl
+dashes-same (a ∷ []) = go (eqb a 45)
+  where
+    go : (t : Bool) → t && false ≡ false
+    go true = refl
+    go false = refl
+dashes-same (a ∷ b ∷ []) = ap (λ (t : Bool). eqb a 45 && t) (go (eqb b 45))
+  where
+    go : (t : Bool) → t && true ≡ t
+    go true = refl
+    go false = refl
+dashes-same (a ∷ b ∷ c ∷ l) = go (eqb a 45) (eqb b 45)
+  where
+    go : (t u : Bool) → t && (u && false) ≡ false
+    go true true = refl
+    go true false = refl
+    go false u = refl
 
 -- TOO MANY BYTES
 

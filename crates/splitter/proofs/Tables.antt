@@ -153,14 +153,3 @@ module _ (bs : List ℕ) (at end : ℕ) (ended : Bool) (w : Whole bs at) (q : en
 -- all bytes are whole lines
 pub table-all : (bs : List ℕ) (at : ℕ) (ended : Bool) (r : Part) → Whole bs at → length bs ≤ at → r ≡ unclosed_part bs at ended → TableOf bs ended r
 table-all bs at ended r w h = table-left bs at at ended w (omega (arith, mark-none newline bs at h)) r (omega (arith, w.0, h))
-
--- the two cases of the code
-pub unclosed-dashes :
-    (bs : List ℕ) (from : ℕ) (ended t : Bool) → t ≡ is_dashes (take (length bs - from) (drop from bs)) → (ended && t) ≡ true
-    → record { whole = true; end = from; next = length bs } ≡ unclosed_part bs from ended
-unclosed-dashes bs from ended t e h = rw (← part-rest bs from, ← e, h)
-
-pub unclosed-left :
-    (bs : List ℕ) (from : ℕ) (ended t : Bool) → t ≡ is_dashes (take (length bs - from) (drop from bs)) → (ended && t) ≡ false
-    → record { whole = ended || leb too_many (length bs); end = length bs; next = length bs } ≡ unclosed_part bs from ended
-unclosed-left bs from ended t e h = rw (← part-rest bs from, ← e, h)

@@ -20,10 +20,7 @@ pub struct Part {
 pub fn is_dashes(line: &[u8]) -> bool
     ensures { result ≡ is_dashes line.now }
 {
-    if line.len() == 2 {
-        return (line[0] == b'-') & (line[1] == b'-');
-    }
-    false
+    line == b"--".as_slice()
 }
 
 // The line at the front, once it has ended or the input has; one of `most` bytes is handed on before it has ended.
@@ -70,6 +67,7 @@ pub fn table(bytes: &[u8], ended: bool) -> Part
     ensures { TableOf bytes.now ended result }
 {
     let mut at: usize = 0;
+    // no plainer as a chain: where a part ends and the next begins is a place in the bytes, which `split` does not hand on
     while at < bytes.len() {
         let end = text::line::end_from(bytes, at, b'\n');
         if end == bytes.len() {

@@ -8,6 +8,7 @@ ghost use Rattle.stream.specs.Sent.{saturated, unread_by, SentOf};
 use std::io::{Read, Write};
 
 // The number of bytes that a buffer holds, whether a read returned that the input has ended, and whether one failed.
+// The buffer is the caller's, and a count of its bytes is returned, as the library's read does.
 #[derive(Clone, Copy)]
 pub struct Reading {
     pub held: usize,
@@ -51,12 +52,10 @@ pub fn fill<R: Read>(input: &mut R, buffer: &mut [u8], held: usize) -> Reading
         ended: false,
         failed: false,
     };
+    // no plainer as a chain: each read begins where the last one ended
     while reading.held < buffer.len() {
         reading = read(input, buffer, reading.held);
-        if reading.ended {
-            return reading;
-        }
-        if reading.failed {
+        if reading.ended || reading.failed {
             return reading;
         }
     }
@@ -68,23 +67,15 @@ pub fn move_to_front(buffer: &mut [u8], from: usize, end: usize) -> usize
     requires { (from ≤ end) × (end ≤ length buffer.old) }
     ensures { MovedToFront from end buffer.old buffer.new result }
 {
-    let count = end - from;
-    let mut k: usize = 0;
-    while k < count {
-        buffer[k] = buffer[from + k];
-        k += 1;
-    }
-    count
+    buffer.copy_within(from..end, 0);
+    end - from
 }
 
 // A count and more, which stops at the largest number that a count can be.
 fn add(count: usize, more: usize) -> usize
     ensures { result ≡ saturated (count + more) }
 {
-    if usize::MAX - count < more {
-        return usize::MAX;
-    }
-    count + more
+    count.saturating_add(more)
 }
 
 // One write: how many bytes it took, none where it failed.
@@ -97,11 +88,12 @@ fn write_once<W: Write>(out: &mut W, bytes: &[u8]) -> usize
     }
 }
 
-// Passes bytes to writes on `out` until all are taken or a write takes none, after `count` bytes that were taken before.
-fn write_all<W: Write>(out: &mut W, count: usize, bytes: &[u8]) -> Sent
+// Passes bytes to writes on a program's output until all are taken or a write takes none, after `count` bytes that were taken before.
+pub fn send<W: Write>(out: &mut W, count: usize, bytes: &[u8]) -> Sent
     ensures { SentOf count bytes.now result }
 {
     let mut at: usize = 0;
+    // no plainer as a chain: each write begins where the last one ended
     while at < bytes.len() {
         let taken = write_once(out, &bytes[at..]);
         if taken == 0 {
@@ -118,20 +110,13 @@ fn write_all<W: Write>(out: &mut W, count: usize, bytes: &[u8]) -> Sent
     }
 }
 
-// Passes bytes to writes on a program's output until all are taken or a write takes none, after `count` bytes that were taken before.
-pub fn send<W: Write>(out: &mut W, count: usize, bytes: &[u8]) -> Sent
-    ensures { SentOf count bytes.now result }
-{
-    write_all(out, count, bytes)
-}
-
 // Writes to a program's log that it could not read its input; returns how much of it writes took.
 pub fn report_unread<W: Write>(out: &mut W, name: &[u8]) -> Sent
     ensures { SentOf 0 (unread_by name.now) result }
 {
-    let sent = write_all(out, 0, name);
+    let sent = send(out, 0, name);
     if sent.whole {
-        return write_all(out, sent.count, b": standard input could not be read\n");
+        return send(out, sent.count, b": standard input could not be read\n");
     }
     sent
 }

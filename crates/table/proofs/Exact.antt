@@ -12,9 +12,9 @@ use borrow.Author.Tests.{eqb-true, eqb-false, ltb-true, ltb-false}
 use Rattle.model.specs.Task.{Task, absent_task}
 use Rattle.model.specs.Fence.{unfenced_count}
 use Rattle.model.specs.Horizon.{horizon}
-use Rattle.table.specs.declared.chain.Ending.TheVariants.{Past, Again, Whole}
-use Rattle.table.specs.declared.Answer.{Answer}
-use Rattle.table.specs.declared.Answer.TheVariants.{Passed, Refused}
+use Rattle.table.specs.Answer.{Past, Again, Whole}
+use Rattle.table.specs.Answer.{Answer}
+use Rattle.table.specs.Answer.{Passed, Refused}
 use Rattle.table.specs.Words.{head, core_count, rule, fence, task_at, table_of}
 use Rattle.table.specs.Limits.{CoresOut, RuleOut, FenceOut, WidthOut, TimesOut, HorizonOut, cores_out, rule_out, fence_out, width_out, times_out, task_number, task_out, horizon_out, most_horizon}
 use Rattle.table.specs.Numbers.{WordsOut, Position, Applies, one, two, three, nineteen, four, five, six, seven, eight, nine, place, Earlier, First, NoneApplies}

@@ -3,13 +3,13 @@ use mathlib.Core.Path.{◌≡◌, refl}
 use mathlib.Core.List.{List, [], ◌∷◌, map, ◌++◌}
 use Prim.Native.Nat.{ℕ, zero, suc, ◌+◌, ◌-◌, ◌*◌, ◌/◌, ◌^◌}
 use Prim.Native.String.{String}
+use Rattle.std.specs.Prelude.{Result, Ok}
 use lib.ListN.{length, replicate}
 use Rattle.model.specs.Search.{any, filtered, least, up_from}
 use Rattle.model.specs.Task.{Task, Table, cycle, greedy}
 use Rattle.model.specs.Horizon.{S, last_s, lcm, hyperperiod, horizon, release_from}
 use Rattle.model.proofs.Examples.{t, t₂, on, A}
 use Rattle.table.proofs.Starts.{since}
-use Rattle.table.specs.declared.Answer.TheVariants.{Passed}
 use Rattle.table.specs.declared.Loaded.{Loaded}
 use Rattle.table.specs.Words.{visited, count, chain, table_of}
 use Rattle.table.specs.Answer.{header_number, last_step, ending_of, first_out, by_horizon, by_tasks, by_walk, answer_of}
@@ -20,20 +20,19 @@ use Rattle.table.specs.UnfencedWords.{unfenced_words}
 pub record Line : Type 0 where
   pub name : String
   pub words : List ℕ
-  pub gives : Loaded
+  pub gives : Result Loaded (ℕ × ℕ)
 
 -- the value by the definitions of a line's words
 abbrev pub worked : Line → Line
 worked l = record { name = l.name; words = l.words; gives = load_of l.words }
 
-abbrev line : String → List ℕ → Loaded → Line
+abbrev line : String → List ℕ → Result Loaded (ℕ × ℕ) → Line
 line n ws l = record { name = n; words = ws; gives = l }
 
 -- a table that passes, under rule 1, with its last S, P and horizon
-abbrev passes : Table → ℕ → ℕ → ℕ → Loaded
+abbrev passes : Table → ℕ → ℕ → ℕ → Result Loaded (ℕ × ℕ)
 passes s start period horizon =
-    record {
-      answer = Passed;
+    Ok record {
       count = length s.tasks;
       cores = s.cores;
       fence = s.fence;

@@ -7,23 +7,16 @@ use lib.ListN.{length, take, drop, length-append, length-replicate, length-map, 
 use Rattle.model.specs.Task.{Table, rule_of, AllValid, task}
 use Rattle.model.specs.Horizon.{last_s, hyperperiod, horizon}
 use Rattle.model.specs.Sizes.{most_tasks}
-use Rattle.table.specs.declared.Answer.TheVariants.{Passed}
 use Rattle.table.specs.declared.Loaded.{Loaded}
 use Rattle.table.specs.Task.{task_of, tasks_of, no_task}
 use Rattle.table.specs.Words.{table_of}
 use Rattle.table.specs.Numbers.{NoneApplies}
 use Rattle.table.specs.Limits.{most_time}
-use Rattle.table.specs.Load.{LoadOf, LoadedAs, load_meaning}
+use Rattle.table.specs.Load.{LoadedAs}
 use Rattle.table.specs.Fit.{loaded_table, Fit}
 use Rattle.table.proofs.Passed.{passed-cores, passed-valid, passed-inside}
 
-module _ (ws : List ℕ) (r : Loaded) (l : LoadOf ws r) (e : r.answer ≡ Passed) where
-  h : LoadedAs ws r
-  h = l.holds (ap load_meaning e)
-
-  none : NoneApplies ws
-  none = l.passed.0 (ap load_meaning e)
-
+module _ (ws : List ℕ) (r : Loaded) (h : LoadedAs ws r) (none : NoneApplies ws) where
   -- it is the table of the words
   pub same-table : loaded_table r ≡ table_of ws
   unfolding table_of

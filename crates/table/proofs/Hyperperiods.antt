@@ -3,11 +3,10 @@ use mathlib.Core.Bool.{Bool, cond, false, true}
 use mathlib.Core.Path.{◌≡◌, sym, ap, ◌∙◌, subst⁻¹}
 use mathlib.Core.List.{List}
 use Prim.Native.Nat.{ℕ, suc, ◌+◌, ◌*◌, ◌/◌, min, ◌≤◌, ◌<◌}
-use native.Mathlib.Nat.{le_of_dvd, le_of_eq}
+use native.Mathlib.Nat.{le_of_dvd}
 use native.Mathlib.Numerals.{add-one}
 use native.Mathlib.Omega.{arith}
 use lib.ListN.{length, get_or, take}
-use lib.Seq.{take_all}
 use lib.Dec.{eqb, ltb}
 use borrow.Author.Tests.{lt-ltb, ltb-true}
 use Rattle.model.specs.Task as model
@@ -53,10 +52,6 @@ module _ (tasks : List Task) (count : ℕ) (limits : InLimits tasks count) (ther
   pub hyperperiod-over : (n i : ℕ) → n < hyperperiod (take i (tasks_of tasks count)) → n + 1 ≡ min (hyperperiod (tasks_of tasks count)) (n + 1)
   hyperperiod-over n i h =
       omega (arith, le_of_dvd (hyperperiod-pos (tasks_of tasks count)) (hyperperiod-fewer (tasks_of tasks count) i periods))
-
-  -- all the tasks
-  pub hyperperiod-all : hyperperiod (take count (tasks_of tasks count)) ≡ hyperperiod (tasks_of tasks count)
-  hyperperiod-all = ap hyperperiod (take_all count (tasks_of tasks count) (le_of_eq (tasks-length tasks count there)))
 
 -- P is known up to one above the limit n: this decides whether S + P exceeds n ..
 pub exceeds-capped : (n s p : ℕ) → ltb n (s + min p (n + 1)) ≡ ltb n (s + p)

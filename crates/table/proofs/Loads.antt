@@ -1,23 +1,27 @@
 -- What code gives at each stage of `load` is the value by the definitions.
 use mathlib.Core.Path.{◌≡◌, refl, sym, ap, ◌∙◌}
-use mathlib.Core.Bool.{true, false}
+use mathlib.Core.Bool.{Bool, cond, true, false, true≢false as true-false}
 use mathlib.Core.List.{List, [], ◌∷◌, map}
+use lib.Dec.{eqb}
 use Prim.Native.Nat.{ℕ, suc, ◌+◌, ◌-◌, min, ◌≤◌, ◌<◌}
 use native.Mathlib.Omega.{arith}
 use lib.ListN.{length, get_or, drop, replicate, length-map}
 use lib.Seq.{take_at, drop_at}
-use borrow.Author.Tests.{ne_eqb, lt-ltb, le-ltb, ltb-false}
+use borrow.Author.Tests.{eqb-true, eqb-false, ne_eqb, lt-ltb, le-ltb, ltb-false}
 use Rattle.model.specs.Task as model
 use Rattle.model.specs.Horizon.{last_s, hyperperiod, horizon}
 use Rattle.model.specs.Sizes.{most_tasks}
 use Rattle.table.specs.declared.Task.{Task}
-use Rattle.table.specs.declared.Answer.TheVariants.{Passed}
+use Rattle.table.specs.Answer.{Passed}
+use Rattle.model.specs.declared.refusal.Refusal.{Refusal}
+use Rattle.model.specs.Refusal.{numbered, number_of, position_of}
 use Rattle.table.specs.declared.Loaded.{Loaded}
-use Rattle.table.specs.declared.chain.Ending.TheVariants.{Past, Again, Whole}
+use Rattle.std.specs.Prelude.{Ok, Err}
+use Rattle.table.specs.Answer.{Past, Again, Whole}
 use Rattle.table.specs.Task.{task_of, tasks_of, no_task, InLimits}
 use Rattle.table.specs.Words.{core_count, rule, fence, count, table_of}
-use Rattle.table.specs.Limits.{task_number, task_out, horizon_out, most_horizon}
-use Rattle.table.specs.Answer.{header_number, first_out, width_limit, by_horizon, by_tasks, ending_of, by_walk, answer_of}
+use Rattle.table.specs.Limits.{task_number, task_out, width_out, times_out, horizon_out, most_horizon}
+use Rattle.table.specs.Answer.{Ending, Refused, answer_in, header_answer, chain_answer, header_number, first_out, width_limit, by_horizon, by_tasks, ending_of, by_walk, answer_of}
 use Rattle.table.specs.Load.{code_task, code_tasks, passing, refusal, loaded_by, table_with, load_of}
 use Rattle.table.proofs.Places.{tasks-length, task-at}
 use Rattle.table.proofs.Tasks.{table-length}
@@ -53,7 +57,7 @@ pub by-far : (s : model.Table) (l : Loaded) → horizon_out (horizon s) ≡ true
 unfolding by_horizon
 by-far s l e = rw e
 
-pub by_near : (s : model.Table) (l : Loaded) → horizon_out (horizon s) ≡ false → loaded_by (by_horizon s) l ≡ l
+pub by_near : (s : model.Table) (l : Loaded) → horizon_out (horizon s) ≡ false → loaded_by (by_horizon s) l ≡ Ok l
 unfolding by_horizon
 by_near s l e = rw e
 
@@ -61,7 +65,7 @@ by_near s l e = rw e
 pub made : (m f r : ℕ) (tasks : List Task) (count start period : ℕ) → count ≤ length tasks → tasks ≡ code_tasks (tasks_of tasks count)
     → start ≡ last_s (tasks_of tasks count) → period ≡ min (hyperperiod (tasks_of tasks count)) (most_horizon + 1) → horizon_out (start + period) ≡ false
     → ◌≡◌ {A = Loaded}
-    (record { answer = Passed; count = count; cores = m; fence = f; rule = r; tasks = tasks; start = start; period = period; horizon = start + period })
+    (record { count = count; cores = m; fence = f; rule = r; tasks = tasks; start = start; period = period; horizon = start + period })
     (passing r (table_with m f r (tasks_of tasks count)))
 unfolding horizon
 made m f r tasks count start period there whole e g near =
@@ -70,7 +74,7 @@ made m f r tasks count start period there whole e g near =
     let exact : period ≡ hyperperiod (tasks_of tasks count) =
     g ∙ capped-exact most_horizon start (hyperperiod (tasks_of tasks count)) (omega arith) in
     let sum : start + period ≡ last_s (tasks_of tasks count) + hyperperiod (tasks_of tasks count) = omega arith in
-    λ i. record { answer = Passed; count = counted i; cores = m; fence = f; rule = r; tasks = whole i; start = e i; period = exact i; horizon = sum i }
+    λ i. record { count = counted i; cores = m; fence = f; rule = r; tasks = whole i; start = e i; period = exact i; horizon = sum i }
 
 -- THE TASKS
 
@@ -82,6 +86,17 @@ module _ (s : model.Table) (l : Loaded) (place : ℕ) (out : first_out (width_li
   pub by-none : length s.tasks ≤ place → loaded_by (by_tasks s) l ≡ loaded_by (by_horizon s) l
   unfolding by_tasks
   by-none h = rw (out, le-ltb place (length s.tasks) h)
+
+-- the number of a task that is turned down: 7 by a width, else 8
+pub width-number : (m : ℕ) (τ : model.Task) → width_out m τ ≡ true → task_number m τ ≡ 7
+width-number m τ e = rw e
+
+pub time-number : (m : ℕ) (τ : model.Task) → task_out m τ ≡ true → width_out m τ ≡ false → task_number m τ ≡ 8
+time-number m τ o e = go (times_out τ) refl
+  where
+    go : (t : Bool) → times_out τ ≡ t → task_number m τ ≡ 8
+    go true f = rw (e, f)
+    go false f = absurd (true-false (sym o ∙ rw (e, f)))
 
 -- where no task is turned down, each is within its limits
 pub in-limits : (m : ℕ) (tasks : List Task) (count : ℕ) → count ≤ first_out m (tasks_of tasks count) → InLimits tasks count
@@ -119,3 +134,32 @@ module _ (ws : List ℕ) (fine : header_number ws ≡ 0) where
       (walked-tasks ws tasks many h n)
       ∙ ap (λ (s : model.Table). loaded_by (by_tasks s) (passing (rule ws) s)) (table-with ws)
       ∙ sym (load-tasks e)
+
+-- a test of the header, and a walk, that pass
+pub header-passed : (ws : List ℕ) → Passed ≡ header_answer ws → header_number ws ≡ 0
+header-passed ws = go (eqb (header_number ws) 0) refl
+  where
+    go : (t : Bool) → eqb (header_number ws) 0 ≡ t → Passed ≡ cond t Passed (Refused (header_number ws) 0) → header_number ws ≡ 0
+    go true e h = eqb-true (header_number ws) 0 e
+    go false e h = absurd (let z : ◌≡◌ {A = ℕ} 0 1 = cc in omega arith)
+
+pub chain-whole : (e : Ending) → Passed ≡ chain_answer e → e ≡ Whole
+chain-whole Past h = absurd (let z : ◌≡◌ {A = ℕ} 0 1 = cc in omega arith)
+chain-whole Again h = absurd (let z : ◌≡◌ {A = ℕ} 0 1 = cc in omega arith)
+chain-whole Whole h = refl
+
+-- .. and that turn the words down
+pub header-refused : (ws : List ℕ) (x : Refusal) → answer_in {T = Loaded} (Err x) ≡ header_answer ws → numbered (Err x) ≡ load_of ws
+header-refused ws x = go (eqb (header_number ws) 0) refl
+  where
+    go : (t : Bool) → eqb (header_number ws) 0 ≡ t → Refused (number_of x) (position_of x) ≡ cond t Passed (Refused (header_number ws) 0) → Err (number_of x, position_of x) ≡ load_of ws
+    go true e h = absurd (let z : ◌≡◌ {A = ℕ} 0 1 = cc in omega arith)
+    go false e h = ap (λ a. loaded_by a (passing (rule ws) (table_of ws))) h ∙ sym (load-header ws (eqb-false (header_number ws) 0 e))
+
+pub chain-refused : (ws : List ℕ) (x : Refusal) → header_number ws ≡ 0 → answer_in {T = Loaded} (Err x) ≡ chain_answer (ending_of ws) → numbered (Err x) ≡ load_of ws
+chain-refused ws x fine h = go (ending_of ws) refl (h)
+  where
+    go : (e : Ending) → ending_of ws ≡ e → Refused (number_of x) (position_of x) ≡ chain_answer e → Err (number_of x, position_of x) ≡ load_of ws
+    go Past f g = ap (λ a. loaded_by a (passing (rule ws) (table_of ws))) g ∙ sym (load_past ws fine f)
+    go Again f g = ap (λ a. loaded_by a (passing (rule ws) (table_of ws))) g ∙ sym (load_again ws fine f)
+    go Whole f g = absurd (let z : ◌≡◌ {A = ℕ} 0 1 = cc in omega arith)

@@ -10,10 +10,9 @@ use borrow.Author.Tests.{eqb-true, eqb-false}
 use Rattle.model.specs.Task.{Table, absent_task, rule_of}
 use Rattle.model.proofs.Bools.{not-true-false}
 use Rattle.model.proofs.Search.{any_same}
-use Rattle.table.specs.declared.Answer.{Answer}
-use Rattle.table.specs.declared.Answer.TheVariants.{Passed, Refused}
-use Rattle.table.specs.declared.Loaded.{Loaded}
-use Rattle.table.specs.declared.chain.Ending.TheVariants.{Past, Again, Whole}
+use Rattle.table.specs.Answer.{Answer}
+use Rattle.table.specs.Answer.{Passed, Refused}
+use Rattle.table.specs.Answer.{Past, Again, Whole}
 use Rattle.table.specs.Words.{header_words, record_words, rule, fence_of, records, field, next, visited, count, task_of_record, table_of}
 use Rattle.table.specs.Limits.{InRange}
 use Rattle.table.specs.Numbers.{EndAt, Reaches}
@@ -23,7 +22,7 @@ use Rattle.table.specs.OffChain.{SameOnChain}
 use Rattle.table.proofs.Walk.{last-reached, last-stops, last-ends, stops-there, ends_there, five-decides, six-decides}
 use Rattle.table.proofs.Tasks.{table-length, table_at}
 use Rattle.table.proofs.Exact.{passed-exact}
-use Rattle.table.proofs.Contract.{load-answer}
+use Rattle.table.proofs.Contract.{answered_by, load-answer}
 use Rattle.table.proofs.Loads.{load-header, load_past, load_again, load-tasks}
 
 -- how the walk ends, by what it meets last
@@ -167,7 +166,7 @@ module _ (ws us : List ℕ) (s : SameOnChain ws us) where
 
   -- the same answer
   pub off-chain-answer : answer_of ws ≡ answer_of us
-  off-chain-answer = sym (load-answer ws) ∙ ap (λ (l : Loaded). l.answer) off-chain ∙ load-answer us
+  off-chain-answer = sym (load-answer ws) ∙ ap answered_by off-chain ∙ load-answer us
 
   -- and where they pass, the same table: so the verdict, the rows and the run are the same
   pub off-chain-table : answer_of ws ≡ Passed → table_of ws ≡ table_of us

@@ -11,7 +11,7 @@ use Rattle.model.specs.Fence.{unfenced_count}
 use Rattle.model.specs.Horizon.{horizon}
 use Rattle.model.proofs.Bools.{not-true-false}
 use Rattle.model.specs.Sizes.{most_cores, most_tasks}
-use Rattle.table.specs.declared.chain.Ending.TheVariants.{Past, Again, Whole}
+use Rattle.table.specs.Answer.{Past, Again, Whole}
 use Rattle.table.specs.Words.{head, core_count, rule, fence, visited, count, task_at, table_of}
 use Rattle.table.specs.Limits.{InRange, in_range, FenceOut, most_horizon}
 use Rattle.table.specs.Numbers.{WordsOut, EndAt, Reaches, one, two, three, nineteen, four, seven, eight, nine, NoneApplies}

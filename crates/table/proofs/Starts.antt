@@ -1,13 +1,11 @@
 -- S: the ticks since an offset by arithmetic alone, the next S, and how large an S can be.
-use mathlib.Core.Path.{◌≡◌, refl, ap, subst⁻¹}
-use mathlib.Core.Bool.{Bool, true, false}
+use mathlib.Core.Path.{◌≡◌, ap, subst⁻¹}
 use mathlib.Core.List.{List}
 use Prim.Native.Nat.{ℕ, zero, suc, ◌+◌, ◌*◌, ◌-◌, ◌/◌, ◌%◌, ◌≤◌, ◌<◌}
-use native.Mathlib.Nat.{div-mul-le_self, mul-zero, mul-one, le_trans, not-suc-le-zero}
+use native.Mathlib.Nat.{div-mul-le_self, le_trans}
+use native.Mathlib.Numerals.{add-one}
 use native.Mathlib.Omega.{arith}
 use lib.ListN.{length, get_or}
-use lib.Dec.{ltb}
-use borrow.Author.Tests.{ltb-true, ltb-false}
 use Rattle.model.specs.Task as model
 use Rattle.model.specs.Horizon.{release_from, S, last_s}
 use Rattle.model.specs.Sizes.{most_tasks}
@@ -20,20 +18,6 @@ use Rattle.table.specs.Limits.{most_time}
 -- reached the offset, and the rest is by how much
 abbrev pub since : ℕ → ℕ → ℕ
 since t offset = (t + 67108864 - offset) % 67108864 * ((t + 67108864 - offset) / 67108864)
-
-pub since-difference : (t offset : ℕ) → t < 67108864 → offset ≤ 67108864 → since t offset ≡ t - offset
-since-difference t offset h l = go (ltb t offset) refl
-  where
-    go : (b : Bool) → ltb t offset ≡ b → since t offset ≡ t - offset
-    go true e =
-        let early : t < offset = ltb-true t offset e in
-        let no : (t + 67108864 - offset) / 67108864 ≡ 0 = omega arith in
-        rw (no, mul-zero) (omega arith)
-    go false e =
-        let reached : offset ≤ t = ltb-false t offset e in
-        let yes : (t + 67108864 - offset) / 67108864 ≡ 1 = omega arith in
-        let rest : (t + 67108864 - offset) % 67108864 ≡ t - offset = omega arith in
-        rw (yes, rest) (mul-one (t - offset))
 
 -- a first release is the offset, or less than a period after the tick that is asked for
 pub release-bound : (τ : model.Task) (t : ℕ) → release_from τ t ≤ τ.offset + (t - τ.offset + (τ.period - 1))
@@ -56,13 +40,7 @@ module _ (tasks : List Task) (count : ℕ) (limits : InLimits tasks count) where
   last_s-bound some few there =
       rw (tasks-length tasks count there) (omega (arith, S-bound (count - 1) (omega arith)))
 
-  -- S of the next place, as the loop counts
-  pub S-next :
-      (i : ℕ) → 1 ≤ i → i < count
-      → S (tasks_of tasks count) (i + 1 - 1) ≡ release_from (task_of (get_or tasks i no_task)) (S (tasks_of tasks count) (i - 1))
+  -- S of the next place
+  pub S-next : (i : ℕ) → i + 1 < count → S (tasks_of tasks count) (i + 1) ≡ release_from (task_of (get_or tasks (i + 1) no_task)) (S (tasks_of tasks count) i)
   unfolding S
-  S-next zero h l = absurd (not-suc-le-zero h)
-  S-next (suc i) h l =
-      let next : suc i + 1 - 1 ≡ suc i = omega arith in
-      let this : suc i - 1 ≡ i = omega arith in
-      rw (next, this) (ap (λ (τ : model.Task). release_from τ (S (tasks_of tasks count) i)) (task-at tasks count (suc i) l))
+  S-next i l = rw (add-one i) (ap (λ (τ : model.Task). release_from τ (S (tasks_of tasks count) i)) (task-at tasks count (suc i) (omega arith)))

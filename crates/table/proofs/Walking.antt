@@ -15,11 +15,13 @@ use Rattle.model.proofs.Search.{none_any}
 use Rattle.model.proofs.Lists.{up-length, up_more, map_more, map-map}
 use Rattle.model.specs.Sizes.{most_tasks}
 use Rattle.table.specs.declared.Task.{Task}
-use Rattle.table.specs.declared.chain.Ending.TheVariants.{Past, Again, Whole}
+use Rattle.table.specs.Answer.{Past, Again, Whole}
 use Rattle.table.specs.Task.{no_task}
 use Rattle.table.specs.Words.{head, records, next, visited, count, chain, task_of_record, table_of}
 use Rattle.table.specs.Numbers.{EndAt, RepeatedAt, Reaches}
-use Rattle.table.specs.Answer.{out_of_range_at, repeated_at, stops_at, ending_of}
+use Rattle.table.specs.Answer.{out_of_range_at, repeated_at, stops_at, ending_of, chain_answer}
+use Rattle.std.specs.Prelude.{Ok, Err}
+use Rattle.model.specs.declared.refusal.Refusal.TheVariants.{NoRecord, RecordAgain}
 use Rattle.table.specs.Load.{code_task, code_tasks, WalkOf}
 use Rattle.table.proofs.Decide.{fails}
 use Rattle.table.proofs.Tests.{past-decides, again-decides, stops-decides}
@@ -138,34 +140,25 @@ module _ (ws : List ℕ) (tasks : List Task) (seen : List Bool) (k at : ℕ) (w 
   unfolding ending_of
   walk_of e = rw (stops-there ws k w.reached e)
 
-  pub walked-past : records ws < at → WalkOf ws (record { ending = Past; count = k; tasks = tasks })
+  pub walked-past : records ws < at → WalkOf ws (Err NoRecord)
   walked-past l =
       let h = w.here in
       let p = (past-decides ws k).1 (omega arith) in
-      record {
-        ending = sym (walk_of ((stops-decides ws k).1 (inr (inl (omega arith)))) ∙ rw p);
-        counted = λ e. absurd (past-not-whole e);
-        placed = λ e. absurd (past-not-whole e);
-      }
+      let e : ending_of ws ≡ Past = walk_of ((stops-decides ws k).1 (inr (inl (omega arith)))) ∙ rw p in
+      record { answer = sym (ap chain_answer e); holds = tt }
 
-  pub walked-again : RepeatedAt ws k → at ≤ records ws → WalkOf ws (record { ending = Again; count = k; tasks = tasks })
+  pub walked-again : RepeatedAt ws k → at ≤ records ws → WalkOf ws (Err RecordAgain)
   walked-again a l =
       let h = w.here in
       let p : out_of_range_at ws k ≡ false = le-ltb (records ws) (visited ws k) (omega arith) in
-      record {
-        ending = sym (walk_of ((stops-decides ws k).1 (inr (inr a))) ∙ rw (p, (again-decides ws k).1 a));
-        counted = λ e. absurd (again-not-whole e);
-        placed = λ e. absurd (again-not-whole e);
-      }
+      let e : ending_of ws ≡ Again = walk_of ((stops-decides ws k).1 (inr (inr a))) ∙ rw (p, (again-decides ws k).1 a) in
+      record { answer = sym (ap chain_answer e); holds = tt }
 
-  pub walked_whole : at ≡ 0 → WalkOf ws (record { ending = Whole; count = k; tasks = tasks })
+  pub walked_whole : at ≡ 0 → WalkOf ws (Ok (record { count = k; tasks = tasks }))
   walked_whole z =
       let h : EndAt ws k = sym w.here ∙ z in
       let p : out_of_range_at ws k ≡ false = le-ltb (records ws) (visited ws k) (omega arith) in
       let a : repeated_at ws k ≡ false = none_any k (λ j. eqb (visited ws j) (visited ws k)) (λ j l. ne_eqb (visited ws j) (visited ws k) (λ e. (w.reached j l).0 (e ∙ h))) in
       let c : count ws ≡ k = ends_there ws k w.reached h in
-      record {
-        ending = sym (walk_of ((stops-decides ws k).1 (inl h)) ∙ rw (p, a));
-        counted = λ e. sym c;
-        placed = λ e. w.tasked ∙ ap (places_to ws) (sym c) ∙ places-all ws;
-      }
+      let e : ending_of ws ≡ Whole = walk_of ((stops-decides ws k).1 (inl h)) ∙ rw (p, a) in
+      record { answer = sym (ap chain_answer e); holds = (sym c, w.tasked ∙ ap (places_to ws) (sym c) ∙ places-all ws) }

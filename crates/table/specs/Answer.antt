@@ -1,17 +1,25 @@
 -- The answer of `load`, as a value that computes: the tests of the numbers in their order.
 -- It is the first number that applies, and passed where none does: `refusal-exact` and `passed-exact`.
-use Rattle.std.specs.Prelude.{Bool, not, ◌||◌, cond, List, ℕ, suc, ◌-◌, ◌%◌, length, get_or, eqb, ltb}
+use Rattle.std.specs.Prelude.{Result, Ok, Err, Bool, not, ◌||◌, cond, List, ℕ, suc, ◌-◌, ◌%◌, length, get_or, eqb, ltb}
 use Rattle.model.specs.Search.{any, least}
 use Rattle.model.specs.Task.{Task, Table, task, absent_task}
 use Rattle.model.specs.Fence.{unfenced_count}
 use Rattle.model.specs.Horizon.{horizon}
 use Rattle.model.specs.Sizes.{most_tasks}
+use Rattle.model.specs.Refusal.{number_of, position_of}
+use Rattle.model.specs.declared.refusal.Refusal.{Refusal}
 use Rattle.table.specs.Words.{header_words, record_words, head, core_count, rule, fence, records, visited, table_of}
 use Rattle.table.specs.Limits.{cores_out, rule_out, fence_out, task_number, task_out, horizon_out}
-use Rattle.table.specs.declared.chain.Ending.{Ending}
-use Rattle.table.specs.declared.chain.Ending.TheVariants.{Past, Again, Whole}
-use Rattle.table.specs.declared.Answer.{Answer}
-use Rattle.table.specs.declared.Answer.TheVariants.{Passed, Refused}
+
+-- passed, or refused with number and position
+pub data Answer : Type 0 where
+  Passed : Answer
+  Refused : ℕ → ℕ → Answer
+
+-- what a result answers in these words
+abbrev pub answer_in : {T : Type 0} → Result T Refusal → Answer
+answer_in (Ok x) = Passed
+answer_in (Err e) = Refused (number_of e) (position_of e)
 
 -- 1 as a test (`words-decides`)
 abbrev pub words_out : List ℕ → Bool
@@ -25,6 +33,10 @@ header_number ws =
     (cond (rule_out (rule ws)) 3
     (cond (fence_out (core_count ws) (fence ws)) 19
     (cond (eqb (head ws) 0) 4 0))))
+
+-- it, or passed where there is none
+abbrev pub header_answer : List ℕ → Answer
+header_answer ws = cond (eqb (header_number ws) 0) Passed (Refused (header_number ws) 0)
 
 -- what the walk meets at step k, as tests: a number past the last record, a record again, or one of these or the zero
 abbrev pub out_of_range_at : List ℕ → ℕ → Bool
@@ -59,7 +71,19 @@ by_tasks s =
     (Refused (task_number (width_limit s) (task s (first_out (width_limit s) s.tasks))) (suc (first_out (width_limit s) s.tasks)))
     (by_horizon s)
 
--- how the walk ends: past the last record, at a record again, or at the zero
+-- how the walk can end: past the last record, at a record again, or at the zero
+pub data Ending : Type 0 where
+  Past : Ending
+  Again : Ending
+  Whole : Ending
+
+-- 5, 6, or passed
+abbrev pub chain_answer : Ending → Answer
+chain_answer Past = Refused 5 0
+chain_answer Again = Refused 6 0
+chain_answer Whole = Passed
+
+-- how it ends
 unfoldable pub ending_of : List ℕ → Ending
 ending_of ws = cond (out_of_range_at ws (last_step ws)) Past (cond (repeated_at ws (last_step ws)) Again Whole)
 

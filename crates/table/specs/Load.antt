@@ -1,20 +1,19 @@
--- The result of `load`: the answer, and beside it the table, or zeros where it is refused.
-use Rattle.std.specs.Prelude.{◌≡◌, ◌↔◌, List, map, ◌++◌, ℕ, ◌-◌, ◌≤◌, length, drop, replicate}
+-- The result of `load`: the table, or the number that turns it down.
+use Rattle.std.specs.Prelude.{Result, Ok, Err, IfOk, ◌≡◌, ◌↔◌, List, map, ◌++◌, ℕ, ◌-◌, ◌≤◌, length, drop, replicate}
 use Rattle.model.specs.Task as model
 use Rattle.model.specs.Refusals as book
+use Rattle.model.specs.Refusal.{numbered}
+use Rattle.model.specs.declared.refusal.Refusal.{Refusal}
 use Rattle.model.specs.Horizon.{last_s, hyperperiod, horizon}
 use Rattle.model.specs.Sizes.{most_tasks}
 use Rattle.table.specs.declared.Task.{Task}
-use Rattle.table.specs.declared.Answer.{Answer}
-use Rattle.table.specs.declared.Answer.TheVariants.{Passed, Refused}
 use Rattle.table.specs.declared.Loaded.{Loaded}
-use Rattle.table.specs.declared.chain.Ending.TheVariants.{Whole}
-use Rattle.table.specs.declared.chain.Walked.{Walked}
+use Rattle.table.specs.declared.chain.Chain.{Chain}
 use Rattle.table.specs.Task.{no_task, tasks_of}
 use Rattle.table.specs.Words.{word, fence, count, table_of}
 use Rattle.table.specs.Limits.{InRange, most_horizon}
 use Rattle.table.specs.Numbers.{First, NoneApplies}
-use Rattle.table.specs.Answer.{answer_of, ending_of}
+use Rattle.table.specs.Answer.{Answer, Passed, Refused, answer_in, answer_of, ending_of, chain_answer}
 
 -- a task of the model as code stores it
 abbrev pub code_task : model.Task → Task
@@ -35,7 +34,6 @@ code_tasks τs = map code_task τs ++ replicate (most_tasks - length τs) no_tas
 abbrev pub passing : ℕ → model.Table → Loaded
 passing r s =
     record {
-      answer = Passed;
       count = length s.tasks;
       cores = s.cores;
       fence = s.fence;
@@ -46,19 +44,22 @@ passing r s =
       horizon = horizon s;
     }
 
--- a refusal: all else is zero
-abbrev pub refusal : ℕ → ℕ → Loaded
-refusal n p =
-    record { answer = Refused n p; count = 0; cores = 0; fence = 0; rule = 0; tasks = replicate most_tasks no_task; start = 0; period = 0; horizon = 0 }
+-- a refusal, with number and position
+abbrev pub refusal : ℕ → ℕ → Result Loaded (ℕ × ℕ)
+refusal n p = Err (n, p)
 
 -- by the answer: the table that passes, or the refusal
-abbrev pub loaded_by : Answer → Loaded → Loaded
-loaded_by Passed l = l
+abbrev pub loaded_by : Answer → Loaded → Result Loaded (ℕ × ℕ)
+loaded_by Passed l = Ok l
 loaded_by (Refused n p) l = refusal n p
 
+-- the table that the words have where they pass
+abbrev pub loaded_of : List ℕ → Loaded
+loaded_of ws = passing (word ws 2) (table_of ws)
+
 -- the result of `load` on the words
-unfoldable pub load_of : List ℕ → Loaded
-load_of ws = loaded_by (answer_of ws) (passing (word ws 2) (table_of ws))
+unfoldable pub load_of : List ℕ → Result Loaded (ℕ × ℕ)
+load_of ws = loaded_by (answer_of ws) (loaded_of ws)
 
 -- the contents of a table that passed
 pub record LoadedAs (ws : List ℕ) (r : Loaded) : Type 0 where
@@ -84,23 +85,20 @@ load_meaning Passed = book.taken
 load_meaning (Refused n p) = book.refused n p
 
 -- the contract of `load` on the words
-pub record LoadOf (ws : List ℕ) (r : Loaded) : Type 0 where
+pub record LoadOf (ws : List ℕ) (r : Result Loaded Refusal) : Type 0 where
   -- its value
-  pub value : r ≡ load_of ws
+  pub value : numbered r ≡ load_of ws
   -- refused with n and p exactly if number n applies with position p and no earlier one does; passed exactly if none applies
-  pub refused : (n p : ℕ) → (load_meaning r.answer ≡ book.refused n p) ↔ First ws n p
-  pub passed : (load_meaning r.answer ≡ book.taken) ↔ NoneApplies ws
-  -- in a refusal all else is zero
-  pub zeros : (n p : ℕ) → load_meaning r.answer ≡ book.refused n p → r ≡ refusal n p
-  -- in a table that passed the rest is the table
-  pub holds : load_meaning r.answer ≡ book.taken → LoadedAs ws r
+  pub refused : (n p : ℕ) → (load_meaning (answer_in r) ≡ book.refused n p) ↔ First ws n p
+  pub passed : (load_meaning (answer_in r) ≡ book.taken) ↔ NoneApplies ws
+  -- what passed is the table
+  pub holds : IfOk r (LoadedAs ws)
 
 -- the tasks on this number of cores, with this fence and the rule of this number
 abbrev pub table_with : ℕ → ℕ → ℕ → List model.Task → model.Table
 table_with m f r τs = record { tasks = τs; cores = m; fence = f; rule = model.rule_of r }
 
--- the result of the walk: how it ends, and where it ends at the zero, the tasks
-pub record WalkOf (ws : List ℕ) (r : Walked) : Type 0 where
-  pub ending : r.ending ≡ ending_of ws
-  pub counted : r.ending ≡ Whole → r.count ≡ count ws
-  pub placed : r.ending ≡ Whole → r.tasks ≡ code_tasks (table_of ws).tasks
+-- the result of the walk: the tasks where it ends at the zero, else 5 or 6
+pub record WalkOf (ws : List ℕ) (r : Result Chain Refusal) : Type 0 where
+  pub answer : answer_in r ≡ chain_answer (ending_of ws)
+  pub holds : IfOk r (λ c. (c.count ≡ count ws) × (c.tasks ≡ code_tasks (table_of ws).tasks))

@@ -6,20 +6,12 @@ ghost use Rattle.table.specs.Answer.{header_number};
 ghost use Rattle.table.specs.Load.{code_task, WalkOf};
 
 use crate::{HEADER, RECORD, Task};
-use model::MOST_TASKS;
+use model::{MOST_TASKS, Refusal};
 
-// How a walk along the chain ends: at the zero, at a number past the last record, at a record met again.
+// The tasks in priority order, zeros past the count.
+// An array with its count stands for a list, without a heap.
 #[derive(Clone, Copy)]
-pub enum Ending {
-    Whole,
-    Past,
-    Again,
-}
-
-// How the walk ended and, where it ended at the zero, the tasks in priority order, zeros past the count.
-#[derive(Clone, Copy)]
-pub struct Walked {
-    pub ending: Ending,
+pub struct Chain {
     pub count: usize,
     pub tasks: [Task; MOST_TASKS],
 }
@@ -54,8 +46,9 @@ fn task_of(words: &[u32], number: usize) -> Task
     }
 }
 
-// The walk along the chain of a table whose header passes.
-pub(crate) fn walk(words: &[u32]) -> Walked
+// The walk along the chain of a table whose header passes, to the zero that ends it.
+// A walk by hand: the supplier's words are the chain, and each next is read from the record before.
+pub(crate) fn walk(words: &[u32]) -> Result<Chain, Refusal>
     requires { header_number words.now ≡ 0 }
     ensures { WalkOf words.now result }
 {
@@ -65,33 +58,18 @@ pub(crate) fn walk(words: &[u32]) -> Walked
     let mut seen = [false; MOST_TASKS];
     let mut count: usize = 0;
     let mut at = words[0] as usize;
-    loop {
-        if at == 0 {
-            return Walked {
-                ending: Ending::Whole,
-                count: count,
-                tasks: tasks,
-            };
-        }
+    while at != 0 {
         if records < at {
-            return Walked {
-                ending: Ending::Past,
-                count: count,
-                tasks: tasks,
-            };
+            return Err(Refusal::NoRecord);
         }
         let index = at - 1;
         if seen[index] {
-            return Walked {
-                ending: Ending::Again,
-                count: count,
-                tasks: tasks,
-            };
+            return Err(Refusal::RecordAgain);
         }
         seen[index] = true;
-        let task = task_of(words, at);
-        tasks[count] = task;
+        tasks[count] = task_of(words, at);
         at = words[HEADER + index * RECORD] as usize;
         count += 1;
     }
+    Ok(Chain { count, tasks })
 }

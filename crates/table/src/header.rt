@@ -1,10 +1,10 @@
 // Numbers 1, 2, 3, 19 and 4.
 ghost use Rattle.std.specs.Prelude.{◌≡◌, ◌≤◌, length};
 ghost use Rattle.table.specs.Words.{header_words, fence};
-ghost use Rattle.table.specs.Answer.{header_number};
+ghost use Rattle.table.specs.Answer.{answer_in, header_answer};
 
 use crate::{HEADER, RECORD};
-use model::MOST_TASKS;
+use model::{MOST_TASKS, Refusal};
 
 // The fence in the header.
 pub(crate) fn fence_in(words: &[u32]) -> u64
@@ -14,31 +14,31 @@ pub(crate) fn fence_in(words: &[u32]) -> u64
     crate::limits::fence_of(words[3], words[4])
 }
 
-// The first of these numbers that applies, or 0.
-pub(crate) fn header_number(words: &[u32]) -> u32
-    ensures { result ≡ header_number words.now }
+// The first of these numbers that applies.
+pub(crate) fn check(words: &[u32]) -> Result<(), Refusal>
+    ensures { answer_in result ≡ header_answer words.now }
 {
     if words.len() < HEADER {
-        return 1;
+        return Err(Refusal::NotATable);
     }
     let rest = words.len() - HEADER;
     if rest % RECORD != 0 {
-        return 1;
+        return Err(Refusal::NotATable);
     }
     if MOST_TASKS < rest / RECORD {
-        return 1;
+        return Err(Refusal::NotATable);
     }
     if crate::limits::cores_out(words[1]) {
-        return 2;
+        return Err(Refusal::BadCores);
     }
     if crate::limits::rule_out(words[2]) {
-        return 3;
+        return Err(Refusal::BadRule);
     }
     if crate::limits::fence_out(words[1], fence_in(words)) {
-        return 19;
+        return Err(Refusal::BadFence);
     }
     if words[0] == 0 {
-        return 4;
+        return Err(Refusal::NoHead);
     }
-    0
+    Ok(())
 }

@@ -17,6 +17,7 @@ pub(crate) const LIMIT: u64 = MOST_HORIZON as u64;
 const PAST: u32 = MOST_HORIZON + 1;
 
 // The greatest common divisor.
+// By hand: the library has no greatest common divisor.
 pub(crate) fn gcd(a: u64, b: u64) -> u64
     ensures { Gcd a b result }
 {
@@ -43,21 +44,19 @@ fn cycle(task: Task) -> u64
 }
 
 // P, or one more than the longest horizon where it is above that.
+// One more than the limit and no Option, since the clause is `min (hyperperiod ..) (most_horizon + 1)`, and pages name it.
 pub fn hyperperiod(tasks: [Task; MOST_TASKS], count: usize) -> u32
     requires fact_1 { count ≤ most_tasks }
     requires fact_2 { InLimits tasks count }
     ensures { result ≡ min (hyperperiod (tasks_of tasks count)) (most_horizon + 1) }
 {
     let mut multiple: u64 = 1;
-    let mut i = 0;
-    while i < count {
-        let task = tasks[i];
-        let span = cycle(task);
+    for task in &tasks[..count] {
+        let span = cycle(*task);
         multiple = multiple / gcd(multiple, span) * span;
         if LIMIT < multiple {
             return PAST;
         }
-        i += 1;
     }
     multiple as u32
 }

@@ -11,8 +11,7 @@ mod start; // start.rt: S of a position from the S before it
 pub mod positions; // positions.rt: the walk along the positions that finds the last S
 pub mod hyperperiod; // hyperperiod.rt: P, the least common multiple of the periods, of 2T where widths differ
 
-use chain::Ending;
-use model::MOST_TASKS;
+use model::{MOST_TASKS, Refusal};
 
 // The number of words of the header, and of each record.
 pub const HEADER: usize = 5;
@@ -30,18 +29,10 @@ pub struct Task {
     pub second: u32,
 }
 
-// Whether a table passes all of these numbers, or the number that turns it down, with its position.
-#[derive(Clone, Copy)]
-pub enum Answer {
-    Passed,
-    Refused(u32, u32),
-}
-
-// The answer, and beside it the table: the cores, the fence, which is a set of them, the tasks in priority order, zeros past the count, the last S, P and the
-// horizon.
+// A table: the cores, the fence, which is a set of them, the tasks in priority order, zeros past the count, the last S, P and the horizon.
+// The rule is a number, since columns and printers take a table of any rule. An array with its count stands for a list, without a heap.
 #[derive(Clone, Copy)]
 pub struct Loaded {
-    pub answer: Answer,
     pub count: usize,
     pub cores: u32,
     pub fence: u64,
@@ -53,23 +44,16 @@ pub struct Loaded {
 }
 
 // The table that the words represent, or the first number that applies.
-pub fn load(words: &[u32]) -> Loaded
+pub fn load(words: &[u32]) -> Result<Loaded, Refusal>
     ensures { LoadOf words.now result }
 {
-    let number = header::header_number(words);
-    if number != 0 {
-        return checks::refused(number, 0);
-    }
-    let walked = chain::walk(words);
-    let ending = walked.ending;
-    match ending {
-        Ending::Past => checks::refused(5, 0),
-        Ending::Again => checks::refused(6, 0),
-        Ending::Whole => {
-            let tasks = walked.tasks;
-            let count = walked.count;
-            let fence = header::fence_in(words);
-            checks::by_tasks(words[1], fence, words[2], tasks, count)
-        }
-    }
+    header::check(words)?;
+    let chain = chain::walk(words)?;
+    checks::by_tasks(
+        words[1],
+        header::fence_in(words),
+        words[2],
+        chain.tasks,
+        chain.count,
+    )
 }

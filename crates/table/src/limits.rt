@@ -24,6 +24,7 @@ pub fn cores_out(cores: u32) -> bool
 }
 
 // Whether the rule is not 1 to 4 (number 3).
+// Numbers, since this is the test of which numbers are a rule.
 pub fn rule_out(rule: u32) -> bool
     ensures { result ≡ rule_out rule }
 {
@@ -45,7 +46,7 @@ pub fn fence_out(cores: u32, fence: u64) -> bool
 }
 
 // Whether a width of a task, that of its odd jobs or that of its even ones, is 0 or above the number of unfenced cores (number 7).
-fn width_out(wide: u32, task: Task) -> bool
+pub(crate) fn width_out(wide: u32, task: Task) -> bool
     ensures { result ≡ width_out wide (task_of task) }
 {
     ((task.width == 0) | (wide < task.width)) | ((task.second == 0) | (wide < task.second))
@@ -62,6 +63,7 @@ fn times_out(task: Task) -> bool
 }
 
 // The number that turns a task down on this number of unfenced cores: 7, else 8; 0 where neither does.
+// A number and 0 for none, since `task_number` of specs/ answers so, and pages name it.
 pub fn task_number(wide: u32, task: Task) -> u32
     ensures { result ≡ task_number wide (task_of task) }
 {

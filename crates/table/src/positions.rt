@@ -16,11 +16,8 @@ pub fn last_start(tasks: [Task; MOST_TASKS], count: usize) -> u32
     ensures { result ≡ last_s (tasks_of tasks count) }
 {
     let mut start = tasks[0].offset;
-    let mut i = 1;
-    while i < count {
-        let task = tasks[i];
-        start = release_from(task, start);
-        i += 1;
+    for task in &tasks[1..count] {
+        start = release_from(*task, start);
     }
     start
 }

@@ -5,6 +5,8 @@ use mathlib.Core.Path.{◌≡◌, refl, ap, ap₂, sym, ◌∙◌}
 use Prim.Native.Nat.{ℕ, zero, suc, ◌+◌, ◌*◌, ◌-◌, ◌/◌, ◌%◌, ◌^◌, ◌≤◌, ◌<◌}
 use native.Mathlib.Nat.{not-suc-le-zero, pow-suc, pow-le-pow_right, mul-le-mul_right, mul-add-div_right, div-eq_of_lt}
 use native.Mathlib.Omega.{arith}
+use Rattle.std.proofs.Common.{Option, None, Some}
+use Rattle.std.specs.Option.{IfNone, IfSome, unwrap_or}
 use lib.ListN.{length, get_or, length-append, get_or-append}
 use lib.Dec.{ltb, leb, eqb}
 use borrow.Author.Tests.{ltb-true, ltb-false, lt-ltb, le-ltb, leb-true, leb-false, eqb-true, eqb-false}
@@ -192,6 +194,12 @@ count-exact k n l h = go (leb (digit_count n) k) refl
         let few : 10 ^ digit_count n ≤ 10 ^ k = pow-le-pow_right (omega arith) (leb-true (digit_count n) k e) in
         absurd (omega (arith, count_fits n))
     go false e = omega (arith, count_most k n h, leb-false (digit_count n) k e)
+
+-- .. by the power of ten that it reaches; 0, which reaches none, has one
+pub count-reached :
+    (n u : ℕ) (r : Option ℕ) → IfNone r (n ≡ 0) → IfSome r (λ k. 10 ^ k ≤ n) → IfSome r (λ k. n < 10 * 10 ^ k) → u ≡ unwrap_or r 0 → u + 1 ≡ digit_count n
+count-reached n u None z l h e = omega (arith, count-one n (omega arith))
+count-reached n u (Some k) z l h e = omega (arith, count-exact k n l (rw pow-suc (omega arith)))
 
 -- digits with no zeros in front are as many as their number has
 only-count : (ds : List ℕ) → Digits ds → 1 ≤ length ds → NoZeros ds → digit_count (value ds) ≡ length ds

@@ -7,8 +7,8 @@ use lib.ListN.{take}
 use Rattle.model.specs.Task.{Table}
 use Rattle.model.specs.Verdict.{verdict}
 use Rattle.model.specs.Horizon.{horizon}
-use Rattle.table.specs.declared.Answer as loaded
-use Rattle.table.specs.declared.Answer.TheVariants.{Passed, Refused}
+use Rattle.table.specs.Answer as loaded
+use Rattle.table.specs.Answer.{Passed, Refused}
 use Rattle.table.specs.Words.{table_of}
 use Rattle.table.specs.Answer.{answer_of, header_number}
 use Rattle.judge.specs.Judged.{judged_by, verdict_of}

@@ -10,6 +10,11 @@ use lib.ListN.{length, get_or, take, drop, drop_of_length-le}
 use lib.Seq.{split_at, drop-cons}
 use lib.Dec.{eqb}
 use borrow.Author.Tests.{eqb-true, eq-eqb, ne_eqb}
+use mathlib.Core.Logic.{◌≢◌}
+use Rattle.std.proofs.Common.{Option}
+use Rattle.std.specs.Option.{MatchOption, unwrap_or}
+use Rattle.std.specs.List.{AllWithin, HoldsAt}
+use Rattle.std.proofs.lemmas.Iterator.{index_from_first}
 use Rattle.text.specs.Decimal.{Digits}
 use Rattle.text.specs.Format.{newline, joined, lines}
 use Rattle.text.specs.Input.{length_to, line_length}
@@ -36,11 +41,7 @@ mark-stop m (b ∷ bs) l = go (eqb b m) refl (mark-stop m bs) l
     go true e ih l = eqb-true b m e
     go false e ih l = ih (le_of_suc-le-suc l)
 
--- from an index on: the mark there ends it at once, any other byte belongs to it, and past the last byte there is nothing
-pub mark-here : (m : ℕ) (bs : List ℕ) (i : ℕ) → i < length bs → get_or bs i 0 ≡ m → length_to m (drop i bs) ≡ 0
-unfolding length_to
-mark-here m bs i l e = rw (drop-cons bs i 0 l, e, eq-eqb m m refl)
-
+-- from an index on: a byte that is not the mark belongs to it, and past the last byte there is nothing
 pub mark_on : (m : ℕ) (bs : List ℕ) (i : ℕ) → i < length bs → (get_or bs i 0 ≡ m → ⊥) → length_to m (drop i bs) ≡ suc (length_to m (drop (i + 1) bs))
 unfolding length_to
 mark_on m bs i l n = rw (add-one, drop-cons bs i 0 l, ne_eqb (get_or bs i 0) m n)
@@ -48,6 +49,18 @@ mark_on m bs i l n = rw (add-one, drop-cons bs i 0 l, ne_eqb (get_or bs i 0) m n
 pub mark-none : (m : ℕ) (bs : List ℕ) (i : ℕ) → length bs ≤ i → length_to m (drop i bs) ≡ 0
 unfolding length_to
 mark-none m bs i l = rw (drop_of_length-le bs l)
+
+-- .. and the index of the first mark ends it, where there is one
+pub mark-first :
+    (m : ℕ) (bs : List ℕ) (r : Option ℕ)
+    → MatchOption r (AllWithin (λ b. b ≢ m) bs 0 (length bs)) (λ i. (i < length bs) × HoldsAt (λ b. b ≡ m) bs i × AllWithin (λ b. b ≢ m) bs 0 i)
+    → length_to m bs ≡ unwrap_or r (length bs)
+unfolding length_to
+mark-first m bs r h =
+    index_from_first (length_to m) (λ b. b ≡ m) (λ b. b ≢ m) refl
+    (λ b bs e. rw (eq-eqb b m e))
+    (λ b bs n. rw (ne_eqb b m n) (omega arith))
+    bs r h
 
 -- a line is no longer than the text, and one that ends before the text does ends at a newline
 pub line-within : (bs : List ℕ) → line_length bs ≤ length bs

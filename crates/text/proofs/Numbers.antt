@@ -2,7 +2,7 @@
 use mathlib.Core.Bool.{Bool, true, false, ◌&&◌, cond}
 use mathlib.Core.List.{List}
 use mathlib.Core.Logic.{◌↔◌}
-use mathlib.Core.Path.{◌≡◌, refl, sym}
+use mathlib.Core.Path.{◌≡◌, refl, sym, ap, ◌∙◌}
 use Prim.Native.Nat.{ℕ, ◌+◌, ◌*◌, ◌-◌, ◌≤◌, ◌<◌}
 use native.Mathlib.Numerals.{add-one}
 use native.Mathlib.Omega.{arith}
@@ -11,10 +11,11 @@ use lib.Seq.{take-suc}
 use lib.Dec.{leb}
 use borrow.Author.Tests.{leb-true, le-leb}
 use Rattle.model.proofs.Bools.{and_left, and_right, and_both, not-true-false}
-use Rattle.text.specs.Decimal.{all, is_digit, Digit, value}
+use Rattle.text.specs.Decimal.{all, is_digit, Digit, Digits, value}
 use Rattle.text.specs.Format.{Number, is_number, largest}
 use Rattle.text.specs.Input.{parse_number}
-use Rattle.text.specs.declared.line.ParsedNumber.TheVariants.{Value, Nothing}
+use Rattle.std.proofs.Common.{Some, None, Result, Ok, Err}
+use Rattle.std.specs.Result.{OkIff, result_ok}
 use Rattle.text.proofs.Every.{all_more}
 use Rattle.text.proofs.Values.{digit-exact, digits-exact, value-more, value-within}
 
@@ -40,11 +41,18 @@ number-exact l = (to, from)
         (and_both (leb (length l) 10) _ (le-leb (length l) 10 n.short)
         (and_both (all is_digit l) _ ((digits-exact l).1 n.digits) (le-leb (value l) largest n.fits)))
 
-pub found-value : (l : List ℕ) → Number l → Value (value l) ≡ parse_number l
+pub found-value : (l : List ℕ) → Number l → Some (value l) ≡ parse_number l
 found-value l n = rw ((number-exact l).1 n)
 
-pub found_nothing : (l : List ℕ) → (Number l → ⊥) → Nothing ≡ parse_number l
+pub found_nothing : (l : List ℕ) → (Number l → ⊥) → None ≡ parse_number l
 found_nothing l h = rw (not-true-false (is_number l) (λ e. h ((number-exact l).0 e)))
+
+-- .. by the value of its digits, which are few, converted to 32 bits
+pub number-of :
+    {E : Type 0} (l : List ℕ) (r : Result ℕ E) (v : ℕ) → OkIff r (v < 4294967296) v → v ≡ value l → Digits l → 1 ≤ length l → length l ≤ 10 → result_ok r ≡ parse_number l
+number-of l (Ok n) v h e d s t =
+    ap Some (h.1 ∙ e) ∙ found-value l (record { some = s; short = t; digits = d; fits = omega (arith, h.0, e) })
+number-of l (Err x) v h e d s t = found_nothing l (λ n. h (omega (arith, n.fits, e)))
 
 -- reading one digit more: all so far are digits, and the value is that of the digits so far
 pub digits_more : (l : List ℕ) (i : ℕ) → i < length l → all is_digit (take i l) ≡ true → Digit (get_or l i 0) → all is_digit (take (i + 1) l) ≡ true
@@ -58,16 +66,16 @@ pub value-nine : (l : List ℕ) (i : ℕ) → i ≤ 9 → all is_digit (take i l
 value-nine l i q e = value-within (take i l) 9 ((digits-exact (take i l)).0 e) (simp length-take (omega arith))
 
 -- what was found decides whether the line represents a number, and which
-pub nothing-found : (l : List ℕ) → parse_number l ≡ Nothing → is_number l ≡ false
+pub nothing-found : (l : List ℕ) → parse_number l ≡ None → is_number l ≡ false
 nothing-found l = go (is_number l)
   where
-    go : (t : Bool) → cond t (Value (value l)) Nothing ≡ Nothing → t ≡ false
+    go : (t : Bool) → cond t (Some (value l)) None ≡ None → t ≡ false
     go true e = let z : ◌≡◌ {A = ℕ} 0 1 = cc in absurd (omega arith)
     go false e = refl
 
-pub value_found : (l : List ℕ) (n : ℕ) → parse_number l ≡ Value n → (is_number l ≡ true) × (n ≡ value l)
+pub value_found : (l : List ℕ) (n : ℕ) → parse_number l ≡ Some n → (is_number l ≡ true) × (n ≡ value l)
 value_found l n = go (is_number l)
   where
-    go : (t : Bool) → cond t (Value (value l)) Nothing ≡ Value n → (t ≡ true) × (n ≡ value l)
+    go : (t : Bool) → cond t (Some (value l)) None ≡ Some n → (t ≡ true) × (n ≡ value l)
     go true e = (refl, cc)
     go false e = let z : ◌≡◌ {A = ℕ} 0 1 = cc in absurd (omega arith)

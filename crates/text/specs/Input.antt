@@ -1,10 +1,8 @@
 -- The result of `read` on the bytes, and of its two helpers.
-use Rattle.std.specs.Prelude.{true, false, cond, List, [], ◌∷◌, ◌++◌, ◌↔◌, ◌≡◌, ℕ, suc, ◌-◌, ◌≤◌, length, take, drop, replicate, eqb}
+use Rattle.std.specs.Prelude.{true, false, cond, Option, Some, None, List, [], ◌∷◌, ◌++◌, ◌↔◌, ◌≡◌, ℕ, suc, ◌-◌, ◌≤◌, length, take, drop, replicate, eqb}
 use Rattle.text.specs.Decimal.{value}
 use Rattle.text.specs.Format.{newline, most_numbers, is_number, Words, read_words, no_text, words_of, IsText}
 use Rattle.text.specs.declared.Input.{Input}
-use Rattle.text.specs.declared.line.ParsedNumber.{ParsedNumber}
-use Rattle.text.specs.declared.line.ParsedNumber.TheVariants.{Value, Nothing}
 
 -- the number of bytes before the first byte `mark`, or in all where there is none
 unfoldable pub length_to : ℕ → List ℕ → ℕ
@@ -16,8 +14,8 @@ abbrev pub line_length : List ℕ → ℕ
 line_length bs = length_to newline bs
 
 -- the number that a line represents, or nothing
-abbrev pub parse_number : List ℕ → ParsedNumber
-parse_number l = cond (is_number l) (Value (value l)) Nothing
+abbrev pub parse_number : List ℕ → Option ℕ
+parse_number l = cond (is_number l) (Some (value l)) None
 
 -- the numbers in 229 places, zeros past the last
 abbrev pub pad_numbers : List ℕ → List ℕ

@@ -8,8 +8,8 @@ use Rattle.model.specs.Lists.{full}
 use Rattle.model.specs.Horizon.{horizon}
 use Rattle.model.specs.Verdict.{Verdict, Firm, Full, Miss, verdict}
 use Rattle.model.specs.Sizes.{most_cores}
-use Rattle.table.specs.declared.Answer.{Answer}
-use Rattle.table.specs.declared.Answer.TheVariants.{Passed, Refused}
+use Rattle.table.specs.Answer.{Answer}
+use Rattle.table.specs.Answer.{Passed, Refused}
 use Rattle.table.specs.Words.{table_of}
 use Rattle.table.specs.Answer.{answer_of}
 use Rattle.judge.specs.JudgeAnswer.{JudgeAnswer, judged, refused}

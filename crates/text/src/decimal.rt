@@ -1,4 +1,5 @@
 // Numbers written in decimal.
+// By hand: the bytes go into the caller's slice from a place on. The library's text without a heap, `InlineText`, has its own buffer.
 ghost use Rattle.std.specs.Prelude.{◌≡◌, ◌+◌, ◌≤◌, length};
 ghost use Rattle.text.specs.Decimal.{digit_count, decimal};
 ghost use Rattle.text.specs.Written.{Put};
@@ -7,13 +8,7 @@ ghost use Rattle.text.specs.Written.{Put};
 fn digits(number: u64) -> usize
     ensures { result ≡ digit_count number }
 {
-    let mut left = number;
-    let mut count: usize = 1;
-    while 9 < left {
-        left /= 10;
-        count += 1;
-    }
-    count
+    number.checked_ilog10().unwrap_or(0) as usize + 1
 }
 
 // Writes a number in decimal into the line from `at` on; returns where it ends.
@@ -23,9 +18,7 @@ pub fn put(line: &mut [u8], at: usize, number: u64) -> usize
 {
     let count = digits(number);
     let mut left = number;
-    let mut k = count;
-    while 0 < k {
-        k -= 1;
+    for k in (0..count).rev() {
         line[at + k] = b'0' + (left % 10) as u8;
         left /= 10;
     }

@@ -1,7 +1,7 @@
 // The words of a table, parsed from the decimal lines that the program is given. The modules write lines.
 #![tactic(auto)]
 
-ghost use Rattle.std.specs.Prelude.{◌≡◌, min};
+ghost use Rattle.std.specs.Prelude.{◌≡◌};
 ghost use Rattle.text.specs.Format.{no_text};
 ghost use Rattle.text.specs.Input.{input_of, ReadOf};
 
@@ -9,8 +9,6 @@ pub mod decimal; // decimal.rt: numbers in decimal
 pub mod row; // row.rt: the text of a row
 pub mod first; // first.rt: the first line
 pub mod line; // line.rt: where a line ends and the number that it represents
-
-use line::ParsedNumber;
 
 // The most numbers of a table's text: the words of a header and of 32 records.
 pub const NUMBERS: usize = table::HEADER + table::RECORD * model::MOST_TASKS;
@@ -25,6 +23,7 @@ pub const BYTES: usize = (DIGITS + 1) * NUMBERS;
 pub const ENOUGH: usize = BYTES + 1;
 
 // What was read: whether it is a table's text, and its numbers, zeros past the count; all zeros where it is none.
+// An array with its count stands for a list, without a heap.
 #[derive(Clone, Copy)]
 pub struct Input {
     pub accepted: bool,
@@ -51,18 +50,17 @@ pub fn read(bytes: &[u8]) -> Input
     let mut words = [0u32; NUMBERS];
     let mut count: usize = 0;
     let mut at: usize = 0;
+    // no plainer as a chain: `split` has one more line, an empty one, after a last newline
     while at < bytes.len() {
         let end = line::end_from(bytes, at, b'\n');
-        match line::number(&bytes[at..end]) {
-            ParsedNumber::Nothing => return no_text(),
-            ParsedNumber::Value(number) => {
-                if count == NUMBERS {
-                    return no_text();
-                }
-                words[count] = number;
-                count += 1;
-            }
+        let Some(number) = line::number(&bytes[at..end]) else {
+            return no_text();
+        };
+        if count == NUMBERS {
+            return no_text();
         }
+        words[count] = number;
+        count += 1;
         at = end + 1;
     }
     Input {
@@ -70,11 +68,4 @@ pub fn read(bytes: &[u8]) -> Input
         count: count,
         words: words,
     }
-}
-
-// The smaller of two counts.
-pub fn smaller(a: usize, b: usize) -> usize
-    ensures { result ≡ min a b }
-{
-    if a < b { a } else { b }
 }

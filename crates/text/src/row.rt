@@ -1,4 +1,5 @@
 // The text of a row: its tick and its cores, in decimal.
+// By hand: the bytes go into the caller's slice from a place on. The library's text without a heap, `InlineText`, has its own buffer.
 ghost use Rattle.std.specs.Prelude.{[], ◌∷◌, ◌++◌, ◌+◌, ◌≤◌, length, take, drop};
 ghost use Rattle.text.specs.Decimal.{decimal};
 ghost use Rattle.text.specs.Format.{newline};
@@ -20,12 +21,9 @@ pub fn copy(from: &[u8], start: usize, count: usize, to: &mut [u8], at: usize) -
     requires { (start + count ≤ length from.now) × (at + count ≤ length to.old) }
     ensures { Put to.old at (take count (drop start from.now)) to.new result }
 {
-    let mut k: usize = 0;
-    while k < count {
-        to[at + k] = from[start + k];
-        k += 1;
-    }
-    at + count
+    let end = at + count;
+    to[at..end].copy_from_slice(&from[start..start + count]);
+    end
 }
 
 // Writes a byte's value in decimal into the text from `at` on; returns where it ends.
@@ -51,11 +49,9 @@ pub fn put_cells(row: [u8; ROW], cores: usize, text: &mut [u8]) -> usize
     ensures { (Put text.old 0 (fields (take cores row) ++ (newline ∷ [])) text.new result) × (result ≤ longest_cells) }
 {
     let mut at: usize = 0;
-    let mut core: usize = 0;
-    while core < cores {
+    for position in &row[..cores] {
         text[at] = b' ';
-        at = put_byte(text, at + 1, row[core]);
-        core += 1;
+        at = put_byte(text, at + 1, *position);
     }
     text[at] = b'\n';
     at + 1

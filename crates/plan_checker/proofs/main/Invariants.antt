@@ -1,10 +1,7 @@
--- There is space after what is left. The number of rounds falls.
+-- There is space after what is left.
 use Rattle.std.proofs.Common.{◌≡◌, ◌<◌, length}
 use Rattle.splitter.specs.Split.{too_many}
 use Rattle.plan_checker.proofs.main.Given as goal
 
-abbrev pub invariant-loop-rounds : goal.invariant-loop-rounds
-invariant-loop-rounds l = (length l.buffer ≡ 4096) × (l.held < too_many)
-
-abbrev pub decreases-loop-rounds : goal.decreases-loop-rounds
-decreases-loop-rounds l = l.rounds
+abbrev pub invariant-loop : goal.invariant-loop
+invariant-loop l = (length l.buffer ≡ 4096) × (l.held < too_many)

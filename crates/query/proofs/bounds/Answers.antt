@@ -1,14 +1,31 @@
 -- What `response_bounds` answers decides between a line for each task, none, and the refusal.
-use mathlib.Core.Path.{◌∙◌}
-use Rattle.query.proofs.Figures.{bounds-met, bounds-unmet}
+use Rattle.std.proofs.Common.{arith, sym, subst, ◌∙◌}
+use Rattle.text.proofs.Writing.{put_front}
+use Rattle.model.proofs.Exits.{err-as}
+use Rattle.query.specs.Query.{PutOf, bounds_text}
+use Rattle.query.proofs.Figures.{bounds-err, bounds-no, bounds-some}
 use Rattle.query.proofs.bounds.Goals as goal
 
-pub returns-then-tested : goal.returns-then-tested
-returns-then-tested c =
-    let b = c.response_bounds-found in
-    (c.put_answer.ensures.0, c.put_answer.ensures.1 ∙ bounds-met c.args.words.now b.result b.ensures c.if-tested.true)
+pub returns-in_err-tested : goal.returns-in_err-tested
+returns-in_err-tested c =
+    let r = c.response_bounds in
+    let e = c.in_err-tested.field-0.0 in
+    subst (PutOf (bounds_text c.args.words.now) c.args.lines.now) (sym (err-as c.from_residual.result e c.from_residual.ensures.1))
+    (c.requires, bounds-err c.args.words.now r.result r.ensures e c.in_err-tested.was)
 
-pub returns : goal.returns
-returns c =
-    let b = c.response_bounds-found in
-    (c.put_none.ensures.0, c.put_none.ensures.1 ∙ bounds-unmet c.args.words.now b.result b.ensures c.if-tested.false)
+pub put_answer-requires : goal.put_answer-requires
+put_answer-requires c =
+    let r = c.response_bounds in
+    ((bounds-some c.args.words.now r.result r.ensures c.in_ok-tested.tested c.in_ok-tested.was c.in-Some.figures c.in-Some.is).0, c.requires)
+
+pub returns-in-Some : goal.returns-in-Some
+returns-in-Some c =
+    let r = c.response_bounds in
+    subst (λ text. PutOf text c.put_answer.new.lines c.put_answer.result)
+    (bounds-some c.args.words.now r.result r.ensures c.in_ok-tested.tested c.in_ok-tested.was c.in-Some.figures c.in-Some.is).1 c.put_answer.ensures
+
+pub returns-in-None : goal.returns-in-None
+returns-in-None c =
+    let r = c.response_bounds in
+    let p = c.copy.ensures in
+    (omega (arith, p.ends), put_front p ∙ bounds-no c.args.words.now r.result r.ensures c.in_ok-tested.tested c.in_ok-tested.was c.in-None.is)

@@ -1,53 +1,45 @@
 -- The first question whose word is in front is answered, on the table after the word.
-use mathlib.Core.List.{List}
-use mathlib.Core.Path.{◌≡◌, refl, sym, ap, subst, ◌∙◌}
-use Prim.Native.Nat.{ℕ}
-use lib.ListN.{length, drop, get_or}
-use borrow.Author.Rules.{part_to_end}
-use Rattle.std.proofs.Common.{arith}
+use Rattle.std.proofs.Common.{◌≡◌, ℕ, List, refl, sym, ap, subst, ◌∙◌, arith, true, false, length, take, drop, get_or}
+use lib.Dec.{eqb}
+use Rattle.std.specs.Cmp.Lexicographic.{pointwise}
 use Rattle.text.specs.Format.{words_of, numbers_in}
+use Rattle.sentence.specs.Reading.{starts_with}
 use Rattle.stream.specs.Sent.{SentOf}
 use Rattle.query.specs.declared.Question.TheVariants.{Why}
-use Rattle.query.specs.Query.{answer_to, questions, query_output}
-use Rattle.query.proofs.Asking.{is-asked, not-asked, asked_here, asked-on, asked-none}
+use Rattle.query.specs.Query.{answer_to, questions, query_output, word_of}
+use Rattle.query.proofs.Asking.{front-begins, asked_here, asked-on, asked-none}
 use Rattle.query.proofs.print.Goals as goal
 
-pub loop-i-init : goal.loop-i-init
+pub loop-question-init : goal.loop-question-init
 unfolding query_output
-loop-i-init g c = (omega arith, refl)
+loop-question-init g c = refl
 
-pub slice_bounds-send_answer-count : goal.slice_bounds-send_answer-count
-slice_bounds-send_answer-count g c =
-    let s = c.table_after_word-start in
-    (is-asked (get_or questions c.loop-i.i Why) c.args.bytes.now s.result s.ensures c.if-start-gt0.true).2
-
-pub slice_bounds-send_answer-start : goal.slice_bounds-send_answer-start
-slice_bounds-send_answer-start g c =
-    let s = c.table_after_word-start in
-    (is-asked (get_or questions c.loop-i.i Why) c.args.bytes.now s.result s.ensures c.if-start-gt0.true).2
-
-pub returns-then-start-gt0 : goal.returns-then-start-gt0
-returns-then-start-gt0 g c =
-    let l = c.loop-i in
+pub returns-in-Some : goal.returns-in-Some
+returns-in-Some g c =
+    let i = c.loop-question.question-index in
     let bs = c.args.bytes.now in
-    let q = get_or questions l.i Why in
-    let s = c.table_after_word-start in
-    let h = is-asked q bs s.result s.ensures c.if-start-gt0.true in
+    let q = get_or questions i Why in
+    let w = c.word_of.ensures in
+    let h = c.in-Some.ensures.cases in
+    let e : starts_with (word_of q) bs ≡ true =
+    sym (front-begins (word_of q) bs) ∙ subst (λ (v : List ℕ). pointwise eqb (take (length v) bs) v ≡ true) w h.0 in
+    let t : c.in-Some.table.now ≡ drop (length (word_of q)) bs = h.1 ∙ ap (λ (v : List ℕ). drop (length v) bs) w in
     subst (λ (t : List ℕ). SentOf 0 t c.send_answer.result)
-    (ap (λ (t : List ℕ). answer_to q (numbers_in (words_of t))) (part_to_end bs s.result ∙ ap (λ (k : ℕ). drop k bs) h.1)
-    ∙ sym (l.invariant.1 ∙ asked_here l.i bs c.loop-i-test.true h.0))
+    (ap (λ (t : List ℕ). answer_to q (numbers_in (words_of t))) t ∙ sym (c.loop-question.invariant ∙ asked_here i bs c.loop-question-test.true e))
     c.send_answer.ensures
 
-pub loop-i-preserved : goal.loop-i-preserved
-loop-i-preserved g c =
-    let l = c.loop-i in
+pub loop-question-preserved : goal.loop-question-preserved
+loop-question-preserved g c =
+    let i = c.loop-question.question-index in
     let bs = c.args.bytes.now in
-    let s = c.table_after_word-start in
-    let n = not-asked (get_or questions l.i Why) bs s.result s.ensures (omega (arith, c.if-start-gt0.false)) in
-    (omega (arith, c.loop-i-test.true), l.invariant.1 ∙ asked-on l.i bs c.loop-i-test.true n)
+    let q = get_or questions i Why in
+    let e : starts_with (word_of q) bs ≡ false =
+    sym (front-begins (word_of q) bs)
+    ∙ subst (λ (v : List ℕ). pointwise eqb (take (length v) bs) v ≡ false) c.word_of.ensures c.in_default.ensures.cases in
+    c.loop-question.invariant ∙ asked-on i bs c.loop-question-test.true e
 
 pub returns : goal.returns
 returns g c =
-    let l = c.loop-i in
-    let over : l.i ≡ length questions = omega (arith, c.loop-i-test.false, l.invariant.0) in
-    subst (λ (t : List ℕ). SentOf 0 t c.send.result) (sym (l.invariant.1 ∙ asked-none l.i _ over)) c.send.ensures
+    let l = c.loop-question in
+    let over : l.question-index ≡ length questions = omega arith in
+    subst (λ (t : List ℕ). SentOf 0 t c.send.result) (sym (l.invariant ∙ asked-none l.question-index _ over)) c.send.ensures

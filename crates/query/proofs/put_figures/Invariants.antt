@@ -1,13 +1,8 @@
 -- The lines of the numbers before a place are written, 14 bytes for each at most.
-use Rattle.std.proofs.Common.{◌≡◌, ◌*◌, ◌-◌, ◌≤◌, length, take}
+use Rattle.std.proofs.Common.{◌*◌, ◌≤◌, take}
 use Rattle.text.specs.Written.{Put}
 use Rattle.query.specs.Figures.{figure_lines}
 use Rattle.query.proofs.put_figures.Given as goal
 
 abbrev pub invariant-loop-place : goal.invariant-loop-place
-invariant-loop-place l =
-    Put l.initial.lines 0 (figure_lines 0 (take l.place l.figures)) l.lines l.at × (l.place ≤ l.count) × (l.at ≤ 14 * l.place)
-    × (length l.lines ≡ length l.initial.lines) × (length l.figures ≡ 32)
-
-abbrev pub decreases-loop-place : goal.decreases-loop-place
-decreases-loop-place l = l.count - l.place
+invariant-loop-place l = Put l.initial.lines 0 (figure_lines 0 (take l.place l.fn.figures)) l.lines l.at × (l.at ≤ 14 * l.place)

@@ -1,12 +1,24 @@
 -- The answer of `slack` gives a line for each task, or the refusal.
-use mathlib.Core.Path.{◌∙◌}
-use Rattle.query.proofs.Figures.{slack-by, slack-none}
+use Rattle.std.proofs.Common.{sym, subst}
+use Rattle.model.proofs.Exits.{err-as}
+use Rattle.query.specs.Query.{PutOf, slack_text}
+use Rattle.query.proofs.Figures.{slack-err, slack-ok}
 use Rattle.query.proofs.slack.Goals as goal
 
+pub returns-in_err-figures : goal.returns-in_err-figures
+returns-in_err-figures c =
+    let r = c.slack in
+    let e = c.in_err-figures.field-0.0 in
+    subst (PutOf (slack_text c.args.words.now) c.args.lines.now) (sym (err-as c.from_residual.result e c.from_residual.ensures.1))
+    (c.requires, slack-err c.args.words.now r.result r.ensures e c.in_err-figures.was)
+
 pub put_answer-requires : goal.put_answer-requires
-put_answer-requires c = let r = c.slack-found in (slack-none c.args.words.now r.result r.ensures, c.requires)
+put_answer-requires c =
+    let r = c.slack in
+    ((slack-ok c.args.words.now r.result r.ensures c.in_ok-figures.figures c.in_ok-figures.was).0, c.requires)
 
 pub returns : goal.returns
 returns c =
-    let r = c.slack-found in
-    (c.put_answer.ensures.0, c.put_answer.ensures.1 ∙ slack-by c.args.words.now r.result r.ensures)
+    let r = c.slack in
+    subst (λ text. PutOf text c.put_answer.new.lines c.put_answer.result)
+    (slack-ok c.args.words.now r.result r.ensures c.in_ok-figures.figures c.in_ok-figures.was).1 c.put_answer.ensures

@@ -1,28 +1,29 @@
--- A sentence is followed by a newline, or the refusal is written.
-use mathlib.Core.Path.{◌∙◌}
-use Rattle.std.proofs.Common.{arith}
-use Rattle.text.proofs.Writing.{put_front}
-use Rattle.query.proofs.Asking.{leaves-room, why-sentence, why-refused}
+-- A sentence is followed by a newline, or the refusal is returned.
+use Rattle.std.proofs.Common.{arith, sym, subst}
+use Rattle.model.proofs.Exits.{err-as}
+use Rattle.query.specs.Query.{PutOf, why_of}
+use Rattle.query.proofs.Asking.{ends-inside, why-err, why-ok}
 use Rattle.query.proofs.why.Goals as goal
+
+pub returns-in_err-length : goal.returns-in_err-length
+returns-in_err-length c =
+    let s = c.sentence in
+    let e = c.in_err-length.field-0.0 in
+    subst (PutOf (why_of c.args.words.now) s.new.buffer) (sym (err-as c.from_residual.result e c.from_residual.ensures.1))
+    (why-err c.args.words.now c.args.line.now s.new.buffer s.result s.ensures c.requires e c.in_err-length.was)
 
 pub bounds-line-length : goal.bounds-line-length
 bounds-line-length c =
-    let s = c.sentence-outcome in
-    leaves-room c.args.words.now c.args.line.now _ s.result s.ensures c.requires _ c.in-Length.is
+    let s = c.sentence in
+    ends-inside c.args.words.now c.args.line.now s.new.buffer s.result s.ensures c.requires c.in_ok-length.length c.in_ok-length.was
 
 pub overflow_add-result : goal.overflow_add-result
 overflow_add-result c =
-    let s = c.sentence-outcome in
-    let w = why-sentence c.args.words.now c.args.line.now _ s.result s.ensures c.requires _ c.in-Length.is in
+    let s = c.sentence in
+    let w = why-ok c.args.words.now c.args.line.now s.new.buffer s.result s.ensures c.requires c.in_ok-length.length c.in_ok-length.was in
     omega (arith, w.0)
 
-pub returns-in-Length : goal.returns-in-Length
-returns-in-Length c =
-    let s = c.sentence-outcome in
-    why-sentence c.args.words.now c.args.line.now _ s.result s.ensures c.requires _ c.in-Length.is
-
-pub returns-in-Refused : goal.returns-in-Refused
-returns-in-Refused c =
-    let s = c.sentence-outcome in
-    let p = c.put_pair.ensures in
-    (omega (arith, p.1), put_front p.0 ∙ why-refused c.args.words.now c.args.line.now _ s.result s.ensures c.requires _ _ c.in-Refused.is)
+pub returns : goal.returns
+returns c =
+    let s = c.sentence in
+    why-ok c.args.words.now c.args.line.now s.new.buffer s.result s.ensures c.requires c.in_ok-length.length c.in_ok-length.was

@@ -40,12 +40,12 @@ struct-known2-from-else2 c = c.before.before.before
 abbrev struct-known2-from-then2 : tie.Then-stage-end invariant-loop decreases-loop → tie.After-struct_known-in-loop-given-1 invariant-loop decreases-loop
 struct-known2-from-then2 c = c.before.before.before
 
--- the state after `smaller`
-abbrev smaller-from-buffer : tie.After-buffer-1 invariant-loop decreases-loop → tie.After-smaller-part invariant-loop decreases-loop
-smaller-from-buffer c = c.before.before.before.before
+-- the state after `min`
+abbrev min-from-buffer : tie.After-buffer-1 invariant-loop decreases-loop → tie.After-min-part invariant-loop decreases-loop
+min-from-buffer c = c.before.before.before.before
 
-abbrev smaller-from-slice-known2 : tie.After-slice_known-in-loop-given-1 invariant-loop decreases-loop → tie.After-smaller-part invariant-loop decreases-loop
-smaller-from-slice-known2 c = smaller-from-buffer c.before
+abbrev min-from-slice-known2 : tie.After-slice_known-in-loop-given-1 invariant-loop decreases-loop → tie.After-min-part invariant-loop decreases-loop
+min-from-slice-known2 c = min-from-buffer c.before
 
 -- the state where the test `if2` fails
 abbrev else2-from-text2 : tie.After-text-in-loop-given-1 invariant-loop decreases-loop → tie.Else-stage-end invariant-loop decreases-loop
@@ -56,7 +56,7 @@ else2-from-line3 c = else2-from-text2 c.before
 
 -- the state at the head of the loop
 abbrev loop-from-slice-known2 : tie.After-slice_known-in-loop-given-1 invariant-loop decreases-loop → tie.At-loop-given invariant-loop decreases-loop
-loop-from-slice-known2 c = (smaller-from-slice-known2 c).before.before
+loop-from-slice-known2 c = (min-from-slice-known2 c).before.before
 
 abbrev loop-from-else2 : tie.Else-stage-end invariant-loop decreases-loop → tie.At-loop-given invariant-loop decreases-loop
 loop-from-else2 c = loop-from-slice-known2 c.before.before.before.before
@@ -101,7 +101,7 @@ numbers c = (columns-of-from-loop c).columns_of-columns.ensures
 
 -- .. after a part of its line
 abbrev after-part : tie.After-struct_known-in-loop-given-1 invariant-loop decreases-loop → Printer
-after-part c = at-given (now_of (loop-from-slice-known2 c.before)) ((loop-from-slice-known2 c.before).loop-given.given + (smaller-from-slice-known2 c.before).smaller-part.result)
+after-part c = at-given (now_of (loop-from-slice-known2 c.before)) ((loop-from-slice-known2 c.before).loop-given.given + (min-from-slice-known2 c.before).min-part.result)
 
 split-at-end :
     (c : tie.After-struct_known-in-loop-given-1 invariant-loop decreases-loop)
@@ -110,7 +110,7 @@ split-at-end c =
     let copy-state = copy c in
     let l = loop-from-slice-known2 c.before in
     emit-part (given-of l) (now_of l) (buffer-of l) l.loop-given.buffer copy-state.copy-at.new.to l.loop-given.at copy-state.copy-at.result
-    (smaller-from-slice-known2 c.before).smaller-part.result l.loop-given.invariant (smaller-from-slice-known2 c.before).smaller-part.ensures copy-state.copy-at.ensures
+    (min-from-slice-known2 c.before).min-part.result l.loop-given.invariant (min-from-slice-known2 c.before).min-part.ensures copy-state.copy-at.ensures
 
 -- a row is to come
 early : (c : tie.Else-stage-end invariant-loop decreases-loop) → (loop-from-else2 c).loop-given.stage.registers.tick < (given-of (loop-from-else2 c)).end
@@ -136,14 +136,14 @@ loop-holds c =
       long = g.1.1.1.1.1.0.1.0.1;
     })
 
-sub-smaller : tie.Need-overflow_sub-stage invariant-loop decreases-loop
-sub-smaller c = c.loop-given.invariant.limits.given
+sub-min : tie.Need-overflow_sub-stage invariant-loop decreases-loop
+sub-min c = c.loop-given.invariant.limits.given
 
-sub-smaller-2 : tie.Need-overflow_sub-buffer invariant-loop decreases-loop
-sub-smaller-2 c = omega (arith, c.loop-given.invariant.room, c.loop-given.invariant.same)
+sub-min-2 : tie.Need-overflow_sub-buffer invariant-loop decreases-loop
+sub-min-2 c = omega (arith, c.loop-given.invariant.room, c.loop-given.invariant.same)
 
-smaller-requires : tie.Need-smaller-part-requires invariant-loop decreases-loop
-smaller-requires c κs = search rules
+min-requires : tie.Need-min-part-requires invariant-loop decreases-loop
+min-requires c κs = search rules
 
 slice-aggregate-copy : tie.Need-slice_bounds-copy-end invariant-loop decreases-loop
 slice-aggregate-copy c = sym (loop-from-line2 c).loop-given.invariant.arrays.long
@@ -151,14 +151,14 @@ slice-aggregate-copy c = sym (loop-from-line2 c).loop-given.invariant.arrays.lon
 copy-requires : tie.Need-copy-at-requires invariant-loop decreases-loop
 copy-requires c κs =
     let i = (loop-from-line2 c.before).loop-given.invariant in (
-      omega (arith, c.smaller-part.ensures, i.limits.given, i.limits.ready, i.arrays.long),
-      omega (arith, c.smaller-part.ensures, i.room, i.same),
+      omega (arith, c.min-part.ensures, i.limits.given, i.limits.ready, i.arrays.long),
+      omega (arith, c.min-part.ensures, i.room, i.same),
     )
 
 add-given : tie.Need-overflow_add-given invariant-loop decreases-loop
 add-given c =
     let i = (loop-from-slice-known2 c).loop-given.invariant in
-    omega (arith, (smaller-from-slice-known2 c).smaller-part.ensures, i.limits.given, i.limits.ready)
+    omega (arith, (min-from-slice-known2 c).min-part.ensures, i.limits.given, i.limits.ready)
 
 next-line-requires : tie.Need-next_line-stage-requires invariant-loop decreases-loop
 next-line-requires c κs = stepping (else2-from-line3 c)
@@ -182,7 +182,7 @@ returns c =
     let l = loop-from-slice-known2 k.before in
     emit-full (given-of l) (after-part k) (buffer-of l) _ _ (entry l.before).requires (split-at-end k)
     (part-fills (given-of l) (now_of l) (buffer-of l) l.loop-given.buffer _ l.loop-given.at _ _ l.loop-given.invariant
-    (smaller-from-slice-known2 k.before).smaller-part.ensures (copy k).copy-at.ensures c.if-given-stage.true)
+    (min-from-slice-known2 k.before).min-part.ensures (copy k).copy-at.ensures c.if-given-stage.true)
 
 same-length-2 : tie.Need-shape_of-buffer-then-stage-end invariant-loop decreases-loop
 same-length-2 c = (split-at-end (struct-known2-from-then2 c)).same
@@ -201,9 +201,9 @@ emit_spec =
     decreases-loop
     columns-of-requires
     loop-holds
-    sub-smaller
-    sub-smaller-2
-    smaller-requires
+    sub-min
+    sub-min-2
+    min-requires
     slice-aggregate-copy
     copy-requires
     add-given

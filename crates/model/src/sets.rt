@@ -1,0 +1,45 @@
+// The members of a set: one number, whose binary digits say which numbers are in it.
+ghost use Rattle.std.specs.Prelude.{◌≡◌};
+ghost use Rattle.std.specs.Iterator.{YieldsFirst, item_count};
+ghost use Rattle.model.specs.Members.{members};
+
+// The members of a set that are left, in ascending order; a set of places or of cores.
+#[derive(Clone, Copy)]
+pub struct Members {
+    pub rest: u64,
+}
+
+impl From<u32> for Members {
+    ghost from_gives = { λ set all. all.rest ≡ set };
+
+    fn from(set: u32) -> Members {
+        Members {
+            rest: u64::from(set),
+        }
+    }
+}
+
+impl From<u64> for Members {
+    ghost from_gives = { λ set all. all.rest ≡ set };
+
+    fn from(set: u64) -> Members {
+        Members { rest: set }
+    }
+}
+
+impl Iterator for Members {
+    type Item = usize;
+
+    ghost next_gives = { YieldsFirst (λ s. members s.rest) };
+
+    ghost remaining = { item_count (λ s. members s.rest) };
+
+    fn next(&mut self) -> Option<usize> {
+        if self.rest == 0 {
+            return None;
+        }
+        let member = u64::trailing_zeros(self.rest);
+        self.rest &= self.rest - 1;
+        Some(member as usize)
+    }
+}

@@ -1,0 +1,71 @@
+-- The chain is linked along the places passed (`Linking`).
+use Rattle.std.proofs.Common.{◌≡◌, ◌≤◌, ◌<◌, ◌-◌, ◌∙◌, ℕ, List, ap, sym, subst, refl, get_or, get_or-take, length, take, replicate, arith}
+use Rattle.std.proofs.Math.Seq.{length-take-le, take_at}
+use Rattle.conflict.proofs.Linked.{words-most}
+use Rattle.conflict.specs.Relinked.{most_words, next_word_at}
+use Rattle.table.specs.Numbers.{one}
+use Rattle.table.specs.Words.{count, visited}
+use Rattle.priority_order.specs.Orders.{OrderIn, Permutation}
+use Rattle.priority_order.proofs.Reordering.{linking-end, linking-more, linking-record, linking-start, tasks-few}
+use Rattle.priority_order.proofs.links.reordered.Goals as goal
+
+module _ (ws : List ℕ) (n : ℕ) (o : List ℕ) (x : OrderIn ws n o) where
+  -- the order is one of the table's tasks
+  order : Permutation (count ws) o
+  order = subst (λ (m : ℕ). Permutation m o) x.size x.permutation
+
+  within : n ≤ length o
+  within = omega (arith, x.size, tasks-few ws x.passes, x.permutation.size)
+
+  first : length (take n o) ≡ n
+  first = length-take-le n o within
+
+  -- the record of a place that is read
+  record_of : (number i : ℕ) → i < length (take n o) → number ≡ visited ws (get_or (take n o) i 0) → number ≡ visited ws (get_or o i 0)
+  record_of number i l e = e ∙ ap (visited ws) (get_or-take n o i 0 (omega (arith, first)))
+
+  -- its words are there
+  inside : (number i : ℕ) → i < length (take n o) → number ≡ visited ws (get_or (take n o) i 0) → (1 ≤ number) × (next_word_at number < length ws)
+  inside number i l e =
+      subst (λ (m : ℕ). (1 ≤ m) × (next_word_at m < length ws)) (sym (record_of number i l e))
+      (linking-record ws x.passes o order i (omega (arith, first, x.size)))
+
+pub copied-copy-requires : goal.copied-copy-requires
+copied-copy-requires c = words-most c.args.words.now (λ h. c.requires.passes 1 0 (one h))
+
+pub slice_bounds-order-end : goal.slice_bounds-order-end
+slice_bounds-order-end c = within c.args.words.now c.args.count c.args.order c.requires
+
+pub slice_bounds-place-items-end : goal.slice_bounds-place-items-end
+slice_bounds-place-items-end c = sym (first c.args.words.now c.args.count c.args.order c.requires)
+
+pub loop-place-init : goal.loop-place-init
+loop-place-init c =
+    let ws = c.args.words.now in
+    linking-start ws c.requires.passes c.args.order (order ws c.args.count c.args.order c.requires) c.copied-copy.result
+    (ap (take (length ws)) c.copied-copy.ensures ∙ take_at ws (replicate (most_words - length ws) 0) (length ws) refl)
+
+pub overflow_sub-link : goal.overflow_sub-link
+overflow_sub-link c =
+    (inside c.args.words.now c.args.count c.args.order c.requires c.record_at-number.result c.loop-place.place-index c.loop-place-test.true
+    c.record_at-number.ensures).0
+
+pub loop-place-preserved : goal.loop-place-preserved
+loop-place-preserved c =
+    let ws = c.args.words.now in
+    let n = c.args.count in
+    let o = c.args.order in
+    let x = c.requires in
+    let l = c.loop-place in
+    linking-more ws x.passes o (order ws n o x) l.copy l.link l.place-index c.record_at-number.result l.invariant
+    (omega (arith, first ws n o x, x.size, c.loop-place-test.true))
+    (record_of ws n o x c.record_at-number.result l.place-index c.loop-place-test.true c.record_at-number.ensures)
+
+pub returns : goal.returns
+returns c =
+    let ws = c.args.words.now in
+    let n = c.args.count in
+    let o = c.args.order in
+    let x = c.requires in
+    let l = c.loop-place in
+    linking-end ws x.passes o (order ws n o x) l.copy l.link l.place-index l.invariant (omega (arith, first ws n o x, x.size, c.loop-place-test.false))

@@ -1,0 +1,22 @@
+-- `table::checks::by_horizon`: P up to one above the limit decides number 9, and is exact where 9 does not apply.
+use Rattle.std.proofs.Common.{◌≡◌, ◌∙◌, ap, sym, length, Ok, arith, rules}
+use Rattle.model.specs.Sizes.{most_tasks}
+use Rattle.table.specs.Task.{tasks_of}
+use Rattle.table.specs.Load.{table_with, passing}
+use Rattle.table.proofs.Loads.{horizon-test, by-far, by_near, made}
+use Rattle.table.proofs.checks.by_horizon.Goals as goal
+
+pub returns-then-horizon_out : goal.returns-then-horizon_out
+returns-then-horizon_out c =
+    let s = table_with c.args.cores c.args.fence c.args.rule (tasks_of c.args.tasks c.args.count) in
+    let test = horizon-test s _ _ c.last_start-start.ensures c.hyperperiod-period.ensures in
+    sym (by-far s (passing c.args.rule s) (sym test ∙ sym c.horizon_out.ensures ∙ c.if-horizon_out.true))
+
+pub returns : goal.returns
+returns c =
+    let s = table_with c.args.cores c.args.fence c.args.rule (tasks_of c.args.tasks c.args.count) in
+    let test = horizon-test s _ _ c.last_start-start.ensures c.hyperperiod-period.ensures in
+    let near = sym c.horizon_out.ensures ∙ c.if-horizon_out.false in
+    let there : length c.args.tasks ≡ most_tasks = search rules in
+    ap Ok (made c.args.cores c.args.fence c.args.rule c.args.tasks c.args.count _ _ (omega (arith, c.requires.fact_2)) c.requires.fact_4 c.last_start-start.ensures c.hyperperiod-period.ensures near)
+    ∙ sym (by_near s (passing c.args.rule s) (sym test ∙ near))

@@ -1,0 +1,9 @@
+-- x and y have the common divisors of a and b.
+use Rattle.table.proofs.Gcd.{SameDivisors}
+use Rattle.table.proofs.hyperperiod.gcd.Given as goal
+
+abbrev pub invariant-loop-y : goal.invariant-loop-y
+invariant-loop-y l = SameDivisors l.a l.b l.x l.y
+
+abbrev pub decreases-loop-y : goal.decreases-loop-y
+decreases-loop-y l = l.y
