@@ -22,9 +22,9 @@ fn answer_words(kind: u32, first: u32, second: u32) -> AnswerWords
     ensures { result ≡ answer_words kind first second }
 {
     AnswerWords {
-        kind: kind,
-        first: first,
-        second: second,
+        kind,
+        first,
+        second,
     }
 }
 

@@ -67,7 +67,7 @@ fn note_in(words: &[u32], at: usize) -> Note
     let third = words[at + 3];
     if run_buffer::is_task_state(0, kind, second, third) {
         let phase = run_buffer::phase_of(kind, first, second, third);
-        return Note { phase: phase };
+        return Note { phase };
     }
     Note {
         phase: Phase::Resting(0),
@@ -97,9 +97,9 @@ fn plan_in(words: &[u32]) -> SuppliedPlan
     let run = run_buffer::run_in(words);
     let noted = notes_in(words);
     SuppliedPlan {
-        run: run,
+        run,
         tick: words[TICK],
-        noted: noted,
+        noted,
     }
 }
 

@@ -197,7 +197,7 @@ fn place_in(words: &[u32], at: usize) -> Task
         period: words[at + 4],
         second: words[at + 5],
         even: words[at + PARITY] == 1,
-        phase: phase,
+        phase,
     }
 }
 
@@ -241,10 +241,10 @@ pub(crate) fn run_in(words: &[u32]) -> Run
     Run {
         rule: words[0],
         cores: words[1],
-        fence: fence,
+        fence,
         withdrawn: words[5],
-        count: count,
-        tasks: tasks,
+        count,
+        tasks,
     }
 }
 

@@ -41,14 +41,14 @@ pub fn run_on(
     'jumps: loop {
         if end <= registers.tick {
             break 'jumps Ran {
-                registers: registers,
+                registers,
                 missed: None,
             };
         }
         for place in Members::from(registers.claiming & registers.due) {
             if 0 < places[place] {
                 break 'jumps Ran {
-                    registers: registers,
+                    registers,
                     missed: Some(Miss {
                         tick: registers.tick,
                         position: place as u32 + 1,

@@ -40,7 +40,7 @@ pub fn run_on(
     'ticks: loop {
         if registers.tick == end {
             break 'ticks Ran {
-                registers: registers,
+                registers,
                 missed: None,
             };
         }
@@ -48,7 +48,7 @@ pub fn run_on(
             for place in Members::from(registers.claiming) {
                 if places[simulation::EVENT + place] == registers.tick {
                     break 'ticks Ran {
-                        registers: registers,
+                        registers,
                         missed: Some(Miss {
                             tick: registers.tick,
                             position: place as u32 + 1,

@@ -56,9 +56,9 @@ fn receive<R: Read, W: Write, E: Write>(
     if reading.failed {
         stream::report_unread(log, b"inspect");
         return Received {
-            reading: reading,
-            check: check,
-            held: held,
+            reading,
+            check,
+            held,
             sent: nothing_sent(),
             again: false,
         };
@@ -71,16 +71,16 @@ fn receive<R: Read, W: Write, E: Write>(
         let answer = next.answer;
         let sent = print(out, answer);
         return Received {
-            reading: reading,
+            reading,
             check: next,
-            held: held,
-            sent: sent,
+            held,
+            sent,
             again: false,
         };
     }
     let left = stream::move_to_front(buffer, taken, end);
     Received {
-        reading: reading,
+        reading,
         check: next,
         held: left,
         sent: nothing_sent(),

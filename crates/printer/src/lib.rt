@@ -82,7 +82,7 @@ fn next_line(
     Stage {
         registers: next,
         text: size,
-        ready: ready,
+        ready,
     }
 }
 
@@ -110,17 +110,17 @@ fn start(table: Loaded, end: u32, verdict: Verdict) -> Printer
     let mut line = [0u8; LINE];
     let ready = first::put_first(&mut line, verdict);
     let stage = Stage {
-        registers: registers,
+        registers,
         text: size,
-        ready: ready,
+        ready,
     };
     Printer {
-        table: table,
-        end: end,
-        places: places,
-        stage: stage,
+        table,
+        end,
+        places,
+        stage,
         row: text,
-        line: line,
+        line,
         given: 0,
     }
 }
@@ -214,16 +214,16 @@ impl Printer {
             given = 0;
         }
         let printer = Printer {
-            table: table,
-            end: end,
-            places: places,
-            stage: stage,
+            table,
+            end,
+            places,
+            stage,
             row: text,
-            line: line,
+            line,
             given: given,
         };
         Piece {
-            printer: printer,
+            printer,
             length: at,
         }
     }
@@ -237,7 +237,7 @@ impl Printer {
             return printer.emit(buffer);
         }
         Piece {
-            printer: printer,
+            printer,
             length: 0,
         }
     }

@@ -55,8 +55,8 @@ fn without(outcome: Outcome) -> OrderAnswer
 {
     let order = [0u32; MOST_TASKS];
     OrderAnswer {
-        outcome: outcome,
-        order: order,
+        outcome,
+        order,
     }
 }
 

@@ -257,17 +257,17 @@ fn answer<R: Read, W: Write, E: Write>(input: &mut R, out: &mut W, log: &mut E) 
             whole: true,
         };
         return Outcome {
-            bytes: bytes,
-            reading: reading,
-            sent: sent,
+            bytes,
+            reading,
+            sent,
         };
     }
     let held = reading.held;
     let sent = print(out, &bytes[..held]);
     Outcome {
-        bytes: bytes,
-        reading: reading,
-        sent: sent,
+        bytes,
+        reading,
+        sent,
     }
 }
 

@@ -43,17 +43,17 @@ fn feed_all<W: Write>(out: &mut W, start: Session, bytes: &[u8], ended: bool) ->
         sent = stream::send(out, sent.count, &reply[..fed.length]);
         if !sent.whole {
             return Round {
-                session: session,
+                session,
                 taken: at,
-                sent: sent,
+                sent,
                 again: false,
             };
         }
         if fed.taken == 0 {
             return Round {
-                session: session,
+                session,
                 taken: at,
-                sent: sent,
+                sent,
                 again: !(ended | session.is_over()),
             };
         }
@@ -80,23 +80,23 @@ fn receive<R: Read, W: Write, E: Write>(
             whole: true,
         };
         let round = Round {
-            session: session,
+            session,
             taken: 0,
-            sent: sent,
+            sent,
             again: false,
         };
         return Received {
-            reading: reading,
-            round: round,
-            held: held,
+            reading,
+            round,
+            held,
         };
     }
     let end = reading.held;
     let round = feed_all(out, session, &buffer[..end], reading.ended);
     let left = stream::move_to_front(buffer, round.taken, end);
     Received {
-        reading: reading,
-        round: round,
+        reading,
+        round,
         held: left,
     }
 }

@@ -45,13 +45,13 @@ pub(crate) fn allocate(
         let lent = rule::owners(&borrowed);
         let sets = rule::shown(&reserved, &borrowed, count);
         return Allocation {
-            given: given,
-            lent: lent,
-            sets: sets,
+            given,
+            lent,
+            sets,
         };
     }
     Allocation {
-        given: given,
+        given,
         lent: 0,
         sets: reserved,
     }

@@ -82,7 +82,7 @@ pub fn count(table: Loaded, tick: u32, place: usize) -> Facts
     let had = late.length - places[place];
     let counts = counts_above(ran, place);
     Facts {
-        position: position,
+        position,
         tick: tick as u64,
         had: had as u64,
         length: late.length as u64,

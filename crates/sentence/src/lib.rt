@@ -49,7 +49,7 @@ fn no_facts() -> ParsedFacts
             tick: 0,
             had: 0,
             length: 0,
-            ran: ran,
+            ran,
         },
     }
 }
@@ -71,7 +71,7 @@ pub fn facts_of(bytes: &[u8]) -> ParsedFacts
             tick: head.tick,
             had: head.had,
             length: head.length,
-            ran: ran,
+            ran,
         },
     }
 }

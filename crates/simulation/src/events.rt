@@ -51,16 +51,16 @@ pub fn start(table: Loaded) -> Machine
     let due = crate::due::due_places(0, table.count, &places);
     let registers = Registers {
         tick: 0,
-        event: event,
-        due: due,
+        event,
+        due,
         claiming: 0,
         chosen: 0,
         granted: 0,
-        even: even,
+        even,
     };
     Machine {
-        registers: registers,
-        places: places,
+        registers,
+        places,
     }
 }
 
@@ -125,11 +125,11 @@ pub fn jump(
     let landed = tick + ticks;
     Registers {
         tick: landed,
-        event: event,
+        event,
         due: crate::due::due_by(landed, event, setting.count, places),
         claiming: after,
-        chosen: chosen,
-        granted: granted,
-        even: even,
+        chosen,
+        granted,
+        even,
     }
 }

@@ -95,10 +95,10 @@ pub fn step(
     let after = work(granted, claiming, places);
     Registers {
         tick: tick + 1,
-        event: event,
+        event,
         claiming: after,
-        chosen: chosen,
-        granted: granted,
-        even: even,
+        chosen,
+        granted,
+        even,
     }
 }

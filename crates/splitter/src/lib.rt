@@ -31,13 +31,13 @@ pub fn line(bytes: &[u8], most: usize, ended: bool) -> Part
     if end < bytes.len() {
         return Part {
             whole: true,
-            end: end,
+            end,
             next: end + 1,
         };
     }
     Part {
         whole: (ended & (0 < end)) | (most <= end),
-        end: end,
+        end,
         next: end,
     }
 }

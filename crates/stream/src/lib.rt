@@ -35,7 +35,7 @@ pub fn read<R: Read>(input: &mut R, buffer: &mut [u8], held: usize) -> Reading
             failed: false,
         },
         Err(_) => Reading {
-            held: held,
+            held,
             ended: false,
             failed: true,
         },
@@ -48,7 +48,7 @@ pub fn fill<R: Read>(input: &mut R, buffer: &mut [u8], held: usize) -> Reading
     ensures { FilledOf held buffer.old buffer.new result }
 {
     let mut reading = Reading {
-        held: held,
+        held,
         ended: false,
         failed: false,
     };

@@ -39,7 +39,7 @@ fn no_text() -> Input
     Input {
         accepted: false,
         count: 0,
-        words: words,
+        words,
     }
 }
 
@@ -65,7 +65,7 @@ pub fn read(bytes: &[u8]) -> Input
     }
     Input {
         accepted: true,
-        count: count,
-        words: words,
+        count,
+        words,
     }
 }
