@@ -1,4 +1,5 @@
 -- The last S and the horizon of a run that passes 14, by the tasks of the table that it is of.
+use Rattle.std.specs.Prelude.{Err}
 use mathlib.Core.Bool.{Bool, cond, false, true}
 use mathlib.Core.List.{List}
 use mathlib.Core.Logic.{◌⊎◌, inl, inr}
@@ -28,9 +29,12 @@ use Rattle.run.proofs.Limits.{in_array, passes-if}
 use Rattle.run.specs.Numbers.{run_out, width_limit_in}
 use Rattle.run.specs.Run.{run_table, run_task_at, tasks_in}
 use Rattle.run.specs.declared.Run.{Run}
-use Rattle.plan_check.specs.Extent.{Ready, extent_of, first_number}
+use Rattle.plan_check.specs.Extent.{ExtentOf, Ready, extent_in, extent_of, first_number}
 use Rattle.plan_check.specs.Numbers.{state_out}
 use Rattle.plan_check.specs.State.{horizon_in}
+use Rattle.plan_check.specs.CheckRow.{check_row_of}
+use Rattle.plan_check.specs.declared.SuppliedPlan.{SuppliedPlan}
+use Rattle.plan_check.proofs.Cases.{refusal, take-refused}
 use Rattle.plan_check.proofs.Working.{horizon-kept}
 
 module _ (r : Run) (e : run_out r ≡ false) where
@@ -83,7 +87,7 @@ unfolding first_number
 number-none r e f = rw (e, f)
 
 -- no refusal has number 0
-pub number-some : (e : Refusal) → ¬ (number_of e ≡ 0)
+number-some : (e : Refusal) → ¬ (number_of e ≡ 0)
 number-some NotATable h = absurd (omega arith)
 number-some BadCores h = absurd (omega arith)
 number-some BadRule h = absurd (omega arith)
@@ -152,8 +156,13 @@ plain-position (BadRow p) h = absurd (omega (arith, h))
 plain-position (DeadlineMissed p) h = absurd (omega (arith, h))
 plain-position (PhasesDiffer p) h = absurd (omega (arith, h))
 
-pub no-position : (r : Run) (e : Refusal) → number_of e ≡ first_number r → position_of e ≡ 0
-no-position r e h = plain-position e (subst Plain (sym h) (plain-number r))
+-- a plan without an extent turns every row down with the refusal of its extent
+pub extent-turns-down :
+    (w : SuppliedPlan) (row : List ℕ) (e : Refusal) → ExtentOf w.run (extent_in (Err e))
+    → refusal w (number_of e) (position_of e) ≡ check_row_of w row
+extent-turns-down w row e h =
+    ap (refusal w (number_of e)) (plain-position e (subst Plain (sym h.number) (plain-number w.run)))
+    ∙ (ap (λ (n : ℕ). refusal w n 0) h.number ∙ sym (take-refused w row (λ z. number-some e (h.number ∙ z))))
 
 -- the extent: zeros beside a number ..
 pub extent-refused : (r : Run) (n : ℕ) → first_number r ≡ n → ¬ (n ≡ 0) → record { number = n; start = 0; horizon = 0 } ≡ extent_of r
