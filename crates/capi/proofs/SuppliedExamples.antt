@@ -89,7 +89,7 @@ one o = 1 ∷ 1 ∷ 1 ∷ 0 ∷ 0 ∷ 0 ∷ o ∷ 1 ∷ 1 ∷ 1 ∷ 2 ∷ 1 ∷ 
 
 -- its place at an odd or an even job in this phase
 abbrev placed : ℕ → Bool → Phase → List ℕ
-placed o e ph = place_words (record { offset = o; width = 1; length = 1; deadline = 1; period = 2; second = 1; even = e; phase = ph })
+placed o e ph = place_words (record { parameters = record { offset = o; width = 1; length = 1; deadline = 1; period = 2; second = 1 }; even = e; phase = ph })
 
 -- a plan of the task with O 1, whose last S is 1 and horizon 3, at this tick, with these words of a note; anything past the count, and a word after the plan
 abbrev plan : Bool → Phase → ℕ → List ℕ → List ℕ

@@ -112,7 +112,7 @@ module _
   -- 25
   same-missed : missed r ≡ missed q
   unfolding missed
-  same-missed = any_same r.count (late_at r) (late_at q) (λ p l. ap (λ (t : Task). late_in t.deadline t.phase) (same_at p l))
+  same-missed = any_same r.count (late_at r) (late_at q) (λ p l. ap (λ (t : Task). late_in t.parameters.deadline t.phase) (same_at p l))
 
   -- 26
   same_differs : differs w ≡ differs v

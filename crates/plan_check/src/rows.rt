@@ -53,7 +53,11 @@ pub(crate) fn counted(row: &[u8], fence: u64, count: usize) -> Option<[u8; BYTES
 fn width_of(task: Task) -> u32
     ensures { result ≡ width_now task }
 {
-    if task.even { task.second } else { task.width }
+    if task.even {
+        task.parameters.second
+    } else {
+        task.parameters.width
+    }
 }
 
 // Whether a task that has this number of cores of the row has another number than its job's width, or nothing owed.

@@ -78,7 +78,7 @@ plan = record {
     fence = 0;
     withdrawn = 0;
     count = 1;
-    tasks = record { offset = 0; width = 1; length = 1; deadline = 2; period = 2; second = 1; even = false; phase = Working 0 0 0 } ∷ replicate 31 unused;
+    tasks = record { parameters = record { offset = 0; width = 1; length = 1; deadline = 2; period = 2; second = 1 }; even = false; phase = Working 0 0 0 } ∷ replicate 31 unused;
   };
   tick = 0;
   noted = note (Working 0 0 0) ∷ replicate 31 (note (Resting 0));
