@@ -49,7 +49,7 @@ use Rattle.simulation.proofs.RefinesTick.{refines-start}
 use Rattle.table.proofs.Fit.{fit, same-table}
 use Rattle.judge.proofs.Contract.{meaning-case, passed_is, refused-is}
 use Rattle.text.specs.Format.{most_numbers, Words, read_words, no_text, words_of}
-use Rattle.text.specs.Input.{input_of, ReadOf}
+use Rattle.text.specs.Input.{Input, input_of, ReadOf}
 use Rattle.text.specs.Output.{first_line, row_lines, rows_printed, printed, printed_by, output_of, output, longest_cells, longest_line}
 use Rattle.text.specs.Written.{Put}
 use Rattle.printer.specs.Cells.{cells}
@@ -57,7 +57,6 @@ use Rattle.text.specs.FirstLine.{end_of}
 use Rattle.printer.specs.Rows.{row_text_of, lines_in}
 use Rattle.printer.specs.Valid.{out_at, table_valid, owed, within, valid}
 use Rattle.printer.specs.Printer.{run_state_of, text_kept, remaining, PrinterStartOf, WordsPrinter, MadeFrom, no_table}
-use Rattle.text.specs.declared.Input.{Input}
 use Rattle.printer.specs.declared.Printer.{Printer}
 use Rattle.text.proofs.Writing.{put_front}
 use Rattle.printer.proofs.Limits.{limits-valid, none_out}

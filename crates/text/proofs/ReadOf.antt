@@ -7,8 +7,7 @@ use native.Mathlib.Omega.{arith}
 use lib.ListN.{length, take, replicate}
 use lib.Seq.{take-append_seam, drop-append_seam}
 use Rattle.text.specs.Format.{most_numbers, Words, read_words, no_text, words_of, numbers_in}
-use Rattle.text.specs.Input.{pad_numbers, input_of, ReadOf}
-use Rattle.text.specs.declared.Input.{Input}
+use Rattle.text.specs.Input.{Input, pad_numbers, input_of, ReadOf}
 use Rattle.text.proofs.Exact.{text-exact, no-text-exact}
 
 -- of a text's numbers
