@@ -240,8 +240,8 @@ fn before_rows(plan: SuppliedPlan) -> PlanProgress
 fn begin(table: &[u8]) -> Result<PlanProgress, Refusal>
     ensures { opening result ≡ opened_of table.now }
 {
-    let input = text::read(table);
-    let plan = plan_check::begin(&input.words[..input.count])?;
+    let words = text::read(table).ok_or(Refusal::NotATable)?;
+    let plan = plan_check::begin(words.as_slice())?;
     Ok(before_rows(plan))
 }
 

@@ -247,14 +247,6 @@ refused-made ws n q refuses v p j s = record {
 
 -- THE BYTES
 
--- the numbers that were read lie in their places
-pub read_fits : (bs : List ℕ) (r : Input) → ReadOf bs r → r.count ≤ length r.words
-read_fits bs r h = subst⁻¹ (λ (i : Input). i.count ≤ length i.words) h.value (go (words_of bs))
-  where
-    go : (x : Words) → (input_of x).count ≤ length (input_of x).words
-    go (read_words ws) = omega (arith, length-append ws (replicate (most_numbers - length ws) 0))
-    go no_text = omega arith
-
 -- no words are turned down with 1
 no_words : printed_by (answer_of []) (table_of []) ≡ first_line (refused 1 0)
 unfolding answer_of header_number
