@@ -7,7 +7,7 @@ use mathlib.Core.Logic.{inl, inr, ⊎_elim}
 use native.Mathlib.Nat.{eq-zero-or-pos}
 use Prim.Native.Nat.{ℕ, ◌-◌, ◌≤◌, ◌<◌}
 use lib.Bits.{bit_and, and_zero_l}
-use lib.ListN.{length, get_or, take, replicate, length-append}
+use lib.ListN.{length, get_or, take, replicate}
 use lib.Seq.{take-append_seam}
 use borrow.Author.Tests.{eq-eqb}
 use Rattle.model.specs.Fence.{unfenced_count}
