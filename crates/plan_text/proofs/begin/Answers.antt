@@ -5,7 +5,7 @@ use Rattle.model.specs.declared.refusal.Refusal.TheVariants.{NotATable}
 use Rattle.text.specs.declared.words.Words.{Words}
 use Rattle.text.proofs.ReadOf.{none-read, some-read}
 use Rattle.plan_check.specs.Begin.{begin_of, beginning}
-use Rattle.plan_text.specs.Checked.{opened_of, opening}
+use Rattle.plan_text.specs.Checked.{opening}
 use Rattle.plan_text.proofs.Answers.{opened-begun}
 use Rattle.plan_text.proofs.Taking.{none-begun}
 use Rattle.plan_text.proofs.begin.Goals as goal
