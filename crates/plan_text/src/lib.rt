@@ -208,10 +208,9 @@ fn feed_plan(start: PlanProgress, bytes: &[u8], from: usize, ended: bool) -> Fed
     let mut at = from;
     // A loop over the lines is no plainer: what is left begins where the last whole line ends, and is returned.
     while at < bytes.len() {
-        let part = splitter::line(&bytes[at..], line::LONG, ended);
-        if !part.whole {
+        let Some(part) = splitter::line(&bytes[at..], line::LONG, ended) else {
             return going(rows, at);
-        }
+        };
         let reply = step(rows, extent, &bytes[at..at + part.end]);
         if !is_more(reply.answer) {
             return over(reply.rows, reply.answer, at + part.next);
@@ -240,8 +239,8 @@ fn before_rows(plan: SuppliedPlan) -> PlanProgress
 fn begin(table: &[u8]) -> Result<PlanProgress, Refusal>
     ensures { opening result ≡ opened_of table.now }
 {
-    let input = text::read(table);
-    let plan = plan_check::begin(&input.words[..input.count])?;
+    let words = text::read(table).ok_or(Refusal::NotATable)?;
+    let plan = plan_check::begin(words.as_slice())?;
     Ok(before_rows(plan))
 }
 
@@ -250,10 +249,9 @@ fn feed_table(check: Check, bytes: &[u8], ended: bool) -> Fed
     requires { check.stage ≡ Table }
     ensures { FedBy (answer_in Table check) 0 ended bytes.now result }
 {
-    let part = splitter::table(bytes, ended);
-    if !part.whole {
+    let Some(part) = splitter::table(bytes, ended) else {
         return Fed { check, taken: 0 };
-    }
+    };
     match begin(&bytes[..part.end]) {
         Ok(rows) => feed_plan(rows, bytes, part.next, ended),
         Err(refusal) => over(

@@ -1,6 +1,5 @@
 -- Each line is taken, waited for, or the last (Feeding).
 use Rattle.std.proofs.Common.{refl, sym, ◌∙◌, arith}
-use Rattle.std.proofs.lemmas.Bool.{not-false, not-true}
 use mathlib.Core.Path.{subst⁻¹}
 use Rattle.plan_text.specs.Check.{FedBy}
 use Rattle.plan_text.proofs.Feeding.{line-ends, moves, next-within, plan-ended, plan-waits, taken_next, taken-over, taken-waits}
@@ -9,24 +8,24 @@ use Rattle.plan_text.proofs.feed_plan.Goals as goal
 pub loop-at-init : goal.loop-at-init
 loop-at-init c = ((c.requires, λ e more _. refl), c.extent_of-extent.ensures)
 
-pub returns-then-not-part : goal.returns-then-not-part
-returns-then-not-part c =
+pub returns-in_default : goal.returns-in_default
+returns-in_default c =
     let a = c.args in
     let l = c.loop-at in
     subst⁻¹ (FedBy _ _ _ _) c.going.ensures
-    (taken-waits a.start a.from a.ended a.bytes.now l.rows l.at c.line-part.result l.invariant.0 c.line-part.ensures (not-true _ c.if-not-part.true) c.loop-at-test.true)
+    (taken-waits a.start a.from a.ended a.bytes.now l.rows l.at _ l.invariant.0 c.in_default.ensures refl c.loop-at-test.true)
 
 pub overflow_add-at : goal.overflow_add-at
 overflow_add-at c =
     let a = c.args in
     let l = c.loop-at in
-    omega (arith, line-ends a.start a.from a.ended a.bytes.now l.rows l.at c.line-part.result l.invariant.0 c.line-part.ensures)
+    omega (arith, line-ends a.start a.from a.ended a.bytes.now l.rows l.at _ l.invariant.0 c.in-Some.ensures)
 
 pub slice_bounds-step-end : goal.slice_bounds-step-end
 slice_bounds-step-end c =
     let a = c.args in
     let l = c.loop-at in
-    omega (arith, line-ends a.start a.from a.ended a.bytes.now l.rows l.at c.line-part.result l.invariant.0 c.line-part.ensures)
+    omega (arith, line-ends a.start a.from a.ended a.bytes.now l.rows l.at _ l.invariant.0 c.in-Some.ensures)
 
 pub step-reply-requires : goal.step-reply-requires
 step-reply-requires c = c.loop-at.invariant.1
@@ -36,7 +35,7 @@ returns-then-not-is_more c =
     let a = c.args in
     let l = c.loop-at in
     subst⁻¹ (FedBy _ _ _ _) c.over.ensures
-    (taken-over a.start a.from a.ended a.bytes.now l.rows l.at c.line-part.result l.invariant.0 c.line-part.ensures c.step-reply.result (not-false _ c.if-not-part.false) c.step-reply.ensures.0
+    (taken-over a.start a.from a.ended a.bytes.now l.rows l.at _ l.invariant.0 c.in-Some.ensures c.step-reply.result refl c.step-reply.ensures.0
     (sym c.is_more.ensures ∙ c.if-not-is_more.true))
 
 pub loop-at-smaller : goal.loop-at-smaller
@@ -45,15 +44,15 @@ loop-at-smaller c =
     let l = c.loop-at in
     omega (
       arith,
-      next-within a.start a.from a.ended a.bytes.now l.rows l.at c.line-part.result l.invariant.0 c.line-part.ensures,
-      moves a.start a.from a.ended a.bytes.now l.rows l.at c.line-part.result l.invariant.0 c.line-part.ensures c.loop-at-test.true,
+      next-within a.start a.from a.ended a.bytes.now l.rows l.at _ l.invariant.0 c.in-Some.ensures,
+      moves a.start a.from a.ended a.bytes.now l.rows l.at _ l.invariant.0 c.in-Some.ensures c.loop-at-test.true,
     )
 
 pub loop-at-preserved : goal.loop-at-preserved
 loop-at-preserved c =
     let a = c.args in
     let l = c.loop-at in (
-      taken_next a.start a.from a.ended a.bytes.now l.rows l.at c.line-part.result l.invariant.0 c.line-part.ensures c.step-reply.result (not-false _ c.if-not-part.false) c.step-reply.ensures.0
+      taken_next a.start a.from a.ended a.bytes.now l.rows l.at _ l.invariant.0 c.in-Some.ensures c.step-reply.result refl c.step-reply.ensures.0
           (sym c.is_more.ensures ∙ c.if-not-is_more.false),
       c.step-reply.ensures.1,
     )
