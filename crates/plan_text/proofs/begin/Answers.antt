@@ -31,4 +31,4 @@ pub returns : goal.returns
 returns c =
     let d = c.args.table.now in
     let words = c.as_slice.ensures ∙ some-read c.read.result c.in_ok-words.words d c.in_ok-words.ensures.ok_part c.read.ensures.value in
-    ap opening (ap Ok c.before_rows.ensures) ∙ opened-begun d (beginning (Ok c.in_ok-plan.plan)) (c.in_ok-plan.ensures.value ∙ ap begin_of words)
+    opened-begun d (beginning (Ok c.in_ok-plan.plan)) (c.in_ok-plan.ensures.value ∙ ap begin_of words)
