@@ -22,9 +22,7 @@ use Rattle.plan_check.specs.Numbers.{after_row, differs, missed, state_out}
 use Rattle.plan_check.specs.Plan.{cell_count}
 use Rattle.plan_check.specs.Row.{faulty, any_unknown_byte, worked_row}
 use Rattle.plan_check.specs.State.{horizon_in}
-use Rattle.plan_check.specs.RowAnswer.{state_by_answer}
-use Rattle.plan_check.specs.declared.Answer.{Answer}
-use Rattle.plan_check.specs.declared.Answer.TheVariants.{Refused}
+use Rattle.plan_check.specs.RowAnswer.{Answer, Refused, state_by_answer}
 use Rattle.plan_check.specs.declared.SuppliedPlan.{SuppliedPlan}
 use Rattle.plan_check.specs.CheckRow.{answer_at, final_answer, check_row_answer, check_row_of}
 use Rattle.capi.specs.Calls.{CallResult, call_result, by_room}
