@@ -184,8 +184,8 @@ fn feed_plan(start: PlanProgress, bytes: &[u8], from: usize, ended: bool) -> Fed
 fn begin(table: &[u8]) -> Result<PlanProgress, Refusal>
     ensures { opening result ≡ opened_of table.now }
 {
-    let input = text::read(table);
-    let plan = plan_check::begin(&input.words[..input.count])?;
+    let words = text::read(table).ok_or(Refusal::NotATable)?;
+    let plan = plan_check::begin(words.as_slice())?;
     Ok(PlanProgress {
         plan,
         lines: 0,
