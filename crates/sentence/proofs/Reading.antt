@@ -14,7 +14,8 @@ use Rattle.std.specs.Option.{MatchOption, unwrap_or}
 use Rattle.std.specs.List.{AllWithin, HoldsAt}
 use Rattle.std.specs.Cmp.Lexicographic.{pointwise}
 use Rattle.std.proofs.lemmas.Iterator.{index_from_first}
-use Rattle.model.proofs.Bools.{and_left, and_right, and_both, not-true-false}
+use Rattle.model.proofs.Bools.{and_left, and_right, and_both}
+use Rattle.std.proofs.lemmas.Bool.{false_from_ne_true}
 use Rattle.text.specs.Decimal.{all, is_digit, Digit, value, decimal}
 use Rattle.text.proofs.Values.{digit-exact, digits-exact}
 use Rattle.text.proofs.Decimals.{decimal-digits, decimal-some, decimal-length, decimal-lead, decimal-only, count-one}
@@ -101,7 +102,7 @@ pub digits-first :
 unfolding digits_of
 digits-first bs r h =
     index_from_first digits_of (λ b. Digit b → ⊥) Digit refl
-    (λ b bs n. rw (not-true-false (is_digit b) (λ e. n ((digit-exact b).0 e))))
+    (λ b bs n. rw (false_from_ne_true (is_digit b) (λ e. n ((digit-exact b).0 e))))
     (λ b bs d. rw ((digit-exact b).1 d) (omega arith))
     bs r h
 
