@@ -1,32 +1,31 @@
 // The rows of the full-length run, into a lent buffer.
 #![tactic(auto)]
 
-ghost use Rattle.std.specs.Prelude.{◌≡◌, ◌≤◌, length};
-ghost use Rattle.table.specs.Fit.{loaded_table, Fit};
+ghost use Rattle.std.specs.Prelude.{◌≡◌, length};
+ghost use Rattle.table.specs.Fit.{loaded_table};
 ghost use Rattle.plan.specs.Plan.{planned, by_plan, plan_meaning, buffer_of, PlanOf};
-ghost use Rattle.model.specs.Sizes.{most_cores};
 
 use model::Refusal;
-use table::Loaded;
+use table::Fitting;
 
 mod rows; // rows.rt: rows into the buffer
 
 // The plan of a table that passed: number 10, 11 or 12, or the rows.
-fn by_table(table: Loaded, a: u32, b: u32, out: &mut [u8]) -> Result<(), Refusal>
-    requires { Fit table × (table.cores ≤ most_cores) }
-    ensures { (planned result ≡ by_plan (loaded_table table) a b (length out.old)) × (out.new ≡ buffer_of (plan_meaning (planned result)) (loaded_table table) a b out.old) }
+fn by_table(table: Fitting, a: u32, b: u32, out: &mut [u8]) -> Result<(), Refusal>
+    ensures { (planned result ≡ by_plan (loaded_table table.loaded) a b (length out.old)) × (out.new ≡ buffer_of (plan_meaning (planned result)) (loaded_table table.loaded) a b out.old) }
 {
+    let loaded = table.loaded;
     if b < a {
         return Err(Refusal::BadRange);
     }
-    if table.horizon < b {
+    if loaded.horizon < b {
         return Err(Refusal::BadRange);
     }
-    let bytes = (b - a) as u64 * table.cores as u64;
+    let bytes = (b - a) as u64 * loaded.cores as u64;
     if (out.len() as u64) < bytes {
         return Err(Refusal::ShortRows);
     }
-    match judge::fastest::first_miss(table, b) {
+    match judge::fastest::first_miss(loaded, b) {
         None => {
             rows::write(table, a, b, out);
             Ok(())
@@ -40,6 +39,6 @@ fn by_table(table: Loaded, a: u32, b: u32, out: &mut [u8]) -> Result<(), Refusal
 pub fn plan(words: &[u32], a: u32, b: u32, out: &mut [u8]) -> Result<(), Refusal>
     ensures { PlanOf words.now a b out.old out.new (planned result) }
 {
-    let table = table::load(words)?;
+    let table = Fitting::load(words)?;
     by_table(table, a, b, out)
 }

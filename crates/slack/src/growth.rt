@@ -9,7 +9,7 @@ ghost use Rattle.slack.specs.Ordered.{ordered};
 ghost use Rattle.slack.specs.Slack.{misses, slack};
 
 use model::MOST_TASKS;
-use table::{Fitting, Loaded};
+use table::Fitting;
 
 // Whether a deadline is missed.
 fn misses(table: Fitting) -> bool
@@ -34,15 +34,10 @@ fn misses_longer(table: Fitting, place: usize, growth: u32) -> bool
 fn is_ordered(table: Fitting) -> bool
     ensures { result ≡ ordered (loaded_table table.loaded).rule (loaded_table table.loaded).tasks }
 {
-    let Loaded {
-        rule,
-        tasks,
-        count,
-        ..
-    } = table.loaded;
-    match rule {
+    let loaded = &table.loaded;
+    match loaded.rule {
         3 | 4 => false,
-        _ => judge::is_firm(rule, tasks, count),
+        _ => judge::is_firm(loaded.rule, &loaded.tasks[..loaded.count]),
     }
 }
 
