@@ -11,23 +11,23 @@ use table::Fitting;
 mod rows; // rows.rt: rows into the buffer
 
 // The plan of a table that passed: number 10, 11 or 12, or the rows.
-fn by_table(table: Fitting, a: u32, b: u32, out: &mut [u8]) -> Result<(), Refusal>
-    ensures { (planned result ≡ by_plan (loaded_table table.loaded) a b (length out.old)) × (out.new ≡ buffer_of (plan_meaning (planned result)) (loaded_table table.loaded) a b out.old) }
+fn by_table(fitting: Fitting, a: u32, b: u32, out: &mut [u8]) -> Result<(), Refusal>
+    ensures { (planned result ≡ by_plan (loaded_table fitting.loaded) a b (length out.old)) × (out.new ≡ buffer_of (plan_meaning (planned result)) (loaded_table fitting.loaded) a b out.old) }
 {
-    let loaded = table.loaded;
+    let table = fitting.loaded;
     if b < a {
         return Err(Refusal::BadRange);
     }
-    if loaded.horizon < b {
+    if table.horizon < b {
         return Err(Refusal::BadRange);
     }
-    let bytes = (b - a) as u64 * loaded.cores as u64;
+    let bytes = (b - a) as u64 * table.cores as u64;
     if (out.len() as u64) < bytes {
         return Err(Refusal::ShortRows);
     }
-    match judge::fastest::first_miss(loaded, b) {
+    match judge::fastest::first_miss(table, b) {
         None => {
-            rows::write(table, a, b, out);
+            rows::write(fitting, a, b, out);
             Ok(())
         }
         Some(_) => Err(Refusal::PastMiss),
@@ -39,6 +39,6 @@ fn by_table(table: Fitting, a: u32, b: u32, out: &mut [u8]) -> Result<(), Refusa
 pub fn plan(words: &[u32], a: u32, b: u32, out: &mut [u8]) -> Result<(), Refusal>
     ensures { PlanOf words.now a b out.old out.new (planned result) }
 {
-    let table = Fitting::load(words)?;
-    by_table(table, a, b, out)
+    let fitting = Fitting::load(words)?;
+    by_table(fitting, a, b, out)
 }
