@@ -19,7 +19,7 @@ fn misses(table: Fitting) -> bool
 }
 
 // Whether a deadline is missed with the task at a place longer by `growth` ticks.
-// The place is a number, since the tasks after it are those of the table too.
+// The place is a number: a task by reference would not say which one of the table grows.
 fn misses_longer(table: Fitting, place: usize, growth: u32) -> bool
     requires { (place < table.loaded.count) × ((task (loaded_table table.loaded) place).length + growth ≤ most_time) }
     ensures { result ≡ misses (grown (loaded_table table.loaded) place growth) }
