@@ -19,6 +19,7 @@ use table::{Loaded, Task};
 use text::row::{CELLS, LINE};
 use text::{first, row};
 
+// Lengths of buffers that lie in the printer, without a heap: beside the registers, since a step of the loop returns all three.
 // The state of the printing: the registers of its run, the length of the row's text, and that of the line.
 #[derive(Clone, Copy)]
 pub struct Stage {
@@ -41,6 +42,7 @@ pub struct Printer {
     pub given: usize,
 }
 
+// A count of the caller's bytes, as a read gives it: the buffer is lent.
 // The number of bytes written, and the printer of what is left.
 #[derive(Clone, Copy)]
 pub struct Piece {
@@ -48,6 +50,7 @@ pub struct Piece {
     pub length: usize,
 }
 
+// A row's text is made anew where the choice has changed, as plan's row is: of other arguments, into another buffer.
 // Writes the line of a tick, and takes the run one tick on.
 fn next_line(
     columns: &Columns,
@@ -122,6 +125,7 @@ fn start(table: Loaded, end: u32, verdict: Verdict) -> Printer
     }
 }
 
+// Zeros, since the table of a printer is public, and `valid` and `PieceOf` speak of it in every printer.
 // A table without tasks, of which no rows are printed.
 fn no_table() -> Loaded
     ensures { result ≡ no_table }
@@ -165,11 +169,11 @@ impl Printer {
     pub fn new(bytes: &[u8]) -> Printer
         ensures { MadeFrom bytes.now result }
     {
-        // what is no table's text has no numbers, and no words are refused likewise: 1 0
-        let input = text::read(bytes);
-        let words = input.words;
-        let count = input.count;
-        of_words(&words[..count])
+        match text::read(bytes) {
+            Some(words) => of_words(words.as_slice()),
+            // what is no table's text has no numbers, and no words are refused likewise: 1 0
+            None => of_words(&[]),
+        }
     }
 
     // Fills the buffer with the next bytes of the output, from a printer that is valid.
@@ -214,7 +218,7 @@ impl Printer {
         }
     }
 
-    // Fills the buffer with the next bytes of the output; a printer that is not valid has none.
+    // Fills the buffer with the next bytes of the output; a printer that is not valid has none: its length is 0, by `PieceOf`, as that of one at its end.
     pub fn piece(self, buffer: &mut [u8]) -> Piece
         ensures { PieceOf self buffer.old buffer.new result }
     {

@@ -10,6 +10,7 @@ use table::Loaded;
 use table::limits::MOST_HORIZON;
 use text::row::{CELLS, LINE};
 
+// `task_number` is public and answers 0, 7 or 8: 0 is none.
 // Whether a table's count, core count and tasks are in their limits.
 fn table_valid(table: Loaded) -> bool
     ensures { result ≡ table_valid table }
@@ -42,6 +43,7 @@ fn owed(places: [u32; TRIPLE]) -> u32
     set
 }
 
+// One expression: the library has no sets of bits.
 // Whether every place of one set is in another.
 fn within(a: u32, b: u32) -> bool
     ensures { result ≡ within a b }

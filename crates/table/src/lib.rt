@@ -9,8 +9,10 @@ mod chain; // chain.rt: the walk along the chain, numbers 5 and 6
 pub mod checks; // checks.rt: numbers 7 to 9, and what passes
 mod start; // start.rt: S of a position from the S before it
 pub mod positions; // positions.rt: the walk along the positions that finds the last S
+mod fitting; // fitting.rt: a table that is fit to be run
 pub mod hyperperiod; // hyperperiod.rt: P, the least common multiple of the periods, of 2T where widths differ
 
+pub use fitting::Fitting;
 use model::{MOST_TASKS, Refusal};
 
 // The number of words of the header, and of each record.
