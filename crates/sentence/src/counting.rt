@@ -51,9 +51,6 @@ pub fn count(table: Loaded, tick: u32, place: usize) -> Facts
     let late = tasks[place];
     let release = tick - late.deadline;
     let columns = simulation::columns::columns_of(table);
-    let setting = columns.setting;
-    let widths = columns.widths;
-    let times = columns.times;
     let machine = simulation::machine::start(table);
     let mut registers = machine.registers;
     let mut places = machine.places;
@@ -61,14 +58,7 @@ pub fn count(table: Loaded, tick: u32, place: usize) -> Facts
     // no plainer as a `for`: the tick is a register of the run, and a step sets it
     while registers.tick < tick {
         let before = registers.tick;
-        let on = judge::by_ticks::run_on(
-            setting,
-            &widths,
-            &times,
-            registers,
-            &mut places,
-            before + 1,
-        );
+        let on = judge::by_ticks::run_on(&columns, registers, &mut places, before + 1);
         registers = on.registers;
         if release <= before {
             let granted = registers.granted;
