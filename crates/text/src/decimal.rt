@@ -1,8 +1,10 @@
 // Numbers written in decimal.
 // By hand: the bytes go into the caller's slice from a place on. The library's text without a heap, `InlineText`, has its own buffer.
-ghost use Rattle.std.specs.Prelude.{◌≡◌, ◌+◌, ◌≤◌, length};
+ghost use Rattle.std.specs.Prelude.{◌≡◌, ◌++◌, ◌+◌, ◌≤◌, length};
 ghost use Rattle.text.specs.Decimal.{digit_count, decimal};
 ghost use Rattle.text.specs.Written.{Put};
+
+use crate::row;
 
 // The number of digits of a number.
 fn digits(number: u64) -> usize
@@ -23,4 +25,13 @@ pub fn put(line: &mut [u8], at: usize, number: u64) -> usize
         left /= 10;
     }
     at + count
+}
+
+// Writes a word and a number after it; returns where they end.
+pub fn put_after(line: &mut [u8], at: usize, word: &[u8], number: u64) -> usize
+    requires { at + length (word.now ++ decimal number) ≤ length line.old }
+    ensures { Put line.old at (word.now ++ decimal number) line.new result }
+{
+    let start = row::put(line, at, word);
+    put(line, start, number)
 }

@@ -16,14 +16,22 @@ pub const CELLS: usize = ROW * (1 + 3) + 1;
 // The most bytes that a line can take: a tick and the cells of its row.
 pub const LINE: usize = crate::DIGITS + CELLS;
 
+// Writes bytes into the line from `at` on; returns where they end.
+pub fn put(line: &mut [u8], at: usize, bytes: &[u8]) -> usize
+    requires { at + length bytes.now ≤ length line.old }
+    ensures { Put line.old at bytes.now line.new result }
+{
+    let end = at + bytes.len();
+    line[at..end].copy_from_slice(bytes);
+    end
+}
+
 // Writes `count` bytes, those of `from` that begin at `start`, into `to` from `at` on; returns where they end.
 pub fn copy(from: &[u8], start: usize, count: usize, to: &mut [u8], at: usize) -> usize
     requires { (start + count ≤ length from.now) × (at + count ≤ length to.old) }
     ensures { Put to.old at (take count (drop start from.now)) to.new result }
 {
-    let end = at + count;
-    to[at..end].copy_from_slice(&from[start..start + count]);
-    end
+    put(to, at, &from[start..start + count])
 }
 
 // Writes a byte's value in decimal into the text from `at` on; returns where it ends.
@@ -63,5 +71,5 @@ pub fn put_row(line: &mut [u8], tick: u32, text: &[u8], count: usize) -> usize
     ensures { (Put line.old 0 (decimal tick ++ take count text.now) line.new result) × (result ≤ longest_line) }
 {
     let at = decimal::put(line, 0, tick as u64);
-    copy(text, 0, count, line, at)
+    put(line, at, &text[..count])
 }
