@@ -35,6 +35,7 @@ fn noting(run: Run, noted: [Note; MOST_TASKS]) -> [Note; MOST_TASKS]
 }
 
 // A run that arrives at a tick: at the last S its phases are recorded.
+// The start alone, and its clause: an Extent that held the fact would ask more of the callers of `enter`, who build one.
 pub(crate) fn state_at(run: Run, tick: u32, start: u32, noted: [Note; MOST_TASKS]) -> SuppliedPlan
     requires fact_1 { run.count ≤ most_tasks }
     requires fact_2 { start ≡ start_in run }
