@@ -16,6 +16,7 @@ fn worked(run: Run, cells: &[u8; BYTES]) -> Run
     ensures { result ≡ worked_with run cells.now }
 {
     let mut next = run;
+    // By an index: after a `zip` with `iter_mut` nothing is known of the array (tried in rule and priority_order).
     for i in 0..run.count {
         next.tasks[i] = run.tasks[i].next(run.rule, false, 0 < cells[i + 1], false, false);
     }
@@ -28,6 +29,7 @@ fn noting(run: Run, noted: [Note; MOST_TASKS]) -> [Note; MOST_TASKS]
     ensures { result ≡ noting run noted }
 {
     let mut notes = noted;
+    // By an index, as in `worked`.
     for i in 0..run.count {
         notes[i].phase = run.tasks[i].phase;
     }
