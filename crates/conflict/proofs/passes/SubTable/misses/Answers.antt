@@ -9,7 +9,7 @@ use Rattle.conflict.specs.Conflict.{conflicts}
 use Rattle.conflict.specs.Relinked.{padded, relinked}
 use Rattle.conflict.proofs.Judging.{conflicts-by, verdict_miss}
 use Rattle.conflict.proofs.Relinked.{same_length}
-use Rattle.conflict.proofs.passes.still_misses.Goals as goal
+use Rattle.conflict.proofs.passes.SubTable.misses.Goals as goal
 
 -- no other verdict is a miss
 other : (v : Verdict) → ((t p : ℕ) → v ≡ Miss t p → ⊥) → verdict_miss v ≡ false
@@ -30,19 +30,19 @@ module _ (ws : List ℕ) (none : NoneApplies ws) (x : ℕ) (part : List ℕ) (is
   says v j = conflicts-by ws none x v (subst (λ (us : List ℕ). Judged us v) front j)
 
 pub slice_bounds-part-end : goal.slice_bounds-part-end
-slice_bounds-part-end c = fits c.args.words.now c.requires c.args.kept c.relinked-part.result c.relinked-part.ensures
+slice_bounds-part-end c = fits c.args.self.words.now c.args.self.passes c.args.self.kept c.relinked-part.result c.relinked-part.ensures
 
 pub slice_bounds-judge-end : goal.slice_bounds-judge-end
 slice_bounds-judge-end c =
-    let l = fits c.args.words.now c.requires c.args.kept c.relinked-part.result c.relinked-part.ensures in
+    let l = fits c.args.self.words.now c.args.self.passes c.args.self.kept c.relinked-part.result c.relinked-part.ensures in
     omega (arith, length-take {A = ℕ})
 
 pub returns-in-Miss : goal.returns-in-Miss
 returns-in-Miss c =
     let miss : verdict_miss c.judge-verdict.result ≡ true = cc in
-    sym (says c.args.words.now c.requires c.args.kept c.relinked-part.result c.relinked-part.ensures c.judge-verdict.result c.judge-verdict.ensures ∙ miss)
+    sym (says c.args.self.words.now c.args.self.passes c.args.self.kept c.relinked-part.result c.relinked-part.ensures c.judge-verdict.result c.judge-verdict.ensures ∙ miss)
 
 pub returns-in_default : goal.returns-in_default
 returns-in_default c =
-    sym (says c.args.words.now c.requires c.args.kept c.relinked-part.result c.relinked-part.ensures c.judge-verdict.result c.judge-verdict.ensures
+    sym (says c.args.self.words.now c.args.self.passes c.args.self.kept c.relinked-part.result c.relinked-part.ensures c.judge-verdict.result c.judge-verdict.ensures
     ∙ other c.judge-verdict.result c.in_default.not-Miss)
