@@ -1,9 +1,12 @@
 // An answer in three words: the case and its two numbers.
-ghost use Rattle.std.specs.Prelude.{◌≡◌, ◌≤◌, length};
-ghost use Rattle.buffers.specs.AnswerWords.{answer_words, of_verdict, of_taken, of_read_back};
+ghost use Rattle.std.specs.Prelude.{◌≡◌, ◌≤◌, length, cond, Some, None};
+ghost use Rattle.refinement.specs.Replayed.{replayed_in};
+ghost use Rattle.buffers.specs.AnswerWords.{answer_words, of_verdict, of_result, fitted, of_replayed, of_taken, of_read_back};
 ghost use Rattle.buffers.specs.AnswerWords.{met_word, answer_size, slices_fit, answer_written};
 
 use judge::Verdict;
+use model::Refusal;
+use refinement::ReplayError;
 
 // The words of an answer.
 const WORDS: usize = 3;
@@ -28,47 +31,56 @@ fn answer_words(kind: u32, first: u32, second: u32) -> AnswerWords
     }
 }
 
-// Taken, with a number beside it, 0 where there is none.
-pub fn taken(first: u32) -> AnswerWords
-    ensures { result ≡ answer_words 0 first 0 }
-{
-    answer_words(0, first, 0)
-}
-
-// Refused with number and position.
-pub fn refused(number: u32, position: u32) -> AnswerWords
-    ensures { result ≡ answer_words 3 number position }
-{
-    answer_words(3, number, position)
-}
-
-// The last row of a replay, refused with number and position.
-pub fn row_refused(number: u32, position: u32) -> AnswerWords
-    ensures { result ≡ answer_words 4 number position }
-{
-    answer_words(4, number, position)
-}
-
 // The judge's four cases.
-pub fn of_verdict(verdict: Verdict) -> AnswerWords
-    ensures { result ≡ of_verdict verdict }
-{
-    match verdict {
-        Verdict::Firm(start, period) => answer_words(0, start, period),
-        Verdict::Full(start, period) => answer_words(1, start, period),
-        Verdict::Miss(tick, position) => answer_words(2, tick, position),
-        Verdict::Refused(number, position) => refused(number, position),
+impl From<Verdict> for AnswerWords {
+    ghost from_gives = { λ verdict words. words ≡ of_verdict verdict };
+
+    fn from(verdict: Verdict) -> AnswerWords {
+        match verdict {
+            Verdict::Firm(start, period) => answer_words(0, start, period),
+            Verdict::Full(start, period) => answer_words(1, start, period),
+            Verdict::Miss(tick, position) => answer_words(2, tick, position),
+            Verdict::Refused(number, position) => answer_words(3, number, position),
+        }
     }
 }
 
-// The answer to a row, in three words.
-pub fn of_taken(answer: plan_check::Answer) -> AnswerWords
-    ensures { result ≡ of_taken answer }
+// Given, with a number beside it, 0 where there is none; or refused with number and position.
+impl From<Result<u32, Refusal>> for AnswerWords {
+    ghost from_gives = { λ given words. words ≡ of_result given };
+
+    fn from(given: Result<u32, Refusal>) -> AnswerWords {
+        match given {
+            Ok(beside) => answer_words(0, beside, 0),
+            Err(refusal) => answer_words(3, refusal.number(), refusal.position()),
+        }
+    }
+}
+
+// A replay's answer; none where the lent slices do not fit.
+pub fn of_replayed(given: Result<(), ReplayError>) -> Option<AnswerWords>
+    ensures { result ≡ cond (fitted (replayed_in given)) (Some (of_replayed (replayed_in given))) None }
 {
-    match answer {
-        plan_check::Answer::Taken => taken(0),
-        plan_check::Answer::Accepted => answer_words(6, 0, 0),
-        plan_check::Answer::Refused(number, tick) => refused(number, tick),
+    match given {
+        Ok(()) => Some(answer_words(0, 0, 0)),
+        Err(ReplayError::Start(refusal)) => Some(AnswerWords::from(Err(refusal))),
+        Err(ReplayError::Row(refusal)) => {
+            Some(answer_words(4, refusal.number(), refusal.position()))
+        }
+        Err(ReplayError::Unfit) => None,
+    }
+}
+
+// The answer to a row: taken, accepted, or refused with number and tick.
+impl From<plan_check::Answer> for AnswerWords {
+    ghost from_gives = { λ answer words. words ≡ of_taken answer };
+
+    fn from(answer: plan_check::Answer) -> AnswerWords {
+        match answer {
+            plan_check::Answer::Taken => answer_words(0, 0, 0),
+            plan_check::Answer::Accepted => answer_words(6, 0, 0),
+            plan_check::Answer::Refused(number, tick) => answer_words(3, number, tick),
+        }
     }
 }
 
@@ -77,7 +89,7 @@ pub fn of_parsed(found: bool) -> AnswerWords
     ensures { result ≡ of_read_back found }
 {
     if found {
-        return taken(0);
+        return answer_words(0, 0, 0);
     }
     answer_words(5, 0, 0)
 }
