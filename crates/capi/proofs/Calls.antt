@@ -1,5 +1,5 @@
 -- The results of the calls, by whether the lent slices have space.
-use mathlib.Core.Path.{◌≡◌, refl, ap, ◌∙◌}
+use mathlib.Core.Path.{◌≡◌, refl, sym, ap, ◌∙◌}
 use mathlib.Core.Bool.{Bool, true, false, ◌&&◌}
 use mathlib.Core.List.{List, [], ◌∷◌}
 use Prim.Native.Nat.{ℕ, ◌≤◌}
@@ -24,7 +24,7 @@ module _ (lent answer : List ℕ) (need : ℕ) {value : ℕ} {left said : List �
       let (front, same) = given e w gave in
       let all : said ≡ answer_written words answer = put ∙ ap (λ (t : AnswerWords). answer_written t answer) same in
       (λ i. call_result (zero i) (front i ∷ (all i ∷ [])))
-  by-fit false e = let (one, kept, as-found) = short e in (λ i. call_result (one i) (kept i ∷ (as-found i ∷ [])))
+  by-fit false e = let (one, kept, rest) = short e in (λ i. call_result (one i) (kept i ∷ (rest i ∷ [])))
 
   pub lending :
       call_result value (left ∷ (said ∷ []))
@@ -52,10 +52,23 @@ module _ (answer : List ℕ) {value : ℕ} {said : List ℕ} {gives : AnswerWord
       let (w, gave, zero, put) = fits e in
       let all : said ≡ answer_written words answer = put ∙ ap (λ (t : AnswerWords). answer_written t answer) (given w gave) in
       (λ i. call_result (zero i) (all i ∷ []))
-  by-space false e = let (one, as-found) = short e in (λ i. call_result (one i) (as-found i ∷ []))
+  by-space false e = let (one, kept) = short e in (λ i. call_result (one i) (kept i ∷ []))
 
   pub answering : call_result value (said ∷ []) ≡ by_room (answer_fits answer) (answer_written words answer ∷ []) (answer ∷ [])
   answering = by-space (answer_fits answer) refl
+
+-- two lent slices by their equations
+pub both : {k l m n : List ℕ} → k ≡ m → l ≡ n → call_result 0 (k ∷ (l ∷ [])) ≡ call_result 0 (m ∷ (n ∷ []))
+both p q = λ i. call_result 0 (p i ∷ (q i ∷ []))
+
+-- a call is answered where they have space ..
+module _ {t : Bool} (lent found : List (List ℕ)) where
+  pub fitting : t ≡ true → call_result 0 lent ≡ by_room t lent found
+  fitting e = ap (λ (b : Bool). by_room b lent found) (sym e)
+
+  -- .. and else leaves them as found
+  pub as-found : t ≡ false → call_result 1 found ≡ by_room t lent found
+  as-found e = ap (λ (b : Bool). by_room b lent found) (sym e)
 
 -- the words of an answer, written
 pub words_of : (old : List ℕ) {new : List ℕ} {t u : AnswerWords} → new ≡ answer_written t old → t ≡ u → new ≡ answer_written u old

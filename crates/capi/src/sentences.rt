@@ -1,22 +1,31 @@
 // The calls for a sentence, and for its facts.
-ghost use Rattle.std.specs.Prelude.{◌≡◌, [], ◌∷◌};
+ghost use Rattle.std.specs.Prelude.{◌≡◌, [], ◌∷◌, length};
+ghost use Rattle.sentence.specs.Waiting.{facts_of};
+ghost use Rattle.sentence.specs.SentenceAnswer.{sentence_answer_of, sentence_meaning, left_in};
+ghost use Rattle.buffers.specs.AnswerWords.{of_sentence};
 ghost use Rattle.capi.specs.Sentences.{sentence_call, facts_call};
 
 use crate::results;
 use buffers::answer_words::AnswerWords;
 use buffers::{answer_words, facts};
 
+// The sentence of a table's words at the front of a buffer, and its length in words.
+fn sentence_in(words: &[u32], buffer: &mut [u8]) -> AnswerWords
+    ensures left { buffer.new ≡ left_in (sentence_meaning (sentence_answer_of words.now (length buffer.old))) (facts_of words.now) buffer.old }
+    ensures answer { result ≡ of_sentence (sentence_answer_of words.now (length buffer.old)) }
+{
+    match sentence::sentence(words, buffer) {
+        Ok(length) => AnswerWords::from(Ok(length as u32)),
+        Err(refusal) => AnswerWords::from(Err(refusal)),
+    }
+}
+
 // The miss of a table's words in a sentence at the front of `buffer`: case 0 and its length, or 3 Refused number position and the buffer as found.
 #[unsafe(no_mangle)]
 pub extern "C" fn sivorandra_sentence(words: &[u32], buffer: &mut [u8], answer: &mut [u32]) -> u32
     ensures { record { value = result; lent = buffer.new ∷ (answer.new ∷ []) } ≡ sentence_call words.now buffer.old answer.old }
 {
-    results::answered(buffer, 0, answer, |buffer| {
-        match sentence::sentence(words, buffer) {
-            Ok(length) => AnswerWords::from(Ok(length as u32)),
-            Err(refusal) => AnswerWords::from(Err(refusal)),
-        }
-    })
+    results::answered(buffer, 0, answer, |buffer| sentence_in(words, buffer))
 }
 
 // The facts in the bytes of a sentence into the first 36 words of `facts`: position, tick, ticks had, C, and the counts of positions 1 to 32,
