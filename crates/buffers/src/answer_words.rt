@@ -1,11 +1,13 @@
 // An answer in three words: the case and its two numbers.
 ghost use Rattle.std.specs.Prelude.{◌≡◌, ◌≤◌, length, cond, Some, None};
+ghost use Rattle.plan_check.specs.RowAnswer.{answer_in};
 ghost use Rattle.refinement.specs.Replayed.{replayed_in};
 ghost use Rattle.buffers.specs.AnswerWords.{answer_words, of_verdict, of_result, fitted, of_replayed, of_taken, of_read_back};
 ghost use Rattle.buffers.specs.AnswerWords.{met_word, answer_size, slices_fit, answer_written};
 
 use judge::Verdict;
 use model::Refusal;
+use plan_check::Progress;
 use refinement::ReplayError;
 
 // The words of an answer.
@@ -63,7 +65,7 @@ pub fn of_replayed(given: Result<(), ReplayError>) -> Option<AnswerWords>
 {
     match given {
         Ok(()) => Some(answer_words(0, 0, 0)),
-        Err(ReplayError::Start(refusal)) => Some(AnswerWords::from(Err(refusal))),
+        Err(ReplayError::Start(refusal)) => Some(AnswerWords::from(Err::<u32, Refusal>(refusal))),
         Err(ReplayError::Row(refusal)) => {
             Some(answer_words(4, refusal.number(), refusal.position()))
         }
@@ -72,14 +74,14 @@ pub fn of_replayed(given: Result<(), ReplayError>) -> Option<AnswerWords>
 }
 
 // The answer to a row: taken, accepted, or refused with number and tick.
-impl From<plan_check::Answer> for AnswerWords {
-    ghost from_gives = { λ answer words. words ≡ of_taken answer };
+impl From<Result<Progress, Refusal>> for AnswerWords {
+    ghost from_gives = { λ given words. words ≡ of_taken (answer_in given) };
 
-    fn from(answer: plan_check::Answer) -> AnswerWords {
-        match answer {
-            plan_check::Answer::Taken => answer_words(0, 0, 0),
-            plan_check::Answer::Accepted => answer_words(6, 0, 0),
-            plan_check::Answer::Refused(number, tick) => answer_words(3, number, tick),
+    fn from(given: Result<Progress, Refusal>) -> AnswerWords {
+        match given {
+            Ok(Progress::Taken) => answer_words(0, 0, 0),
+            Ok(Progress::Accepted) => answer_words(6, 0, 0),
+            Err(refusal) => AnswerWords::from(Err::<u32, Refusal>(refusal)),
         }
     }
 }

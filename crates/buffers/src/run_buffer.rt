@@ -116,12 +116,12 @@ fn put_place(task: Task, words: &mut [u32])
     ensures { words.new ≡ place_words task ++ drop each_words words.old }
 {
     let phase = PhaseWords::from(task.phase);
-    words[0] = task.offset;
-    words[1] = task.width;
-    words[2] = task.length;
-    words[3] = task.deadline;
-    words[4] = task.period;
-    words[5] = task.second;
+    words[0] = task.parameters.offset;
+    words[1] = task.parameters.width;
+    words[2] = task.parameters.length;
+    words[3] = task.parameters.deadline;
+    words[4] = task.parameters.period;
+    words[5] = task.parameters.second;
     words[PARITY] = u32::from(task.even);
     words[KIND] = phase.kind;
     words[FIRST] = phase.first;
@@ -178,12 +178,14 @@ fn place_in(words: &[u32]) -> Option<Task>
         third: words[THIRD],
     });
     Some(Task {
-        offset: words[0],
-        width: words[1],
-        length: words[2],
-        deadline: words[3],
-        period: words[4],
-        second: words[5],
+        parameters: table::Task {
+            offset: words[0],
+            width: words[1],
+            length: words[2],
+            deadline: words[3],
+            period: words[4],
+            second: words[5],
+        },
         even: words[PARITY] == 1,
         phase: phase.ok()?,
     })

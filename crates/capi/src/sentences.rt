@@ -15,8 +15,8 @@ fn sentence_in(words: &[u32], buffer: &mut [u8]) -> AnswerWords
     ensures answer { result ≡ of_sentence (sentence_answer_of words.now (length buffer.old)) }
 {
     match sentence::sentence(words, buffer) {
-        Ok(length) => AnswerWords::from(Ok(length as u32)),
-        Err(refusal) => AnswerWords::from(Err(refusal)),
+        Ok(length) => AnswerWords::from(Ok::<u32, Refusal>(length as u32)),
+        Err(refusal) => AnswerWords::from(Err::<u32, Refusal>(refusal)),
     }
 }
 
@@ -36,7 +36,7 @@ pub extern "C" fn sivorandra_facts(bytes: &[u8], facts: &mut [u64], answer: &mut
 {
     results::answered(facts, facts::WORDS, answer, |facts| {
         let found = sentence::facts_of(bytes);
-        facts::put_facts(found.facts, facts);
-        answer_words::of_parsed(found.found)
+        facts::put_facts(found.unwrap_or_default(), facts);
+        answer_words::of_parsed(found.is_some())
     })
 }

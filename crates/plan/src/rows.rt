@@ -25,16 +25,13 @@ pub(crate) fn write(table: Loaded, a: u32, b: u32, out: &mut [u8])
 {
     let cores = table.cores as usize;
     let columns = simulation::columns::columns_of(table);
-    let setting = columns.setting;
-    let widths = columns.widths;
-    let times = columns.times;
     let idle = rule::show(
         table.rule,
         table.cores,
         table.fence,
         0,
         0,
-        &widths,
+        &columns.widths,
         table.count,
     );
     let machine = simulation::machine::start(table);
@@ -47,7 +44,7 @@ pub(crate) fn write(table: Loaded, a: u32, b: u32, out: &mut [u8])
     let mut at: usize = 0;
     while registers.tick < b {
         let tick = registers.tick;
-        registers = simulation::ticks::step(setting, &widths, &times, registers, &mut places);
+        registers = simulation::ticks::step(&columns, registers, &mut places);
         if a <= tick {
             if (registers.chosen != shown) | (registers.even != even) {
                 let fresh = rule::show(
@@ -56,7 +53,7 @@ pub(crate) fn write(table: Loaded, a: u32, b: u32, out: &mut [u8])
                     table.fence,
                     registers.chosen,
                     registers.even,
-                    &widths,
+                    &columns.widths,
                     table.count,
                 );
                 row = fresh;

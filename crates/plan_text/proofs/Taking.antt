@@ -18,8 +18,8 @@ use Rattle.plan_check.specs.Numbers.{StateOut, after_row, missed, state_out}
 use Rattle.plan_check.specs.Row.{faulty}
 use Rattle.plan_check.specs.State.{horizon_in}
 use Rattle.plan_check.specs.CheckRow.{answer_at, check_row_answer, check_row_of}
-use Rattle.plan_check.specs.declared.Answer.{Answer}
-use Rattle.plan_check.specs.declared.Answer.TheVariants as answer
+use Rattle.plan_check.specs.RowAnswer.{Answer}
+use Rattle.plan_check.specs.RowAnswer as answer
 use Rattle.plan_check.specs.declared.SuppliedPlan.{SuppliedPlan}
 use Rattle.plan_check.proofs.Deciding.{state-decides}
 

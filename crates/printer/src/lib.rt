@@ -2,7 +2,7 @@
 #![tactic(auto)]
 
 ghost use Rattle.std.specs.Prelude.{true, ◌≡◌, ◌≤◌, take};
-ghost use Rattle.simulation.specs.TickState.{numbers_by, tick_state_of};
+ghost use Rattle.simulation.specs.TickState.{numbers_of, tick_state_of};
 ghost use Rattle.printer.specs.Valid.{valid};
 ghost use Rattle.printer.specs.Printer.{Stepping, Stepped, PrinterStartOf, WordsPrinter, MadeFrom, PieceOf, no_table};
 ghost use Rattle.model.specs.Sizes.{most_cores, most_tasks};
@@ -12,9 +12,8 @@ mod valid; // valid.rt: whether a printer can be stepped
 
 use judge::Verdict;
 use model::MOST_TASKS;
-use rule::PAIR;
 use simulation::TRIPLE;
-use simulation::columns::Setting;
+use simulation::columns::Columns;
 use simulation::machine::Registers;
 use table::{Loaded, Task};
 use text::row::{CELLS, LINE};
@@ -51,20 +50,19 @@ pub struct Piece {
 
 // Writes the line of a tick, and takes the run one tick on.
 fn next_line(
-    setting: Setting,
-    widths: &[u32; PAIR],
-    times: &[u32; TRIPLE],
+    columns: &Columns,
     stage: Stage,
     places: &mut [u32; TRIPLE],
     text: &mut [u8; CELLS],
     line: &mut [u8; LINE],
 ) -> Stage
-    requires { Stepping (numbers_by setting widths.now times.now) stage places.old text.old line.old }
-    ensures { Stepped (numbers_by setting widths.now times.now) (tick_state_of stage.registers places.old)
+    requires { Stepping (numbers_of columns.now) stage places.old text.old line.old }
+    ensures { Stepped (numbers_of columns.now) (tick_state_of stage.registers places.old)
         (take stage.text text.old) line.old result places.new text.new line.new }
 {
+    let setting = columns.setting;
     let registers = stage.registers;
-    let next = simulation::ticks::step(setting, widths, times, registers, places);
+    let next = simulation::ticks::step(columns, registers, places);
     let mut size = stage.text;
     if (next.chosen != registers.chosen) | (next.even != registers.even) {
         size = cells::put_allocation(
@@ -73,7 +71,7 @@ fn next_line(
             setting.fence,
             next.chosen,
             next.even,
-            widths,
+            &columns.widths,
             setting.count,
             text,
         );
@@ -92,7 +90,6 @@ fn start(table: Loaded, end: u32, verdict: Verdict) -> Printer
     ensures { PrinterStartOf table end verdict result }
 {
     let columns = simulation::columns::columns_of(table);
-    let widths = columns.widths;
     let machine = simulation::machine::start(table);
     let places = machine.places;
     let registers = machine.registers;
@@ -103,7 +100,7 @@ fn start(table: Loaded, end: u32, verdict: Verdict) -> Printer
         table.fence,
         0,
         registers.even,
-        &widths,
+        &columns.widths,
         table.count,
         &mut text,
     );
@@ -183,9 +180,6 @@ impl Printer {
         let table = self.table;
         let end = self.end;
         let columns = simulation::columns::columns_of(table);
-        let setting = columns.setting;
-        let widths = columns.widths;
-        let times = columns.times;
         let mut places = self.places;
         let mut stage = self.stage;
         let mut text = self.row;
@@ -202,15 +196,7 @@ impl Printer {
             if stage.registers.tick == end {
                 break;
             }
-            stage = next_line(
-                setting,
-                &widths,
-                &times,
-                stage,
-                &mut places,
-                &mut text,
-                &mut line,
-            );
+            stage = next_line(&columns, stage, &mut places, &mut text, &mut line);
             given = 0;
         }
         let printer = Printer {
@@ -220,7 +206,7 @@ impl Printer {
             stage,
             row: text,
             line,
-            given: given,
+            given,
         };
         Piece {
             printer,
@@ -236,9 +222,6 @@ impl Printer {
         if printer.valid() {
             return printer.emit(buffer);
         }
-        Piece {
-            printer,
-            length: 0,
-        }
+        Piece { printer, length: 0 }
     }
 }

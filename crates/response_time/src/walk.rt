@@ -14,9 +14,6 @@ pub(crate) fn times_of(table: Loaded) -> Result<[u32; MOST_TASKS], Refusal>
     ensures { answered result ≡ response_times_by (by_miss (missed_before (loaded_table table) (suc table.horizon)) (accepted_of table)) (response_times_in (loaded_table table)) }
 {
     let columns = simulation::columns::columns_of(table);
-    let setting = columns.setting;
-    let widths = columns.widths;
-    let times = columns.times;
     let machine = simulation::events::start(table);
     let mut registers = machine.registers;
     let mut places = machine.places;
@@ -25,17 +22,16 @@ pub(crate) fn times_of(table: Loaded) -> Result<[u32; MOST_TASKS], Refusal>
         if crate::recording::any_left(registers.claiming & registers.due, &places) {
             return Err(Refusal::TableMisses);
         }
-        let on = judge::by_events::run_on(
-            setting,
-            &widths,
-            &times,
-            registers,
-            &mut places,
-            registers.tick + 1,
-        );
+        let on = judge::by_events::run_on(&columns, registers, &mut places, registers.tick + 1);
         registers = on.registers;
         let ended = registers.chosen & (registers.chosen ^ registers.claiming);
-        crate::recording::record_ends(ended, registers.tick, &times, &places, &mut responses);
+        crate::recording::record_ends(
+            ended,
+            registers.tick,
+            &columns.times,
+            &places,
+            &mut responses,
+        );
     }
     Ok(responses)
 }

@@ -1,6 +1,6 @@
 // The table's numbers, place by place, as the machine is stepped with them.
 ghost use Rattle.std.specs.Prelude.{◌≡◌};
-ghost use Rattle.simulation.specs.TickState.{numbers_by, loaded_numbers, paired_in};
+ghost use Rattle.simulation.specs.TickState.{numbers_of, loaded_numbers, paired_in};
 
 use crate::TRIPLE;
 use model::MOST_TASKS;
@@ -8,7 +8,7 @@ use rule::PAIR;
 use table::{Loaded, Task};
 
 // The constants of a run, beside the tasks: the rule, the number of cores, the fence, the number of tasks, and the set of the places with two widths.
-// The rule is a number, since a table of any rule has columns (`numbers_by`).
+// The rule is a number, since a table of any rule has columns (`numbers_of`).
 #[derive(Clone, Copy)]
 pub struct Setting {
     pub rule: u32,
@@ -43,7 +43,7 @@ pub fn paired_in(tasks: [Task; MOST_TASKS]) -> u32
 
 // The numbers of a table, place by place.
 pub fn columns_of(table: Loaded) -> Columns
-    ensures { numbers_by result.setting result.widths result.times ≡ loaded_numbers table }
+    ensures { numbers_of result ≡ loaded_numbers table }
 {
     let mut widths = [0u32; PAIR];
     let mut times = [0u32; TRIPLE];

@@ -42,7 +42,7 @@ fn is_ordered(rule: u32, tasks: [Task; MOST_TASKS], count: usize) -> bool
     if rule == 4 {
         return false;
     }
-    judge::is_firm(rule, tasks, count)
+    judge::is_firm(rule, &tasks[..count])
 }
 
 // Whether slack is given for a table: it is so ordered, and accepted.

@@ -18,8 +18,12 @@ pub const HEADER: usize = 5;
 
 pub const RECORD: usize = 7;
 
+// The most words of a table.
+pub const MOST_WORDS: usize = HEADER + RECORD * MOST_TASKS;
+
 // A task of the table: offset O, width v of its odd jobs, length C, deadline D, period T, and width w of its even jobs.
-#[derive(Clone, Copy)]
+// The default is zeros: no task, the value past the count.
+#[derive(Clone, Copy, Default)]
 pub struct Task {
     pub offset: u32,
     pub width: u32,
@@ -49,11 +53,5 @@ pub fn load(words: &[u32]) -> Result<Loaded, Refusal>
 {
     header::check(words)?;
     let chain = chain::walk(words)?;
-    checks::by_tasks(
-        words[1],
-        header::fence_in(words),
-        words[2],
-        chain.tasks,
-        chain.count,
-    )
+    checks::by_tasks(words[1], header::fence_in(words), words[2], chain)
 }

@@ -35,7 +35,7 @@ pub fn rule_out(rule: u32) -> bool
 pub fn fence_of(low: u32, high: u32) -> u64
     ensures { result ≡ fence_of low high }
 {
-    low as u64 + high as u64 * HIGH
+    u64::from(low) + u64::from(high) * HIGH
 }
 
 // Whether the fence contains a core past the count, or all cores (number 19).
@@ -53,7 +53,7 @@ pub(crate) fn width_out(wide: u32, task: Task) -> bool
 }
 
 // Whether a task's O, C, T or D is outside its limits (number 8).
-fn times_out(task: Task) -> bool
+pub(crate) fn times_out(task: Task) -> bool
     ensures { result ≡ times_out (task_of task) }
 {
     (MOST_TIME < task.offset)

@@ -20,5 +20,4 @@ pub returns : goal.returns
 returns c =
     let d = c.args.table.now in
     let r = c.read-input in
-    ap opening (ap Ok c.before_rows.ensures)
-    ∙ opened-begun d (beginning (Ok c.in_ok-plan.plan)) (ap beginning (sym c.in_ok-plan.was) ∙ c.begin.ensures.value ∙ ap begin_of (numbers-read r.result _ r.ensures.value))
+    opened-begun d (beginning (Ok c.in_ok-plan.plan)) (ap beginning (sym c.in_ok-plan.was) ∙ c.begin.ensures.value ∙ ap begin_of (numbers-read r.result _ r.ensures.value))

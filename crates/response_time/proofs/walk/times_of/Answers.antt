@@ -3,7 +3,7 @@
 use mathlib.Core.Path.{sym, ◌∙◌, subst}
 use native.Mathlib.Omega.{arith}
 use lib.ListN.{replicate}
-use Rattle.simulation.specs.TickState.{numbers_by}
+use Rattle.simulation.specs.TickState.{numbers_of}
 use Rattle.simulation.specs.EventState.{EventState, event_state_of, StateRepresents}
 use Rattle.simulation.specs.Jump.{JumpStarts, JumpOf}
 use Rattle.simulation.proofs.AreEvents.{initial-represents}
@@ -15,7 +15,7 @@ use Rattle.response_time.proofs.walk.times_of.Goals.{Else-any_left, After-run_on
 
 -- where no task is late a jump may begin
 begins : (c : Else-any_left) → let r = c.columns_of-columns.result in
-    JumpStarts c.args.table (numbers_by r.setting r.widths r.times) (event_state_of c.loop-registers.registers c.loop-registers.places)
+    JumpStarts c.args.table (numbers_of r) (event_state_of c.loop-registers.registers c.loop-registers.places)
 begins c =
     let l = c.loop-registers in
     record {
@@ -28,11 +28,11 @@ begins c =
 
 -- one jump is taken
 jump-of : (c : After-run_on-on) → let r = c.columns_of-columns.result in
-    JumpOf (numbers_by r.setting r.widths r.times) (event_state_of c.loop-registers.registers c.loop-registers.places)
+    JumpOf (numbers_of r) (event_state_of c.loop-registers.registers c.loop-registers.places)
     (event_state_of c.run_on-on.result.registers c.run_on-on.new.places)
 jump-of c =
     let r = c.columns_of-columns.result in
-    one-jump c.args.table (numbers_by r.setting r.widths r.times) (event_state_of c.loop-registers.registers c.loop-registers.places) _ _
+    one-jump c.args.table (numbers_of r) (event_state_of c.loop-registers.registers c.loop-registers.places) _ _
     (begins (goal.at.After-run_on-on c).Else-any_left) c.run_on-on.ensures
 
 pub loop-registers-init : goal.loop-registers-init
@@ -54,7 +54,7 @@ record_ends-requires c =
     let a = (goal.at.record_ends-requires c).After-run_on-on in
     let r = c.columns_of-columns.result in
     let l = c.loop-registers in
-    jump_small c.args.table (numbers_by r.setting r.widths r.times) (event_state_of l.registers l.places) (event_state_of c.run_on-on.result.registers _)
+    jump_small c.args.table (numbers_of r) (event_state_of l.registers l.places) (event_state_of c.run_on-on.result.registers _)
     (begins (goal.at.record_ends-requires c).Else-any_left) (jump-of a).value
 
 pub loop-registers-smaller : goal.loop-registers-smaller
@@ -69,7 +69,7 @@ loop-registers-preserved c =
     let r = c.columns_of-columns.result in
     let l = c.loop-registers in (
       ((jump-of a).lands c.args.table b).represents,
-      jump-recorded c.args.table (numbers_by r.setting r.widths r.times) (event_state_of l.registers l.places) (event_state_of c.run_on-on.result.registers _) b
+      jump-recorded c.args.table (numbers_of r) (event_state_of l.registers l.places) (event_state_of c.run_on-on.result.registers _) b
           (jump-of a).value l.responses l.invariant.1 _ c.record_ends.ensures,
     )
 
