@@ -31,7 +31,7 @@ pub const PLACES: usize = model::MOST_TASKS;
 pub const WORDS: usize = HEAD + EACH * PLACES;
 
 // A phase in words: its kind and three numbers, 0 for one that it does not have.
-// The kind is a number, since C's run has words.
+// The kind is a number, here and in the conversions below, since C's run has words.
 #[derive(Clone, Copy)]
 pub struct PhaseWords {
     pub kind: u32,
@@ -111,6 +111,7 @@ impl TryFrom<PhaseWords> for Phase {
 }
 
 // Writes a place into the first words.
+// By hand, word by word, since they are written in place into the run that C lends.
 fn put_place(task: Task, words: &mut [u32])
     requires { each_words ≤ length words.old }
     ensures { words.new ≡ place_words task ++ drop each_words words.old }
@@ -151,6 +152,7 @@ fn put_head(run: Run, words: &mut [u32])
 }
 
 // Writes the head and the first `shown` places of the run; the words after them stay.
+// The places shown are a number, here and in put_plan, since a beginning shows all 32 and an entry those of the run.
 pub fn put_run(run: Run, shown: usize, words: &mut [u32])
     requires { (shown ≤ places) × (run_words ≤ length words.old) }
     ensures { words.new ≡ overwritten shown run words.old }

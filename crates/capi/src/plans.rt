@@ -18,12 +18,10 @@ pub extern "C" fn sivorandra_plan(
 ) -> u32
     ensures { record { value = result; lent = rows.new ∷ (answer.new ∷ []) } ≡ plan_call words.now a b rows.old answer.old }
 {
-    results::answered(
-        rows,
-        0,
-        answer,
-        |rows| results::encoded(plan::plan(words, a, b, rows), 0),
-    )
+    results::answered(rows, 0, answer, |rows| {
+        let planned = plan::plan(words, a, b, rows);
+        results::encoded(planned, 0)
+    })
 }
 
 // The plan of a table's words from the supplier's own planner as it begins, all its words, into the front of `plan`: case 0, or 3 Refused number position
@@ -46,10 +44,8 @@ pub extern "C" fn sivorandra_check_begin(words: &[u32], plan: &mut [u32], answer
 pub extern "C" fn sivorandra_check_row(plan: &mut [u32], row: &[u8], answer: &mut [u32]) -> u32
     ensures { record { value = result; lent = plan.new ∷ (answer.new ∷ []) } ≡ check_row_call plan.old row.now answer.old }
 {
-    results::answered(
-        plan,
-        0,
-        answer,
-        |plan| AnswerWords::from(plan_buffer::take(plan, row)),
-    )
+    results::answered(plan, 0, answer, |plan| {
+        let entered = plan_buffer::take(plan, row);
+        AnswerWords::from(entered)
+    })
 }
