@@ -7,11 +7,10 @@ use Prim.Native.Nat.{◌+◌, ◌-◌, ◌<◌, ℕ, ◌≤◌}
 use native.Mathlib.Omega.{arith}
 use lib.ListN.{drop, drop_of_length-le, length, length-drop, take}
 use lib.Seq.{drop-drop, take_all}
-use Rattle.splitter.specs.declared.Part.{Part}
 use Rattle.splitter.specs.Split.{InputEnd, lines_from, nothing, split, unknown}
-use Rattle.splitter.specs.Parts.{Comes, OneLine, LineOf, TableOf, ends, goes}
+use Rattle.splitter.specs.Parts.{Part, Comes, OneLine, LineOf, TableOf, ends, goes}
 use Rattle.splitter.proofs.Splits.{lines_none, lines-waits}
-use Rattle.splitter.proofs.Tables.{part-rest}
+use Rattle.std.proofs.lemmas.List.{take_rest}
 use Rattle.plan_text.specs.Check.{Check}
 use Rattle.plan_text.specs.Check.{Fed}
 use Rattle.plan_text.specs.declared.PlanProgress.{PlanProgress}
@@ -60,7 +59,7 @@ module _
     (v : LineOf (take (length bs - at) (drop at bs)) long_line ended p)
   where
     l : LineOf (drop at bs) long_line ended p
-    l = subst (λ (x : List ℕ). LineOf x long_line ended p) (part-rest bs at) v
+    l = subst (λ (x : List ℕ). LineOf x long_line ended p) (take_rest bs at) v
 
     abbrev line : List ℕ
     line = take p.end (drop at bs)

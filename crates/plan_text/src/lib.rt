@@ -154,13 +154,12 @@ fn feed_plan(start: PlanProgress, bytes: &[u8], from: usize, ended: bool) -> Fed
     let mut at = from;
     // A loop over the lines is no plainer: what is left begins where the last whole line ends, and is returned.
     while at < bytes.len() {
-        let part = splitter::line(&bytes[at..], line::LONG, ended);
-        if !part.whole {
+        let Some(part) = splitter::line(&bytes[at..], line::LONG, ended) else {
             return Fed {
                 check: Check::Plan(rows),
                 taken: at,
             };
-        }
+        };
         match step(rows, extent, &bytes[at..at + part.end]) {
             Ok(next) => rows = next,
             Err(answer) => {
@@ -184,8 +183,8 @@ fn feed_plan(start: PlanProgress, bytes: &[u8], from: usize, ended: bool) -> Fed
 fn begin(table: &[u8]) -> Result<PlanProgress, Refusal>
     ensures { opening result ≡ opened_of table.now }
 {
-    let input = text::read(table);
-    let plan = plan_check::begin(&input.words[..input.count])?;
+    let words = text::read(table).ok_or(Refusal::NotATable)?;
+    let plan = plan_check::begin(words.as_slice())?;
     Ok(PlanProgress {
         plan,
         lines: 0,
@@ -198,13 +197,12 @@ fn begin(table: &[u8]) -> Result<PlanProgress, Refusal>
 fn feed_table(bytes: &[u8], ended: bool) -> Fed
     ensures { FedBy (answer_in Table (check_in code.Table)) 0 ended bytes.now (fed_in result) }
 {
-    let part = splitter::table(bytes, ended);
-    if !part.whole {
+    let Some(part) = splitter::table(bytes, ended) else {
         return Fed {
             check: Check::Table,
             taken: 0,
         };
-    }
+    };
     match begin(&bytes[..part.end]) {
         Ok(rows) => feed_plan(rows, bytes, part.next, ended),
         Err(refusal) => Fed {
