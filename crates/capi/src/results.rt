@@ -1,4 +1,4 @@
-// An answer in three words, by the result of a call.
+// The body of a call that writes to a lent slice, and its answer in three words.
 ghost use Rattle.std.specs.Prelude.{◌≡◌, ◌≤◌, true, false, length};
 ghost use Rattle.std.specs.Fn.{FnOnceReturnsAt, FnOnceReturnsAtMut};
 ghost use Rattle.table.specs.Answer.{answer_in};

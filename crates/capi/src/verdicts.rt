@@ -8,7 +8,8 @@ ghost use Rattle.capi.specs.Calls.{judge_call, conflict_call};
 use buffers::answer_words;
 use buffers::answer_words::AnswerWords;
 
-// The words that a function gives for those of a table: 0 where `answer` has space for them; else 1, and it is as found.
+// A call that writes to no other slice, by the words of a table: 0 where `answer` has space; else 1, and it is as found.
+// Not by `results::answered`, since there is no slice to lend it.
 fn answered<F: FnOnce(&[u32]) -> AnswerWords>(words: &[u32], answer: &mut [u32], call: F) -> u32
     requires { F.IsAlwaysCallable call }
     ensures fits { answer_fits answer.old ≡ true
