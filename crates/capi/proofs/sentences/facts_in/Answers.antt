@@ -15,17 +15,16 @@ found-some : (o : Option code.Facts) → is_some o ≡ (found_in o).found
 found-some None = refl
 found-some (Some f) = refl
 
-pub returns-left : goal.returns-left
-returns-left c =
+pub returns : goal.returns
+returns c =
     let a = c.args in
     let r = found_in c.facts_of-found.result in
     let held : c.unwrap_or_default.result ≡ r.facts = or_zeros c.facts_of-found.result c.unwrap_or_default.result c.unwrap_or_default.ensures in
     let size : length r.facts.ran ≡ most_tasks = ap (λ (f : code.Facts). length f.ran) (sym held) ∙ c.put_facts.ensures.1 in
-    c.put_facts.ensures.0
-    ∙ ap (λ (f : code.Facts). in_words f.position f.tick f.had f.length f.ran ++ drop fact_words a.facts.now) held
-    ∙ ap (λ (v : List ℕ). v ++ drop fact_words a.facts.now) (found-words a.bytes.now r c.facts_of-found.ensures size)
-
-pub returns-answer : goal.returns-answer
-returns-answer c =
-    let r = found_in c.facts_of-found.result in
-    c.from.ensures ∙ ap of_read_back (found-some c.facts_of-found.result) ∙ found-case c.args.bytes.now r c.facts_of-found.ensures
+    record {
+      left =
+          c.put_facts.ensures.0
+          ∙ ap (λ (f : code.Facts). in_words f.position f.tick f.had f.length f.ran ++ drop fact_words a.facts.now) held
+          ∙ ap (λ (v : List ℕ). v ++ drop fact_words a.facts.now) (found-words a.bytes.now r c.facts_of-found.ensures size);
+      answer = c.from.ensures ∙ ap of_read_back (found-some c.facts_of-found.result) ∙ found-case a.bytes.now r c.facts_of-found.ensures;
+    }
