@@ -5,7 +5,7 @@ use Prim.Native.Nat.{◌-◌, suc, zero, ℕ}
 use native.Mathlib.Omega.{arith}
 use lib.ListN.{drop, drop_of_length-le, take, take-append-drop}
 use lib.Seq.{length-take-le, take-nil, take-take}
-use Rattle.stream.specs.declared.Reading.{Reading}
+use Rattle.stream.specs.Reading.{Reading}
 use Rattle.stream.specs.Reading.{MovedToFront, ReadAfter}
 
 -- a part of the front, from a place on
