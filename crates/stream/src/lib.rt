@@ -1,13 +1,15 @@
 // Reading an input and writing an output, with the numbers of bytes read and written.
 #![tactic(auto)]
 
-ghost use Rattle.std.specs.Prelude.{List, ℕ, ◌≡◌, ◌+◌, ◌≤◌, length, take};
+ghost use Rattle.std.specs.Prelude.{Bool, true, List, ℕ, ◌≡◌, ◌+◌, ◌-◌, ◌≤◌, ◌<◌, length, take};
 ghost use Rattle.stream.specs.Reading.{ReadOnceOf, FilledOf, MovedToFront, read_once, filled};
 ghost use Rattle.stream.specs.Sent.{saturated, unread_by, sent_of, SentOf};
 ghost use Rattle.stream.specs.Answered.{Answered, reading_in, sent_in};
+ghost use Rattle.stream.specs.Received.{ReceivedOf, continues};
 
 use std::io;
 use std::io::{Read, Write};
+use std::ops::ControlFlow;
 
 // The number of bytes that writes took, where they did not take all that they were passed.
 #[derive(Clone, Copy, PartialEq, Eq)]
@@ -115,4 +117,94 @@ pub fn answer<P: Program, R: Read, W: Write, E: Write>(
     };
     let sent = P::print(out, &buffer[..held]);
     Ok(Exchange { held, sent })
+}
+
+// What came of bytes that were fed: how many were taken, what was written, and whether more are read.
+#[derive(Clone, Copy)]
+pub struct Round {
+    pub taken: usize,
+    pub sent: Result<usize, Cut>,
+    pub flow: ControlFlow<()>,
+}
+
+// A program that is fed an input as it comes.
+pub trait Feed {
+    ghost use Rattle.stream.specs.declared.Round.{Round};
+
+    // a round: the program, whether the input has ended, the bytes, the program after them, and what came of them
+    ghost round: { Self → Bool → List ℕ → Self → Round → Type 0 };
+
+    // fewer bytes are left where more are read
+    ghost most: { ℕ };
+
+    // Feeds bytes, and writes what they are answered by.
+    fn feed<W: Write>(&mut self, out: &mut W, bytes: &[u8], ended: bool) -> Round
+        ensures holds { round self.old ended bytes.now self.new result }
+        ensures takes { result.taken ≤ length bytes.now }
+        ensures short { continues result.flow ≡ true → length bytes.now - result.taken < most };
+}
+
+// What came of one read: how many bytes, the round with them, and how many bytes of the buffer are left.
+#[derive(Clone, Copy)]
+pub struct Received {
+    pub came: usize,
+    pub round: Round,
+    pub held: usize,
+}
+
+// Reads once after the bytes that are left, and feeds all to the program; a read that fails is reported.
+pub fn receive<P: Feed, R: Read, W: Write, E: Write>(
+    input: &mut R,
+    out: &mut W,
+    log: &mut E,
+    name: &[u8],
+    program: &mut P,
+    buffer: &mut [u8],
+    held: usize,
+) -> io::Result<Received>
+    requires { held < length buffer.old }
+    ensures { ReceivedOf P.round P.most program.old program.new held buffer.old buffer.new result }
+{
+    let end = match read(input, buffer, held) {
+        Ok(end) => end,
+        Err(failure) => {
+            let _ = report_unread(log, name);
+            return Err(failure);
+        }
+    };
+    let came = end - held;
+    let round = program.feed(out, &buffer[..end], came == 0);
+    let held = move_to_front(buffer, round.taken, end);
+    Ok(Received { came, round, held })
+}
+
+// Feeds a program its input until it reads no more, the input has ended or a read fails.
+// A proved loop has to end, and no contract ensures that an input does: no run uses up this number of rounds.
+pub fn run<P: Feed, R: Read, W: Write, E: Write>(
+    input: &mut R,
+    out: &mut W,
+    log: &mut E,
+    name: &[u8],
+    program: &mut P,
+    buffer: &mut [u8],
+)
+    requires { (0 < length buffer.old) × (P.most ≤ length buffer.old) }
+    ensures { length buffer.new ≡ length buffer.old }
+{
+    let mut held: usize = 0;
+    for _ in 0..u64::MAX {
+        match receive(input, out, log, name, program, buffer, held) {
+            Ok(
+                Received {
+                    round: Round {
+                        flow: ControlFlow::Continue(()),
+                        ..
+                    },
+                    held: left,
+                    ..
+                },
+            ) => held = left,
+            _ => return,
+        }
+    }
 }
