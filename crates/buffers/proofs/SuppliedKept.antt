@@ -18,8 +18,8 @@ use Rattle.table.specs.Answer.{Passed}
 use Rattle.table.specs.Answer.{answer_of}
 use Rattle.table.specs.Load.{load_meaning}
 use Rattle.table.specs.Words.{rule, table_of}
-use Rattle.plan_check.specs.declared.Answer.{Answer}
-use Rattle.plan_check.specs.declared.Answer.TheVariants.{Taken, Accepted, Refused}
+use Rattle.plan_check.specs.RowAnswer.{Answer}
+use Rattle.plan_check.specs.RowAnswer.{Taken, Accepted, Refused}
 use Rattle.plan_check.specs.Begin.{Begun}
 use Rattle.plan_check.specs.declared.Note.{Note}
 use Rattle.plan_check.specs.declared.SuppliedPlan.{SuppliedPlan}

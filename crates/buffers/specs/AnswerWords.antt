@@ -10,8 +10,7 @@ use Rattle.run.specs.Answer.{Answer}
 use Rattle.run.specs.Answer as run
 use Rattle.sentence.specs.SentenceAnswer.{SentenceAnswer}
 use Rattle.sentence.specs.SentenceAnswer as sentence
-use Rattle.plan_check.specs.declared.Answer as checked
-use Rattle.plan_check.specs.declared.Answer.TheVariants as plan_check
+use Rattle.plan_check.specs.RowAnswer as plan_check
 use Rattle.refinement.specs.Replayed.{Replayed}
 use Rattle.refinement.specs.Replayed as refinement
 use Rattle.sentence.specs.Parsed as parsed
@@ -50,7 +49,7 @@ of_given table.Passed x = answer_words 0 x 0
 of_given (table.Refused n p) x = answer_words 3 n p
 
 -- take's three cases: 0 taken, 6 accepted, 3 Refused number tick
-abbrev pub of_taken : checked.Answer → AnswerWords
+abbrev pub of_taken : plan_check.Answer → AnswerWords
 of_taken plan_check.Taken = answer_words 0 0 0
 of_taken plan_check.Accepted = answer_words 6 0 0
 of_taken (plan_check.Refused n t) = answer_words 3 n t

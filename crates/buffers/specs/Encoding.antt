@@ -73,7 +73,7 @@ parity_word even = cond even 1 0
 -- a task's six words, that of a parity, and the four of a phase
 abbrev pub place_with : Task → ℕ → PhaseWords → List ℕ
 place_with t n ph =
-    t.offset ∷ (t.width ∷ (t.length ∷ (t.deadline ∷ (t.period ∷ (t.second ∷ (n ∷ (ph.kind ∷ (ph.first ∷ (ph.second ∷ (ph.third ∷ []))))))))))
+    t.parameters.offset ∷ (t.parameters.width ∷ (t.parameters.length ∷ (t.parameters.deadline ∷ (t.parameters.period ∷ (t.parameters.second ∷ (n ∷ (ph.kind ∷ (ph.first ∷ (ph.second ∷ (ph.third ∷ []))))))))))
 
 -- a place: offset, width of odd jobs, length, deadline, period, width of even jobs, and the parity and the phase
 abbrev pub place_words : Task → List ℕ
@@ -133,12 +133,14 @@ is_task_state n k b c = is_parity n && is_phase k b c
 -- the place whose words are in front
 abbrev pub place_in : List ℕ → Task
 place_in ws = record {
-  offset = get_or ws 0 0;
-  width = get_or ws 1 0;
-  length = get_or ws 2 0;
-  deadline = get_or ws 3 0;
-  period = get_or ws 4 0;
-  second = get_or ws 5 0;
+  parameters = record {
+    offset = get_or ws 0 0;
+    width = get_or ws 1 0;
+    length = get_or ws 2 0;
+    deadline = get_or ws 3 0;
+    period = get_or ws 4 0;
+    second = get_or ws 5 0;
+  };
   even = even_of (get_or ws parity_at 0);
   phase = phase_of (get_or ws kind_at 0) (get_or ws first_number_at 0) (get_or ws second_number_at 0) (get_or ws third_number_at 0);
 }

@@ -1,9 +1,12 @@
 // An answer in three words: the case and its two numbers.
 ghost use Rattle.std.specs.Prelude.{◌≡◌, ◌≤◌, length};
+ghost use Rattle.plan_check.specs.RowAnswer.{answer_in};
 ghost use Rattle.buffers.specs.AnswerWords.{answer_words, of_verdict, of_taken, of_read_back};
 ghost use Rattle.buffers.specs.AnswerWords.{met_word, answer_size, slices_fit, answer_written};
 
 use judge::Verdict;
+use model::Refusal;
+use plan_check::Progress;
 
 // The words of an answer.
 const WORDS: usize = 3;
@@ -62,13 +65,13 @@ pub fn of_verdict(verdict: Verdict) -> AnswerWords
 }
 
 // The answer to a row, in three words.
-pub fn of_taken(answer: plan_check::Answer) -> AnswerWords
-    ensures { result ≡ of_taken answer }
+pub fn of_taken(given: Result<Progress, Refusal>) -> AnswerWords
+    ensures { result ≡ of_taken (answer_in given) }
 {
-    match answer {
-        plan_check::Answer::Taken => taken(0),
-        plan_check::Answer::Accepted => answer_words(6, 0, 0),
-        plan_check::Answer::Refused(number, tick) => refused(number, tick),
+    match given {
+        Ok(Progress::Taken) => taken(0),
+        Ok(Progress::Accepted) => answer_words(6, 0, 0),
+        Err(refusal) => refused(refusal.number(), refusal.position()),
     }
 }
 

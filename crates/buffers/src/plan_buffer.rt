@@ -1,15 +1,16 @@
 // A supplied plan in a lent buffer of words: the words of its run, its tick, and four words for each note. A taken row leaves the places past the count
 // as found, and the notes but where it arrives at the last S; words of a note that are no phase are read as Resting(0), which no run has.
 ghost use Rattle.std.specs.Prelude.{◌≡◌, ◌+◌, ◌≤◌, length, take, drop};
-ghost use Rattle.plan_check.specs.State.{start_in};
+ghost use Rattle.plan_check.specs.RowAnswer.{answer_in};
 ghost use Rattle.buffers.specs.Encoding.{places, count_in};
 ghost use Rattle.buffers.specs.Supplied.{notes_at, note_size, plan_words, four_words, notes_words, put_at, plan_over, note_in, notes_in, holds_plan, plan_in, decode_plan};
-ghost use Rattle.buffers.specs.CheckRow.{kept_plan, check_row_from};
+ghost use Rattle.buffers.specs.CheckRow.{check_row_from};
 
 use crate::run_buffer;
 use crate::run_buffer::PhaseWords;
+use model::Refusal;
 use phase::Phase;
-use plan_check::{Answer, Entered, Note, SuppliedPlan};
+use plan_check::{Note, Progress, SuppliedPlan};
 
 // The index of the tick: right after the run.
 const TICK: usize = run_buffer::WORDS;
@@ -113,40 +114,17 @@ fn holds(words: &[u32]) -> bool
     run_buffer::holds(words)
 }
 
-// Writes the plan after a row, up to its count, where the row is taken; a refusal leaves the words as found. Returns the answer.
-fn keep(entered: Entered, start: u32, words: &mut [u32]) -> Answer
-    requires { (entered.plan.run.count ≤ places) × ((start ≡ start_in entered.plan.run) × (plan_words ≤ length words.old)) }
-    ensures { record { answer = result; buffer = words.new } ≡ kept_plan entered.answer entered.plan words.old }
-{
-    let answer = entered.answer;
-    let next = entered.plan;
-    let run = next.run;
-    match answer {
-        Answer::Taken => {
-            put_plan(next, run.count, next.tick == start, words);
-            Answer::Taken
-        }
-        Answer::Accepted => {
-            put_plan(next, run.count, next.tick == start, words);
-            Answer::Accepted
-        }
-        Answer::Refused(number, tick) => Answer::Refused(number, tick),
-    }
-}
-
-// The row taken by the plan that the buffer holds; 14 where it holds none.
-pub fn take(words: &mut [u32], row: &[u8]) -> Answer
-    ensures { record { answer = result; buffer = words.new } ≡ check_row_from (decode_plan words.old) row.now words.old }
+// The row taken by the plan that the buffer holds, and the plan after it written up to its count; 14 where it holds none. A refusal leaves the words as
+// found.
+pub fn take(words: &mut [u32], row: &[u8]) -> Result<Progress, Refusal>
+    ensures { record { answer = answer_in result; buffer = words.new } ≡ check_row_from (decode_plan words.old) row.now words.old }
 {
     if !holds(words) {
-        return Answer::Refused(14, 0);
+        return Err(Refusal::NotARun);
     }
     let plan = plan_in(words);
-    match plan.extent() {
-        Ok(extent) => {
-            let entered = plan.enter(extent.start, extent.horizon, row);
-            keep(entered, extent.start, words)
-        }
-        Err(refusal) => Answer::Refused(refusal.number(), 0),
-    }
+    let extent = plan.extent()?;
+    let (progress, next) = plan.enter(extent, row)?;
+    put_plan(next, next.run.count, next.tick == extent.start, words);
+    Ok(progress)
 }

@@ -88,12 +88,12 @@ fn put_place(task: Task, parity: u32, phase: PhaseWords, words: &mut [u32])
     requires { each_words ≤ length words.old }
     ensures { words.new ≡ place_with task parity phase ++ drop each_words words.old }
 {
-    words[0] = task.offset;
-    words[1] = task.width;
-    words[2] = task.length;
-    words[3] = task.deadline;
-    words[4] = task.period;
-    words[5] = task.second;
+    words[0] = task.parameters.offset;
+    words[1] = task.parameters.width;
+    words[2] = task.parameters.length;
+    words[3] = task.parameters.deadline;
+    words[4] = task.parameters.period;
+    words[5] = task.parameters.second;
     words[PARITY] = parity;
     words[KIND] = phase.kind;
     words[FIRST] = phase.first;
@@ -190,12 +190,14 @@ fn place_in(words: &[u32], at: usize) -> Task
         words[at + THIRD],
     );
     Task {
-        offset: words[at],
-        width: words[at + 1],
-        length: words[at + 2],
-        deadline: words[at + 3],
-        period: words[at + 4],
-        second: words[at + 5],
+        parameters: table::Task {
+            offset: words[at],
+            width: words[at + 1],
+            length: words[at + 2],
+            deadline: words[at + 3],
+            period: words[at + 4],
+            second: words[at + 5],
+        },
         even: words[at + PARITY] == 1,
         phase,
     }

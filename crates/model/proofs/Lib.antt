@@ -10,6 +10,7 @@ pub mod LendExamples
 pub mod SetsExamples
 pub mod WorkingExamples
 pub mod Bools
+pub mod Refusals
 pub mod Search
 pub mod Lists
 pub mod Digits

@@ -1,7 +1,17 @@
 // The members of a set: one number, whose binary digits say which numbers are in it.
-ghost use Rattle.std.specs.Prelude.{◌≡◌};
+ghost use Rattle.std.specs.Prelude.{◌≡◌, ◌<◌};
 ghost use Rattle.std.specs.Iterator.{YieldsFirst, item_count};
 ghost use Rattle.model.specs.Members.{members};
+ghost use Rattle.model.specs.Search.{bit};
+ghost use Rattle.model.specs.Sizes.{most_tasks};
+
+// Whether a place is in a set of places, bit 0 for position 1.
+pub fn has(set: u32, place: usize) -> bool
+    requires { place < most_tasks }
+    ensures { result ≡ bit set place }
+{
+    (set >> place) % 2 == 1
+}
 
 // The members of a set that are left, in ascending order; a set of places or of cores.
 #[derive(Clone, Copy)]

@@ -28,16 +28,10 @@ pub struct TaskState {
     pub phase: Phase,
 }
 
-// A task of the run: offset O, width v of its odd jobs, length C, deadline D, period T, width w of its even jobs; whether its job is an
-// even one (odd until the second release, then changing at each), and its phase.
+// A task of the run: the task of the table that it is, whether its job is an even one (odd until the second release, then changing at each), and its phase.
 #[derive(Clone, Copy)]
 pub struct Task {
-    pub offset: u32,
-    pub width: u32,
-    pub length: u32,
-    pub deadline: u32,
-    pub period: u32,
-    pub second: u32,
+    pub parameters: table::Task,
     pub even: bool,
     pub phase: Phase,
 }

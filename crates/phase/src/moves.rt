@@ -22,7 +22,7 @@ impl Task {
     fn rested(self, z: u32) -> TaskState
         ensures { result ≡ resting (task_of self) self.even z }
     {
-        if z == self.period {
+        if z == self.parameters.period {
             TaskState {
                 even: !self.even,
                 phase: Phase::Working(0, 0, 0),
@@ -39,7 +39,7 @@ impl Task {
     fn held(self, z: u32, reserved: u32) -> TaskState
         ensures { result ≡ holding (task_of self) self.even z reserved }
     {
-        if (reserved == self.length) | (z == self.deadline) {
+        if (reserved == self.parameters.length) | (z == self.parameters.deadline) {
             self.rested(z)
         } else {
             TaskState {
@@ -64,7 +64,7 @@ impl Task {
     fn worked(self, rule: u32, reported: bool, z: u32, had: u32, reserved: u32) -> TaskState
         ensures { result ≡ worked (rule_of rule) (task_of self) reported self.even z had reserved }
     {
-        if reported | (had == self.length) {
+        if reported | (had == self.parameters.length) {
             self.ended(rule, z, reserved)
         } else {
             TaskState {

@@ -163,7 +163,7 @@ module _ (s : Table) (ok : AllValid s) (r : ℕ → List ℕ) where
     missed-same =
         ap (λ (n : ℕ). any n (late_at w.run)) x.count
         ∙ any_same (length s.tasks) (late_at w.run) (λ p. due_at (task s p) t && ltb 0 (owed_at s r t p)) (λ p l.
-        ap (λ (y : declared.Task). late_in y.deadline y.phase) (x.places p l) ∙ late-place t refl p l)
+        ap (λ (y : declared.Task). late_in y.parameters.deadline y.phase) (x.places p l) ∙ late-place t refl p l)
 
     module _ (on-time : late_now s t (owed_at s r t) ≡ false) where
       timely : (u : ℕ) → u ≤ t → late_now s u (owed_at s r u) ≡ false

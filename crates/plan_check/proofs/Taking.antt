@@ -23,9 +23,9 @@ use Rattle.plan_check.specs.RowAnswer.{state_by_answer, row_answer_meaning}
 use Rattle.plan_check.specs.RowAnswer as meaning
 use Rattle.plan_check.specs.State.{horizon_in, note_of, noting, start_in}
 use Rattle.plan_check.specs.CheckRow.{CheckRowOf, answer_at, final_answer, check_row_answer, check_row_of}
-use Rattle.plan_check.specs.declared.Answer.{Answer}
-use Rattle.plan_check.specs.declared.Answer.TheVariants.{Accepted, Refused, Taken}
-use Rattle.plan_check.specs.declared.Entered.{Entered}
+use Rattle.plan_check.specs.RowAnswer.{Answer}
+use Rattle.plan_check.specs.RowAnswer.{Accepted, Refused, Taken}
+use Rattle.plan_check.specs.RowAnswer.{Entered}
 use Rattle.plan_check.specs.declared.SuppliedPlan.{SuppliedPlan}
 use Rattle.plan_check.proofs.Deciding.{differs-decides, faulty-decides, missed-decides, state-decides}
 use Rattle.plan_check.proofs.PlanExtent.{all-places, ready-again}

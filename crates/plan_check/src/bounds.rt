@@ -6,8 +6,10 @@ ghost use Rattle.model.specs.Search.{any};
 ghost use Rattle.plan_check.specs.Numbers.{unreachable_phase, state_out, missed, differs};
 ghost use Rattle.plan_check.specs.State.{horizon_in};
 ghost use Rattle.plan_check.specs.CheckRow.{answer_at, final_answer};
+ghost use Rattle.plan_check.specs.RowAnswer.{answer_in};
 
-use crate::{Answer, SuppliedPlan};
+use crate::{Progress, SuppliedPlan};
+use model::Refusal;
 use phase::Phase;
 use run::Run;
 
@@ -61,28 +63,28 @@ impl SuppliedPlan {
     }
 
     // The answer after the last row: 25 and then 26, or the plan is accepted.
-    fn final_answer(self) -> Answer
+    fn final_answer(self) -> Result<Progress, Refusal>
         requires { self.run.count ≤ most_tasks }
-        ensures { result ≡ final_answer self }
+        ensures { answer_in result ≡ final_answer self }
     {
         if missed(self.run) {
-            return Answer::Refused(25, self.tick);
+            return Err(Refusal::DeadlineMissed(self.tick));
         }
         if self.differs() {
-            return Answer::Refused(26, self.tick);
+            return Err(Refusal::PhasesDiffer(self.tick));
         }
-        Answer::Accepted
+        Ok(Progress::Accepted)
     }
 
     // The answer of the state after a row, where the horizon is known.
-    pub(crate) fn answer_at(self, horizon: u32) -> Answer
+    pub(crate) fn answer_at(self, horizon: u32) -> Result<Progress, Refusal>
         requires fact_1 { self.run.count ≤ most_tasks }
         requires fact_2 { horizon ≡ horizon_in self.run }
-        ensures { result ≡ answer_at self }
+        ensures { answer_in result ≡ answer_at self }
     {
         if self.tick == horizon {
             return self.final_answer();
         }
-        Answer::Taken
+        Ok(Progress::Taken)
     }
 }

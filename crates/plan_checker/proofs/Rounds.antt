@@ -12,10 +12,8 @@ use Rattle.stream.specs.Reading.{MovedToFront, ReadOnceOf}
 use Rattle.stream.specs.Sent.{SentOf}
 use Rattle.stream.proofs.Fronts.{came, left-and-came, left-kept, none_came}
 use Rattle.plan_text.proofs.Feeding.{over-answer}
-use Rattle.plan_text.specs.declared.Check.{Check}
-use Rattle.plan_text.specs.declared.Fed.{Fed}
-use Rattle.plan_text.specs.declared.PlanAnswer.{PlanAnswer}
-use Rattle.plan_text.specs.Check.{FedOf, is_over, check_answer}
+use Rattle.plan_text.specs.Check.{Check, Fed, FedOf, is_over, check_answer, check_in}
+use Rattle.plan_text.specs.Checked.{PlanAnswer}
 use Rattle.plan_text.specs.Printed.{plan_answer_line}
 use Rattle.plan_checker.specs.declared.Received.{Received}
 use Rattle.plan_checker.specs.Rounds.{ReceivedOf}
@@ -34,7 +32,7 @@ module _ (c : Check) (held : ℕ) (before read after : List ℕ) (r : Received) 
 
   -- the answer is known
   pub received-over :
-      (fed : Fed) → FedOf c r.reading.ended (take r.reading.held read) fed → r.check ≡ fed.check → r.again ≡ false → r.reading.failed ≡ false
+      (fed : Fed) → FedOf c r.reading.ended (take r.reading.held read) fed → check_in r.check ≡ fed.check → r.again ≡ false → r.reading.failed ≡ false
       → is_over fed.check.stage ≡ true → SentOf 0 (plan_answer_line fed.check.answer) r.sent → ReceivedOf c held before after r
   received-over fed p k a f o s = record {
     same = same;
@@ -63,7 +61,7 @@ module _ (c : Check) (held : ℕ) (before read after : List ℕ) (r : Received) 
 
   -- more bytes are needed
   pub received_more :
-      (fed : Fed) → FedOf c r.reading.ended (take r.reading.held read) fed → r.check ≡ fed.check → r.again ≡ true → r.reading.failed ≡ false
+      (fed : Fed) → FedOf c r.reading.ended (take r.reading.held read) fed → check_in r.check ≡ fed.check → r.again ≡ true → r.reading.failed ≡ false
       → is_over fed.check.stage ≡ false → MovedToFront fed.taken r.reading.held read after r.held → ReceivedOf c held before after r
   received_more fed p k a f o q = record {
     same = same;

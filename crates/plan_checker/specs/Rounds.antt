@@ -2,9 +2,7 @@
 use Rattle.std.specs.Prelude.{false, not, true, List, [], ◌++◌, ◌≡◌, ◌<◌, ℕ, drop, length, take}
 use Rattle.splitter.specs.Split.{nothing, too_many}
 use Rattle.stream.specs.Sent.{SentOf}
-use Rattle.plan_text.specs.declared.Check.{Check}
-use Rattle.plan_text.specs.declared.Fed.{Fed}
-use Rattle.plan_text.specs.Check.{FedOf, is_over, check_answer}
+use Rattle.plan_text.specs.Check.{Check, Fed, FedOf, is_over, check_answer, check_in}
 use Rattle.plan_text.specs.Printed.{plan_answer_line}
 use Rattle.plan_checker.specs.declared.Received.{Received}
 
@@ -13,7 +11,7 @@ pub record ReceivedBytes (c : Check) (left came after : List ℕ) (r : Received)
   pub none : r.reading.ended ≡ true → came ≡ []
   pub fed : Fed
   pub feeds : FedOf c r.reading.ended (left ++ came) fed
-  pub check : r.check ≡ fed.check
+  pub check : check_in r.check ≡ fed.check
   -- it reads again unless the answer is known, and then that is passed to writes
   pub again : r.again ≡ not (is_over fed.check.stage)
   pub over : r.again ≡ false → SentOf 0 (plan_answer_line fed.check.answer) r.sent

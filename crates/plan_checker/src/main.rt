@@ -3,6 +3,8 @@
 
 ghost use Rattle.std.specs.Prelude.{◌≡◌, ◌<◌, length};
 ghost use Rattle.stream.specs.Sent.{SentOf};
+ghost use Rattle.plan_text.specs.Check.{check_in};
+ghost use Rattle.plan_text.specs.Checked.{answered};
 ghost use Rattle.plan_text.specs.Printed.{plan_answer_line};
 ghost use Rattle.plan_checker.specs.Rounds.{ReceivedOf};
 
@@ -22,8 +24,8 @@ struct Received {
 }
 
 // Prints the answer.
-fn print<W: Write>(out: &mut W, answer: PlanAnswer) -> Sent
-    ensures { SentOf 0 (plan_answer_line answer) result }
+fn print<W: Write>(out: &mut W, answer: Option<PlanAnswer>) -> Sent
+    ensures { SentOf 0 (plan_answer_line (answered answer)) result }
 {
     let mut line = [0u8; LINE];
     let length = answer_text::put(&mut line, answer);
@@ -50,7 +52,7 @@ fn receive<R: Read, W: Write, E: Write>(
     held: usize,
 ) -> Received
     requires { held < length buffer.old }
-    ensures { ReceivedOf check held buffer.old buffer.new result }
+    ensures { ReceivedOf (check_in check) held buffer.old buffer.new result }
 {
     let reading = stream::read(input, buffer, held);
     if reading.failed {
@@ -68,7 +70,7 @@ fn receive<R: Read, W: Write, E: Write>(
     let next = fed.check;
     let taken = fed.taken;
     if next.is_over() {
-        let answer = next.answer;
+        let answer = next.answer();
         let sent = print(out, answer);
         return Received {
             reading,

@@ -18,12 +18,12 @@ use Rattle.text.specs.Input.{length_to}
 use Rattle.text.specs.Output.{space}
 use Rattle.text.proofs.Lines.{mark-within}
 use Rattle.text.proofs.Numbers.{number-exact}
-use Rattle.plan_check.specs.declared.Answer as plan_check
+use Rattle.plan_check.specs.RowAnswer.{Answer}
 use Rattle.plan_check.specs.CheckRow.{check_row_of}
 use Rattle.splitter.specs.Split.{last_line, lines_from, nothing}
 use Rattle.plan_text.specs.declared.PlanProgress.{PlanProgress}
-use Rattle.plan_text.specs.declared.PlanAnswer.TheVariants.{Fault, Refused}
-use Rattle.plan_text.specs.declared.LineAnswer.{LineAnswer}
+use Rattle.plan_text.specs.Checked.{Fault, Refused}
+use Rattle.plan_text.specs.Checked.{LineAnswer}
 use Rattle.plan_text.specs.Line.{Read, words_after, cells_of, is_byte, long_line, most_cells, no_row, row_read, row_in}
 use Rattle.plan_text.specs.Checked.{row_entered, enters, is_more, next_line, skipped, refusal_answer, rows_answer, step_of, no_row_answer}
 use Rattle.plan_text.proofs.Lines.{rows_end}
@@ -249,7 +249,7 @@ wide-ends r x (inr w) = ap (λ (y : Read). is_more (enters r y).answer) w.2 ∙ 
     taken : is_more (row_entered (check_row_of r.plan w.1).answer (check_row_of r.plan w.1).plan (next_line r.lines)).answer ≡ false
     taken =
         let z = take_long r.plan w.1 w.3 in
-        ap (λ (a : plan_check.Answer). is_more (row_entered a (check_row_of r.plan w.1).plan (next_line r.lines)).answer) z.2 ∙ refusal-ends z.0 z.1
+        ap (λ (a : Answer). is_more (row_entered a (check_row_of r.plan w.1).plan (next_line r.lines)).answer) z.2 ∙ refusal-ends z.0 z.1
 
     go : (b : Bool) → is_more (cond {A = LineAnswer} b (row_entered (check_row_of r.plan w.1).answer (check_row_of r.plan w.1).plan (next_line r.lines)) (no_row_answer r)).answer ≡ false
     go true = taken

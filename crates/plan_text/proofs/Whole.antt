@@ -6,9 +6,9 @@ use Prim.Native.Nat.{ℕ}
 use lib.ListN.{drop}
 use Rattle.splitter.specs.Split.{nothing, split_from, unclosed, unknown}
 use Rattle.splitter.specs.Parts.{ends, goes}
-use Rattle.plan_text.specs.declared.Check.{Check}
-use Rattle.plan_text.specs.declared.Fed.{Fed}
-use Rattle.plan_text.specs.declared.PlanAnswer.TheVariants.{More}
+use Rattle.plan_text.specs.Check.{Check}
+use Rattle.plan_text.specs.Check.{Fed}
+use Rattle.plan_text.specs.Checked.{More}
 use Rattle.plan_text.specs.Checked.{checked_of, answer_so_far, split_answer}
 use Rattle.plan_text.specs.Check.{Feeds, FedOf, NewOf, is_over, more, none, check_answer}
 use Rattle.plan_text.proofs.Feeding.{over-answer}

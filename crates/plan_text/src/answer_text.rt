@@ -3,6 +3,7 @@
 ghost use Rattle.std.specs.Prelude.{[], ◌∷◌, ◌≤◌, length};
 ghost use Rattle.text.specs.Output.{line_of};
 ghost use Rattle.text.specs.Written.{Put};
+ghost use Rattle.plan_text.specs.Checked.{answered};
 ghost use Rattle.plan_text.specs.Printed.{longest_answer, plan_answer_line};
 
 use crate::PlanAnswer;
@@ -20,19 +21,19 @@ fn put_one(line: &mut [u8; LINE], word: &[u8], number: u32) -> usize
     end + 1
 }
 
-// Writes an answer; returns where it ends.
+// Writes an answer, if there is one; returns where it ends.
 #[tactic(auto, unfolding(crate::specs::Printed::plan_answer_line))]
-pub fn put(line: &mut [u8; LINE], answer: PlanAnswer) -> usize
-    ensures { (Put line.old 0 (plan_answer_line answer) line.new result) × (result ≤ longest_answer) }
+pub fn put(line: &mut [u8; LINE], answer: Option<PlanAnswer>) -> usize
+    ensures { (Put line.old 0 (plan_answer_line (answered answer)) line.new result) × (result ≤ longest_answer) }
 {
     match answer {
-        PlanAnswer::More => 0,
-        PlanAnswer::Accepted => row::copy(b"accepted\n", 0, 9, line, 0),
-        PlanAnswer::Unfinished(tick) => put_one(line, b"unfinished", tick),
-        PlanAnswer::Fault(number, tick) => first::put_pair(line, b"fault", number, tick),
-        PlanAnswer::Refused(number, position) => first::put_pair(
-            line, b"refused", number, position,
-        ),
-        PlanAnswer::Unread(number) => put_one(line, b"unread", number),
+        None => 0,
+        Some(PlanAnswer::Accepted) => row::copy(b"accepted\n", 0, 9, line, 0),
+        Some(PlanAnswer::Unfinished(tick)) => put_one(line, b"unfinished", tick),
+        Some(PlanAnswer::Fault(number, tick)) => first::put_pair(line, b"fault", number, tick),
+        Some(PlanAnswer::Refused(number, position)) => {
+            first::put_pair(line, b"refused", number, position)
+        }
+        Some(PlanAnswer::Unread(number)) => put_one(line, b"unread", number),
     }
 }

@@ -7,7 +7,7 @@ use mathlib.Core.Logic.{inl, inr, ⊎_elim}
 use native.Mathlib.Nat.{eq-zero-or-pos}
 use Prim.Native.Nat.{ℕ, ◌-◌, ◌≤◌, ◌<◌}
 use lib.Bits.{bit_and, and_zero_l}
-use lib.ListN.{length, get_or, take, replicate, length-append}
+use lib.ListN.{length, get_or, take, replicate}
 use lib.Seq.{take-append_seam}
 use borrow.Author.Tests.{eq-eqb}
 use Rattle.model.specs.Fence.{unfenced_count}
@@ -49,7 +49,7 @@ use Rattle.simulation.proofs.RefinesTick.{refines-start}
 use Rattle.table.proofs.Fit.{fit, same-table}
 use Rattle.judge.proofs.Contract.{meaning-case, passed_is, refused-is}
 use Rattle.text.specs.Format.{most_numbers, Words, read_words, no_text, words_of}
-use Rattle.text.specs.Input.{input_of, ReadOf}
+use Rattle.text.specs.Input.{Input, input_of, ReadOf}
 use Rattle.text.specs.Output.{first_line, row_lines, rows_printed, printed, printed_by, output_of, output, longest_cells, longest_line}
 use Rattle.text.specs.Written.{Put}
 use Rattle.printer.specs.Cells.{cells}
@@ -57,7 +57,6 @@ use Rattle.text.specs.FirstLine.{end_of}
 use Rattle.printer.specs.Rows.{row_text_of, lines_in}
 use Rattle.printer.specs.Valid.{out_at, table_valid, owed, within, valid}
 use Rattle.printer.specs.Printer.{run_state_of, text_kept, remaining, PrinterStartOf, WordsPrinter, MadeFrom, no_table}
-use Rattle.text.specs.declared.Input.{Input}
 use Rattle.printer.specs.declared.Printer.{Printer}
 use Rattle.text.proofs.Writing.{put_front}
 use Rattle.printer.proofs.Limits.{limits-valid, none_out}
@@ -247,14 +246,6 @@ refused-made ws n q refuses v p j s = record {
     none = unfold row_lines in append-nil (first_line (refused n q))
 
 -- THE BYTES
-
--- the numbers that were read lie in their places
-pub read_fits : (bs : List ℕ) (r : Input) → ReadOf bs r → r.count ≤ length r.words
-read_fits bs r h = subst⁻¹ (λ (i : Input). i.count ≤ length i.words) h.value (go (words_of bs))
-  where
-    go : (x : Words) → (input_of x).count ≤ length (input_of x).words
-    go (read_words ws) = omega (arith, length-append ws (replicate (most_numbers - length ws) 0))
-    go no_text = omega arith
 
 -- no words are turned down with 1
 no_words : printed_by (answer_of []) (table_of []) ≡ first_line (refused 1 0)

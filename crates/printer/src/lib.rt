@@ -168,11 +168,11 @@ impl Printer {
     pub fn new(bytes: &[u8]) -> Printer
         ensures { MadeFrom bytes.now result }
     {
-        // what is no table's text has no numbers, and no words are refused likewise: 1 0
-        let input = text::read(bytes);
-        let words = input.words;
-        let count = input.count;
-        of_words(&words[..count])
+        match text::read(bytes) {
+            Some(words) => of_words(words.as_slice()),
+            // what is no table's text has no numbers, and no words are refused likewise: 1 0
+            None => of_words(&[]),
+        }
     }
 
     // Fills the buffer with the next bytes of the output, from a printer that is valid.
@@ -236,9 +236,6 @@ impl Printer {
         if printer.valid() {
             return printer.emit(buffer);
         }
-        Piece {
-            printer,
-            length: 0,
-        }
+        Piece { printer, length: 0 }
     }
 }

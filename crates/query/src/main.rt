@@ -192,11 +192,12 @@ fn put(question: Question, words: &[u32], lines: &mut [u8]) -> usize
 fn send_answer<W: Write>(out: &mut W, question: Question, bytes: &[u8]) -> Result<usize, Cut>
     ensures { SentOf 0 (answer_to question (numbers_in (words_of bytes.now))) (sent_of result) }
 {
-    let input = text::read(bytes);
-    let words = input.words;
-    let count = input.count;
     let mut lines = [0u8; ROOM];
-    let length = put(question, &words[..count], &mut lines);
+    let length = match text::read(bytes) {
+        Some(words) => put(question, words.as_slice(), &mut lines),
+        // what is no table's text has no numbers, and no words are refused likewise: 1 0
+        None => put(question, &[], &mut lines),
+    };
     stream::send(out, 0, &lines[..length])
 }
 

@@ -8,7 +8,7 @@ use native.Mathlib.Omega.{arith}
 use lib.ListN.{length, take, drop, length-drop}
 use lib.Seq.{drop-drop}
 use Rattle.splitter.specs.Parts.{end_of}
-use Rattle.splitter.proofs.Tables.{part-rest}
+use Rattle.std.proofs.lemmas.List.{take_rest}
 use Rattle.session.specs.declared.Session.{Session}
 use Rattle.session.specs.declared.Fed.{Fed}
 use Rattle.session.specs.Session.{FedOf, FedAgain, none, more, is_over, transcript_of}
@@ -49,7 +49,7 @@ so-far-none s ended bytes = record { within = omega arith; text = []; feeds = no
 module _ (s : Session) (ended : Bool) (bytes before after : List ℕ) (at : ℕ) (now : Session) (count : ℕ) (sent : Result ℕ Cut) (r : Fed) (i : SoFar s ended bytes at now count)
     (p : FedOf now ended (take (length bytes - at) (drop at bytes)) before after r) (t : SentOf count (take r.length after) (sent_of sent)) where
   w : FedOf now ended (drop at bytes) before after r
-  w = subst (λ (l : List ℕ). FedOf now ended l before after r) (part-rest bytes at) p
+  w = subst (λ (l : List ℕ). FedOf now ended l before after r) (take_rest bytes at) p
 
   pub next-within : at + r.taken ≤ length bytes
   next-within = omega (arith, w.taken, i.within, length-drop at bytes)

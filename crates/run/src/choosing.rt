@@ -4,7 +4,7 @@ ghost use Rattle.run.specs.Claims.{ClaimsOf};
 ghost use Rattle.model.specs.Sizes.{most_cores, most_tasks};
 
 use crate::{Run, bits};
-use model::MOST_TASKS;
+use model::{MOST_TASKS, sets};
 
 // What the rule reads of the tasks in a tick: the set of those that are outside their limits, the set of those that are Working at their deadline, the set of
 // those that claim, the set of those that are Working, the set of those whose job is released in this tick, the set of those whose job is an even one,
@@ -45,13 +45,13 @@ impl Run {
             let place = i as u32;
             broken = bits::with(broken, place, task.out(rule, wide));
             late = bits::with(late, place, task.late());
-            let seen = phase.emptied(rule, bits::has(emptied, place));
+            let seen = phase.emptied(rule, sets::has(emptied, i));
             claiming = bits::with(claiming, place, seen.claims());
             working = bits::with(working, place, seen.works());
             released = bits::with(released, place, phase.released());
             even = bits::with(even, place, task.even);
-            widths[i] = task.width;
-            widths[MOST_TASKS + i] = task.second;
+            widths[i] = task.parameters.width;
+            widths[MOST_TASKS + i] = task.parameters.second;
         }
         Claims {
             broken,

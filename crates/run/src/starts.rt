@@ -6,6 +6,7 @@ ghost use Rattle.model.specs.Sizes.{most_tasks};
 
 use crate::Run;
 use model::MOST_TASKS;
+use phase::Task;
 use table::Loaded;
 
 // The run of all zeros with every phase Resting(0), which 14 turns down: what stands for the run of a start that is refused.
@@ -33,8 +34,8 @@ pub fn begun(table: Loaded) -> Run
 {
     let place = phase::starts::unused();
     let mut places = [place; MOST_TASKS];
-    for i in 0..table.count {
-        places[i] = phase::starts::start_task(table.tasks[i]);
+    for (i, task) in table.tasks[..table.count].iter().enumerate() {
+        places[i] = Task::from(*task);
     }
     Run {
         rule: table.rule,

@@ -7,9 +7,8 @@ use Prim.Native.Nat.{ℕ, ◌≤◌, ◌<◌}
 use native.Mathlib.Omega.{arith}
 use lib.ListN.{length, take, drop}
 use lib.Seq.{take_all}
-use Rattle.splitter.specs.declared.Part.{Part}
 use Rattle.splitter.specs.Split.{too_many, InputEnd, nothing, unknown, lines_from, split}
-use Rattle.splitter.specs.Parts.{Comes, goes, end_of, OneLine, LineOf, TableOf}
+use Rattle.splitter.specs.Parts.{Part, Comes, goes, end_of, OneLine, LineOf, TableOf}
 use Rattle.splitter.proofs.Splits.{lines_none, lines-waits}
 use Rattle.run.specs.declared.Run.{Run}
 use Rattle.session.specs.declared.Stage.{Stage}

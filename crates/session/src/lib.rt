@@ -58,31 +58,29 @@ fn fed_with(stage: Stage, run: Run, taken: usize, length: usize) -> Fed
 fn feed_table(run: Run, bytes: &[u8], ended: bool, out: &mut [u8; REPLY]) -> Fed
     ensures { FedBy (transcript_in Table run) ended bytes.now out.old out.new result }
 {
-    let part = splitter::table(bytes, ended);
-    if part.whole {
-        let opened = open::begin(&bytes[..part.end], out);
-        return match opened.run {
-            Some(begun) => fed_with(Stage::Operations, begun, part.next, opened.length),
-            None => fed_with(Stage::Over, run, part.next, opened.length),
-        };
+    let Some(part) = splitter::table(bytes, ended) else {
+        return fed_with(Stage::Table, run, 0, 0);
+    };
+    let opened = open::begin(&bytes[..part.end], out);
+    match opened.run {
+        Some(begun) => fed_with(Stage::Operations, begun, part.next, opened.length),
+        None => fed_with(Stage::Over, run, part.next, opened.length),
     }
-    fed_with(Stage::Table, run, 0, 0)
 }
 
 // The first operation, once its line has ended, and the reply to it; a line longer than any operation is none.
 fn feed_operations(run: Run, bytes: &[u8], ended: bool, out: &mut [u8; REPLY]) -> Fed
     ensures { FedBy (transcript_in Operations run) ended bytes.now out.old out.new result }
 {
-    let part = splitter::line(bytes, NONE_LONG, ended);
-    if part.whole {
-        let Some(operation) = operations::operation_of(&bytes[..part.end]) else {
-            let length = replies::write_word(b"not an operation", out);
-            return fed_with(Stage::Over, run, bytes.len(), length);
-        };
-        let reply = replies::answer(run, operation, out);
-        return fed_with(Stage::Operations, reply.run, part.next, reply.length);
-    }
-    fed_with(Stage::Operations, run, 0, 0)
+    let Some(part) = splitter::line(bytes, NONE_LONG, ended) else {
+        return fed_with(Stage::Operations, run, 0, 0);
+    };
+    let Some(operation) = operations::operation_of(&bytes[..part.end]) else {
+        let length = replies::write_word(b"not an operation", out);
+        return fed_with(Stage::Over, run, bytes.len(), length);
+    };
+    let reply = replies::answer(run, operation, out);
+    fed_with(Stage::Operations, reply.run, part.next, reply.length)
 }
 
 impl Session {

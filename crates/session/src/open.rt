@@ -19,8 +19,8 @@ pub struct Opened {
 fn start(table: &[u8]) -> Result<Run, Refusal>
     ensures { started result ≡ start_of (numbers_in (words_of table.now)) }
 {
-    let input = text::read(table);
-    run::start(&input.words[..input.count])
+    let words = text::read(table).ok_or(Refusal::NotATable)?;
+    run::start(words.as_slice())
 }
 
 // Starts the run of a table's text, and writes start's answer; a refused start leaves the run of all zeros. A text longer than any table can be is

@@ -1,12 +1,12 @@
 -- What a table has that passes all numbers.
-use mathlib.Core.Path.{◌≡◌, refl, subst, sym}
+use mathlib.Core.Path.{◌≡◌, ap, refl, subst, sym}
 use mathlib.Core.Bool.{Bool, true, false, cond}
 use mathlib.Core.List.{List}
 use mathlib.Core.Logic.{⊎_elim}
 use Prim.Native.Nat.{ℕ, suc, ◌-◌, ◌≤◌, ◌<◌}
 use native.Mathlib.Omega.{arith}
 use lib.ListN.{length}
-use Rattle.model.specs.Task.{task, AllValid}
+use Rattle.model.specs.Task.{task, AllValid, rule_of}
 use Rattle.model.specs.Fence.{unfenced_count}
 use Rattle.model.specs.Horizon.{horizon}
 use Rattle.model.proofs.Bools.{not-true-false}
@@ -43,6 +43,13 @@ whole-count ws h = go (out_of_range_at ws (last_step ws)) refl (repeated_at ws (
     go true p u a e = let z : ◌≡◌ {A = ℕ} 0 1 = cc in absurd (omega arith)
     go false p true a e = let z : ◌≡◌ {A = ℕ} 0 1 = cc in absurd (omega arith)
     go false p false a e = let fine = header-passes ws h in count-from ws fine.words-in fine.headed p a
+
+-- THE RULE
+
+-- the table's rule, by its number
+pub rule-of : (ws : List ℕ) (n : ℕ) → rule ws ≡ n → (table_of ws).rule ≡ rule_of n
+unfolding table_of
+rule-of ws n e = ap rule_of e
 
 -- WHAT PASSES
 

@@ -18,10 +18,10 @@ use text::row::LINE;
 fn verdict_on(bytes: &[u8]) -> Verdict
     ensures { result ≡ verdict_of (numbers_in (words_of bytes.now)) }
 {
-    let input = text::read(bytes);
-    let words = input.words;
-    let count = input.count;
-    judge::judge(&words[..count])
+    match text::read(bytes) {
+        Some(words) => judge::judge(words.as_slice()),
+        None => judge::judge(&[]),
+    }
 }
 
 // The program `verdict`.

@@ -1,5 +1,5 @@
 -- `session::feed_operations`: the line is the last operation or is answered, or its end is still to come (Feeding).
-use Rattle.std.proofs.Common.{◌∙◌, ap, sym, Option}
+use Rattle.std.proofs.Common.{◌∙◌, ap, sym, refl, Option}
 use mathlib.Core.Path.{subst⁻¹}
 use Rattle.session.specs.declared.operations.Operation.{Operation}
 use Rattle.session.specs.Operation.{is_last, reply, run_after}
@@ -9,25 +9,24 @@ use Rattle.session.proofs.Feeding.{operation-last, operation-next, operation-wai
 use Rattle.session.proofs.feed_operations.Goals as goal
 
 pub returns-in_default : goal.returns-in_default
-unfolding reply
 returns-in_default c =
     let a = c.args in
-    let none = c.in_default.ensures in
-    subst⁻¹ (FedBy _ _ _ _ _) c.fed_with.ensures
-    (operation-last a.run a.ended a.bytes.now a.out.now _ _ c.line-part.ensures _ _ c.if-part.true (sym (ap is_last none))
-    (text_of (ap (λ (x : Option Operation). reply x a.run) none) c.write_word-length.ensures))
+    subst⁻¹ (FedBy _ _ _ _ _) c.fed_with.ensures (operation-waits a.run a.ended a.bytes.now a.out.now a.out.now _ c.in_default.ensures refl)
 
-pub returns-then-part : goal.returns-then-part
-returns-then-part c =
+pub returns-in_default-operation_of : goal.returns-in_default-operation_of
+unfolding reply
+returns-in_default-operation_of c =
     let a = c.args in
-    let some = c.in-Some.ensures in
-    subst⁻¹ (FedBy _ _ _ _ _) c.fed_with-then-part.ensures
-    (operation-next a.run a.ended a.bytes.now a.out.now _ _ c.line-part.ensures _ _ c.if-part.true (sym (ap is_last some))
-    (text_of (ap (λ (x : Option Operation). reply x a.run) some) c.answer-reply.ensures.0)
-    (c.answer-reply.ensures.1 ∙ ap (λ (x : Option Operation). run_after x a.run) some))
+    let none = c.in_default-operation_of.ensures in
+    subst⁻¹ (FedBy _ _ _ _ _) c.fed_with-in_default-operation_of.ensures
+    (operation-last a.run a.ended a.bytes.now a.out.now _ _ c.in-Some.ensures _ _ refl (sym (ap is_last none))
+    (text_of (ap (λ (x : Option Operation). reply x a.run) none) c.write_word-length.ensures))
 
 pub returns : goal.returns
 returns c =
     let a = c.args in
+    let some = c.in-Some-operation_of.ensures in
     subst⁻¹ (FedBy _ _ _ _ _) c.fed_with-2.ensures
-    (operation-waits a.run a.ended a.bytes.now a.out.now a.out.now _ c.line-part.ensures c.if-part.false)
+    (operation-next a.run a.ended a.bytes.now a.out.now _ _ c.in-Some.ensures _ _ refl (sym (ap is_last some))
+    (text_of (ap (λ (x : Option Operation). reply x a.run) some) c.answer-reply.ensures.0)
+    (c.answer-reply.ensures.1 ∙ ap (λ (x : Option Operation). run_after x a.run) some))
