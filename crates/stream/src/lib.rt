@@ -194,16 +194,7 @@ pub fn run<P: Feed, R: Read, W: Write, E: Write>(
     let mut held: usize = 0;
     for _ in 0..u64::MAX {
         match receive(input, out, log, name, program, buffer, held) {
-            Ok(
-                Received {
-                    round: Round {
-                        flow: ControlFlow::Continue(()),
-                        ..
-                    },
-                    held: left,
-                    ..
-                },
-            ) => held = left,
+            Ok(received) if received.round.flow.is_continue() => held = received.held,
             _ => return,
         }
     }
