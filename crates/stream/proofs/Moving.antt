@@ -3,9 +3,8 @@
 use mathlib.Core.Bool.{true, false, false≢true}
 use mathlib.Core.List.{List, [], ◌++◌}
 use mathlib.Core.Path.{◌≡◌, refl, sym, ap, subst, ◌∙◌}
-use Prim.Native.Nat.{ℕ, ◌+◌, ◌-◌, ◌≤◌, ◌<◌}
+use Prim.Native.Nat.{ℕ, ◌+◌, ◌-◌, ◌≤◌}
 use native.Mathlib.Omega.{arith}
-use borrow.Author.Tests.{lt-ltb}
 use lib.ListN.{length, take, length-append}
 use lib.Seq.{take-take}
 use borrow.Rule.Slice.PartMut.{put_mid, take_put}
@@ -13,6 +12,7 @@ use Rattle.std.specs.Prelude.{Result, Ok, Err}
 use Rattle.std.specs.Result.{IsErr, IsErrAnd}
 use Rattle.std.proofs.lemmas.Result.{err_from_is_err_and}
 use Rattle.stream.specs.declared.Cut.{Cut}
+use Rattle.stream.specs.declared.Filled.{Filled}
 use Rattle.stream.specs.Reading.{Reading, ReadAfter, ReadOnceOf, FilledOf, read_once, filled}
 use Rattle.stream.specs.Sent.{saturated, Sent, SentOf, sent_of}
 
@@ -45,17 +45,17 @@ module _ {E : Type 0} (held end : ℕ) (before middle after : List ℕ) (so-far 
       let p = behind-on so-far (subst (λ (x : Result ℕ E). ReadAfter end middle after (read_once end x)) is h.behind) in
       record { kept = p.kept; same = p.same; least = p.least; most = p.most }
 
-  -- the input has ended, and the buffer is not full
-  pub read-all : (n : ℕ) → read ≡ Ok n → n ≡ end → end < length before → FilledOf held before after (filled {E = E} held (length before) (Ok end))
-  read-all n is e short =
+  -- the input has ended
+  pub read-all : (n : ℕ) → read ≡ Ok n → n ≡ end → FilledOf held before after (record { held = end; ended = true; failed = false })
+  read-all n is e =
       let p = read-on n is in
       record {
         behind = record { kept = p.kept; same = p.same; least = so-far.least; most = so-far.most };
-        full = λ e _. absurd (false≢true (sym e ∙ lt-ltb end (length before) short));
+        full = λ f _. absurd (false≢true (sym f));
       }
 
   -- it failed
-  pub read-failed : {D : Type 0} (e : E) → read ≡ Err e → (r : Result ℕ D) → IsErr r → FilledOf held before after (filled held (length before) r)
+  pub read-failed : {D : Type 0} (e : E) → read ≡ Err e → (r : Result Filled D) → IsErr r → FilledOf held before after (filled held r)
   read-failed e is (Ok n) k = absurd (false≢true k)
   read-failed e is (Err d) k =
       let p = behind-on so-far (subst (λ (x : Result ℕ E). ReadAfter end middle after (read_once end x)) is h.behind) in

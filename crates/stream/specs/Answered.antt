@@ -4,10 +4,10 @@ use Rattle.stream.specs.declared.Exchange.{Exchange}
 use Rattle.stream.specs.Reading.{Reading, filled, unread}
 use Rattle.stream.specs.Sent.{Sent, SentOf, sent_of}
 
--- what was read into a buffer of this length, as code returns it
-abbrev pub reading_in : {E : Type 0} → ℕ → Result Exchange E → Reading
-reading_in {E = E} size (Ok a) = filled {E = E} 0 size (Ok a.held)
-reading_in size (Err e) = unread 0
+-- what was read, as code returns it
+abbrev pub reading_in : {E : Type 0} → Result Exchange E → Reading
+reading_in {E = E} (Ok a) = filled {E = E} 0 (Ok a.read)
+reading_in (Err e) = unread 0
 
 -- .. and what was written
 abbrev pub sent_in : {E : Type 0} → Result Exchange E → Sent

@@ -15,6 +15,14 @@ use std::ops::ControlFlow;
 #[derive(Clone, Copy, PartialEq, Eq)]
 pub struct Cut(pub usize);
 
+// How many bytes a buffer holds, and whether the input has ended there; where it has not, the buffer is full.
+// No plainer without the flag: an input may end just where the buffer is full.
+#[derive(Clone, Copy, PartialEq, Eq)]
+pub struct Filled {
+    pub held: usize,
+    pub ended: bool,
+}
+
 // Reads once, after the bytes that the buffer holds; returns how many it holds then: as many as before where the input has ended.
 pub fn read<R: Read>(input: &mut R, buffer: &mut [u8], held: usize) -> io::Result<usize>
     requires { held ≤ length buffer.old }
@@ -23,21 +31,27 @@ pub fn read<R: Read>(input: &mut R, buffer: &mut [u8], held: usize) -> io::Resul
     Ok(held + input.read(&mut buffer[held..])?)
 }
 
-// Reads after the bytes that the buffer holds, until it is full or the input ends; returns how many it holds then.
-pub fn fill<R: Read>(input: &mut R, buffer: &mut [u8], held: usize) -> io::Result<usize>
+// Reads after the bytes that the buffer holds, until it is full or the input ends.
+pub fn fill<R: Read>(input: &mut R, buffer: &mut [u8], held: usize) -> io::Result<Filled>
     requires { held ≤ length buffer.old }
-    ensures { FilledOf held buffer.old buffer.new (filled held (length buffer.old) result) }
+    ensures { FilledOf held buffer.old buffer.new (filled held result) }
 {
     let mut end = held;
     // no plainer as a chain: each read begins where the last one ended
     while end < buffer.len() {
         let next = read(input, buffer, end)?;
         if next == end {
-            return Ok(end);
+            return Ok(Filled {
+                held: end,
+                ended: true,
+            });
         }
         end = next;
     }
-    Ok(end)
+    Ok(Filled {
+        held: end,
+        ended: false,
+    })
 }
 
 // Moves the bytes from a place up to another to the front of the buffer; returns how many they are.
@@ -89,10 +103,10 @@ pub trait Program {
         ensures { SentOf 0 (text bytes.now) (sent_of result) };
 }
 
-// How many bytes of an input the buffer holds, and how many of the answer were written.
+// What was read of an input, and how many bytes of the answer were written.
 #[derive(Clone, Copy, PartialEq, Eq)]
 pub struct Exchange {
-    pub held: usize,
+    pub read: Filled,
     pub sent: Result<usize, Cut>,
 }
 
@@ -106,17 +120,17 @@ pub fn answer<P: Program, R: Read, W: Write, E: Write>(
     buffer: &mut [u8],
 ) -> io::Result<Exchange>
     requires { (bs : List ℕ) → P.text (take (length buffer.old) bs) ≡ P.text bs }
-    ensures { Answered P.text buffer.new (reading_in (length buffer.new) result) (sent_in result) }
+    ensures { Answered P.text buffer.new (reading_in result) (sent_in result) }
 {
-    let held = match fill(input, buffer, 0) {
-        Ok(held) => held,
+    let read = match fill(input, buffer, 0) {
+        Ok(read) => read,
         Err(failure) => {
             let _ = report_unread(log, name);
             return Err(failure);
         }
     };
-    let sent = P::print(out, &buffer[..held]);
-    Ok(Exchange { held, sent })
+    let sent = P::print(out, &buffer[..read.held]);
+    Ok(Exchange { read, sent })
 }
 
 // What came of bytes that were fed: how many were taken, what was written, and whether more are read.

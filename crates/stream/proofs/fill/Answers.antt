@@ -1,5 +1,4 @@
 -- Each read comes after those before it, and the last one ends what the buffer holds.
-use Rattle.std.proofs.Common.{arith}
 use Rattle.stream.proofs.Moving.{read-all, read-failed, read-on}
 use Rattle.stream.proofs.fill.Goals as goal
 
@@ -11,7 +10,7 @@ returns-in_err-next g c =
 pub returns-then-next-end : goal.returns-then-next-end
 returns-then-next-end g c =
     let l = c.loop-end in
-    read-all c.args.held l.end c.args.buffer.now l.buffer c.read.new.buffer l.invariant c.read.result c.read.ensures c.in_ok-next.next c.in_ok-next.was c.if-next-end.true (omega arith)
+    read-all c.args.held l.end c.args.buffer.now l.buffer c.read.new.buffer l.invariant c.read.result c.read.ensures c.in_ok-next.next c.in_ok-next.was c.if-next-end.true
 
 pub loop-end-preserved : goal.loop-end-preserved
 loop-end-preserved g c =
