@@ -4,11 +4,11 @@ use lib.Dec.{eqb}
 use Rattle.std.specs.Cmp.Lexicographic.{pointwise}
 use Rattle.text.specs.Format.{words_of, numbers_in}
 use Rattle.sentence.specs.Reading.{starts_with}
-use Rattle.stream.specs.Sent.{SentOf}
+use Rattle.stream.specs.Sent.{SentOf, sent_of}
 use Rattle.query.specs.declared.Question.TheVariants.{Why}
 use Rattle.query.specs.Query.{answer_to, questions, query_output, word_of}
 use Rattle.query.proofs.Asking.{front-begins, asked_here, asked-on, asked-none}
-use Rattle.query.proofs.print.Goals as goal
+use Rattle.query.proofs.QueryProgram.print.Goals as goal
 
 pub loop-question-init : goal.loop-question-init
 unfolding query_output
@@ -24,7 +24,7 @@ returns-in-Some g c =
     let e : starts_with (word_of q) bs ≡ true =
     sym (front-begins (word_of q) bs) ∙ subst (λ (v : List ℕ). pointwise eqb (take (length v) bs) v ≡ true) w h.0 in
     let t : c.in-Some.table.now ≡ drop (length (word_of q)) bs = h.1 ∙ ap (λ (v : List ℕ). drop (length v) bs) w in
-    subst (λ (t : List ℕ). SentOf 0 t c.send_answer.result)
+    subst (λ (t : List ℕ). SentOf 0 t (sent_of c.send_answer.result))
     (ap (λ (t : List ℕ). answer_to q (numbers_in (words_of t))) t ∙ sym (c.loop-question.invariant ∙ asked_here i bs c.loop-question-test.true e))
     c.send_answer.ensures
 
@@ -42,4 +42,4 @@ pub returns : goal.returns
 returns g c =
     let l = c.loop-question in
     let over : l.question-index ≡ length questions = omega arith in
-    subst (λ (t : List ℕ). SentOf 0 t c.send.result) (sym (l.invariant ∙ asked-none l.question-index _ over)) c.send.ensures
+    subst (λ (t : List ℕ). SentOf 0 t (sent_of c.send.result)) (sym (l.invariant ∙ asked-none l.question-index _ over)) c.send.ensures
