@@ -2,11 +2,11 @@
 use Rattle.std.specs.Prelude.{Err}
 use mathlib.Core.Bool.{Bool, cond, false, true}
 use mathlib.Core.List.{List}
+use mathlib.Core.Path.{ap, sym, subst, ◌∙◌, ◌≡◌, refl}
 use mathlib.Core.Logic.{◌⊎◌, inl, inr}
-use mathlib.Core.Path.{ap, refl, subst, sym, ◌∙◌, ◌≡◌}
 use Prim.Native.Nat.{◌+◌, ◌-◌, ◌<◌, min, ℕ, ◌≤◌}
 use native.Mathlib.Omega.{arith}
-use lib.ListN.{get_or-map, get_or, length, take}
+use lib.ListN.{get_or-map, get_or, length, length-take, take}
 use lib.Seq.{get_or-take}
 use borrow.Author.Tests.{ltb-false, ne_eqb}
 use Rattle.model.specs.Horizon.{horizon, hyperperiod, last_s}
@@ -21,7 +21,7 @@ use Rattle.table.proofs.Loads.{horizon-test}
 use Rattle.table.proofs.Places.{task-at}
 use Rattle.table.proofs.Tests.{from-decides}
 use Rattle.table.specs.Limits.{horizon_out, most_horizon, task_out}
-use Rattle.table.specs.Task.{InLimits, no_task, tasks_of}
+use Rattle.table.specs.Task.{InLimits, TimesWithin, no_task, tasks_of}
 use Rattle.table.specs.Task as table
 use Rattle.table.specs.declared.Task.{Task}
 use Rattle.phase.specs.Task.{past_end, task_of}
@@ -52,6 +52,12 @@ module _ (r : Run) (e : run_out r ≡ false) where
       sym (task-at ts r.count p l) ∙ (ap (λ (τs : List model.Task). get_or τs p model.absent_task) same ∙ tasks-at p l) in
       let i = inside-test (width_limit_in r) (table.task_of (get_or ts p no_task)) (ap (task_out (width_limit_in r)) at ∙ (passes-if r e).tasks p l) in
       record { offset-most = i.offset-most; period-least = i.period-from.0; period-most = i.period-from.1 }
+
+  -- .. as the slice of them has it
+  pub slice-within : (ts : List Task) → tasks_of ts r.count ≡ tasks_in r → InLimits (take r.count ts) (length (take r.count ts))
+  slice-within ts same p l =
+      let here : p < r.count = omega (arith, length-take r.count ts) in
+      subst TimesWithin (sym (get_or-take r.count ts p no_task here)) (plain-within ts same p here)
 
 -- S and P capped decide 9 ..
 pub horizon-out :

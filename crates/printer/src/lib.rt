@@ -2,7 +2,7 @@
 #![tactic(auto)]
 
 ghost use Rattle.std.specs.Prelude.{true, ◌≡◌, ◌≤◌, take};
-ghost use Rattle.simulation.specs.TickState.{numbers_by, tick_state_of};
+ghost use Rattle.simulation.specs.TickState.{numbers_of, tick_state_of};
 ghost use Rattle.printer.specs.Valid.{valid};
 ghost use Rattle.printer.specs.Printer.{Stepping, Stepped, PrinterStartOf, WordsPrinter, MadeFrom, PieceOf, no_table};
 ghost use Rattle.model.specs.Sizes.{most_cores, most_tasks};
@@ -12,14 +12,14 @@ mod valid; // valid.rt: whether a printer can be stepped
 
 use judge::Verdict;
 use model::MOST_TASKS;
-use rule::PAIR;
 use simulation::TRIPLE;
-use simulation::columns::Setting;
+use simulation::columns::Columns;
 use simulation::machine::Registers;
 use table::{Loaded, Task};
 use text::row::{CELLS, LINE};
 use text::{first, row};
 
+// Lengths of buffers that lie in the printer, without a heap: beside the registers, since a step of the loop returns all three.
 // The state of the printing: the registers of its run, the length of the row's text, and that of the line.
 #[derive(Clone, Copy)]
 pub struct Stage {
@@ -42,6 +42,7 @@ pub struct Printer {
     pub given: usize,
 }
 
+// A count of the caller's bytes, as a read gives it: the buffer is lent.
 // The number of bytes written, and the printer of what is left.
 #[derive(Clone, Copy)]
 pub struct Piece {
@@ -49,22 +50,22 @@ pub struct Piece {
     pub length: usize,
 }
 
+// A row's text is made anew where the choice has changed, as plan's row is: of other arguments, into another buffer.
 // Writes the line of a tick, and takes the run one tick on.
 fn next_line(
-    setting: Setting,
-    widths: &[u32; PAIR],
-    times: &[u32; TRIPLE],
+    columns: &Columns,
     stage: Stage,
     places: &mut [u32; TRIPLE],
     text: &mut [u8; CELLS],
     line: &mut [u8; LINE],
 ) -> Stage
-    requires { Stepping (numbers_by setting widths.now times.now) stage places.old text.old line.old }
-    ensures { Stepped (numbers_by setting widths.now times.now) (tick_state_of stage.registers places.old)
+    requires { Stepping (numbers_of columns.now) stage places.old text.old line.old }
+    ensures { Stepped (numbers_of columns.now) (tick_state_of stage.registers places.old)
         (take stage.text text.old) line.old result places.new text.new line.new }
 {
+    let setting = columns.setting;
     let registers = stage.registers;
-    let next = simulation::ticks::step(setting, widths, times, registers, places);
+    let next = simulation::ticks::step(columns, registers, places);
     let mut size = stage.text;
     if (next.chosen != registers.chosen) | (next.even != registers.even) {
         size = cells::put_allocation(
@@ -73,7 +74,7 @@ fn next_line(
             setting.fence,
             next.chosen,
             next.even,
-            widths,
+            &columns.widths,
             setting.count,
             text,
         );
@@ -92,7 +93,6 @@ fn start(table: Loaded, end: u32, verdict: Verdict) -> Printer
     ensures { PrinterStartOf table end verdict result }
 {
     let columns = simulation::columns::columns_of(table);
-    let widths = columns.widths;
     let machine = simulation::machine::start(table);
     let places = machine.places;
     let registers = machine.registers;
@@ -103,7 +103,7 @@ fn start(table: Loaded, end: u32, verdict: Verdict) -> Printer
         table.fence,
         0,
         registers.even,
-        &widths,
+        &columns.widths,
         table.count,
         &mut text,
     );
@@ -125,6 +125,7 @@ fn start(table: Loaded, end: u32, verdict: Verdict) -> Printer
     }
 }
 
+// Zeros, since the table of a printer is public, and `valid` and `PieceOf` speak of it in every printer.
 // A table without tasks, of which no rows are printed.
 fn no_table() -> Loaded
     ensures { result ≡ no_table }
@@ -183,9 +184,6 @@ impl Printer {
         let table = self.table;
         let end = self.end;
         let columns = simulation::columns::columns_of(table);
-        let setting = columns.setting;
-        let widths = columns.widths;
-        let times = columns.times;
         let mut places = self.places;
         let mut stage = self.stage;
         let mut text = self.row;
@@ -202,15 +200,7 @@ impl Printer {
             if stage.registers.tick == end {
                 break;
             }
-            stage = next_line(
-                setting,
-                &widths,
-                &times,
-                stage,
-                &mut places,
-                &mut text,
-                &mut line,
-            );
+            stage = next_line(&columns, stage, &mut places, &mut text, &mut line);
             given = 0;
         }
         let printer = Printer {
@@ -220,7 +210,7 @@ impl Printer {
             stage,
             row: text,
             line,
-            given: given,
+            given,
         };
         Piece {
             printer,
@@ -228,7 +218,7 @@ impl Printer {
         }
     }
 
-    // Fills the buffer with the next bytes of the output; a printer that is not valid has none.
+    // Fills the buffer with the next bytes of the output; a printer that is not valid has none: its length is 0, by `PieceOf`, as that of one at its end.
     pub fn piece(self, buffer: &mut [u8]) -> Piece
         ensures { PieceOf self buffer.old buffer.new result }
     {

@@ -12,7 +12,7 @@ impl Run {
         ensures { result ≡ firm_in self }
     {
         let tasks = self.parameters();
-        judge::is_firm(self.rule, tasks, self.count)
+        judge::is_firm(self.rule, &tasks[..self.count])
     }
 
     // The run with the positions of a set withdrawn: only the withdrawn set changes.

@@ -17,6 +17,7 @@ pub const MOST_HORIZON: u32 = 1_000_000_000;
 pub const HIGH: u64 = 4_294_967_296;
 
 // Whether the core count is not 1 to 64 (number 2).
+// Not one function with `rule_out`: pages name both by their paths, each with its own clause, and each is one expression.
 pub fn cores_out(cores: u32) -> bool
     ensures { result ≡ cores_out cores }
 {
@@ -24,7 +25,7 @@ pub fn cores_out(cores: u32) -> bool
 }
 
 // Whether the rule is not 1 to 4 (number 3).
-// Numbers, since this is the test of which numbers are a rule.
+// Numbers, since this is the test of which numbers are a rule. Like `cores_out`, which pages name too.
 pub fn rule_out(rule: u32) -> bool
     ensures { result ≡ rule_out rule }
 {
@@ -35,7 +36,7 @@ pub fn rule_out(rule: u32) -> bool
 pub fn fence_of(low: u32, high: u32) -> u64
     ensures { result ≡ fence_of low high }
 {
-    low as u64 + high as u64 * HIGH
+    u64::from(low) + u64::from(high) * HIGH
 }
 
 // Whether the fence contains a core past the count, or all cores (number 19).
@@ -53,7 +54,7 @@ pub(crate) fn width_out(wide: u32, task: Task) -> bool
 }
 
 // Whether a task's O, C, T or D is outside its limits (number 8).
-fn times_out(task: Task) -> bool
+pub(crate) fn times_out(task: Task) -> bool
     ensures { result ≡ times_out (task_of task) }
 {
     (MOST_TIME < task.offset)
