@@ -52,6 +52,7 @@ fn write_miss(table: Loaded, tick: u32, place: usize, buffer: &mut [u8]) -> Resu
         × (buffer.new ≡ left_in (sentence_meaning (answered result)) (facts_at (loaded_table table) tick place) buffer.old) }
 {
     let facts = counting::count(table, tick, place);
+    // an array and its length, and not yet the caller's buffer: there is no heap, and on 18 the buffer stays as it was
     let mut text = [0u8; LONGEST];
     let length = writer::put(facts, &mut text);
     if buffer.len() < length {
