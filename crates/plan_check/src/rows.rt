@@ -5,14 +5,12 @@ ghost use Rattle.model.specs.Sizes.{fenced_byte, most_cores, most_tasks};
 ghost use Rattle.phase.specs.Task.{width_now};
 ghost use Rattle.plan_check.specs.Shown.{ShownOf, any_wrong, shown_in, wrong_with};
 
+use model::FENCED;
 use phase::Task;
 use run::Run;
 
 // The bytes that a row can show.
 pub const BYTES: usize = 256;
-
-// The byte of a fenced core.
-const FENCED: u8 = 255;
 
 // Whether a byte is an unknown position on a core: a fenced one without 255, another with a byte above the last position.
 fn unknown_byte(fence: u64, count: usize, core: u32, byte: u8) -> bool
@@ -68,6 +66,7 @@ fn wrong(task: Task, cells: u8) -> bool
 }
 
 // Whether some task of the run is wrong in a row with these counts of cells.
+// Not a struct of the two: `after` has the run in its plan, and would build one to take it apart.
 pub(crate) fn any_wrong(run: Run, cells: &[u8; BYTES]) -> bool
     requires { run.count ≤ most_tasks }
     ensures { result ≡ any_wrong run cells.now }

@@ -6,6 +6,7 @@ ghost use Rattle.printer.specs.Valid.{table_valid, owed, within, valid};
 use crate::Printer;
 use model::{MOST_CORES, MOST_TASKS};
 use simulation::TRIPLE;
+use simulation::gather::places_where;
 use table::Loaded;
 use table::limits::MOST_HORIZON;
 use text::row::{CELLS, LINE};
@@ -29,18 +30,11 @@ fn table_valid(table: Loaded) -> bool
         .all(|task| table::limits::task_number(wide, *task) == 0)
 }
 
-// The set of the places that are owed ticks.
+// The set of the places that are owed ticks. (`rule::owners` is of sets of cores, in a crate below.)
 fn owed(places: [u32; TRIPLE]) -> u32
     ensures { result ≡ owed (segment 0 places) }
 {
-    let mut set: u32 = 0;
-    for i in (0..MOST_TASKS).rev() {
-        set *= 2;
-        if 0 < places[i] {
-            set += 1;
-        }
-    }
-    set
+    places_where(MOST_TASKS, |i| 0 < places[i])
 }
 
 // One expression: the library has no sets of bits.

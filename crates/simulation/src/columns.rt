@@ -33,13 +33,7 @@ pub struct Columns {
 pub fn paired_in(tasks: [Task; MOST_TASKS]) -> u32
     ensures { result ≡ paired_in tasks }
 {
-    let mut paired: u32 = 0;
-    for (i, task) in tasks.iter().enumerate() {
-        if task.width != task.second {
-            paired |= 1u32 << i;
-        }
-    }
-    paired
+    crate::gather::places_where(MOST_TASKS, |i| tasks[i].width != tasks[i].second)
 }
 
 // The numbers of a table, place by place.

@@ -15,13 +15,7 @@ pub(crate) fn due_places(tick: u32, count: usize, places: &[u32; TRIPLE]) -> u32
     requires { count ≤ most_tasks }
     ensures { result ≡ due_at tick count (segment second places.now) }
 {
-    let mut set: u32 = 0;
-    for i in 0..count {
-        if places[EVENT + i] == tick {
-            set |= 1u32 << i;
-        }
-    }
-    set
+    crate::gather::places_where(count, |i| places[EVENT + i] == tick)
 }
 
 // Not one with `due_places`, which the start calls before an event is known: one test before a call of it.
