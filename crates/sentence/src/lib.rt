@@ -57,6 +57,7 @@ fn write_miss(
         × (buffer.new ≡ left_in (sentence_meaning (answered result)) (facts_at (loaded_table fitting.loaded) tick place) buffer.old) }
 {
     let facts = counting::count(fitting.loaded, tick, place);
+    // an array and its length, and not yet the caller's buffer: there is no heap, and on 18 the buffer stays as it was
     let mut text = [0u8; LONGEST];
     let length = writer::put(facts, &mut text);
     if buffer.len() < length {
