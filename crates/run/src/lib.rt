@@ -74,7 +74,7 @@ impl Run {
         ensures { RowOf self empties (row_asked result) }
     {
         let tick = self.tick(empties)?;
-        Ok(rule::row_in(self.cores, self.fence, &tick.sets, self.count))
+        Ok(rule::row_in(self.cores, self.fence, &tick.sets[..self.count]))
     }
 
     // The run one tick on. Bit p of `reports` is set if the job of position p + 1 ends after this tick, and bit p of `empties` if it is
