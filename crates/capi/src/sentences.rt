@@ -28,9 +28,8 @@ pub extern "C" fn sivorandra_facts(bytes: &[u8], facts: &mut [u64], answer: &mut
 {
     if answer_words::fit(facts.len(), facts::WORDS, answer) {
         let found = sentence::facts_of(bytes);
-        let held = found.facts;
-        facts::put_facts(held, facts);
-        let encoded = answer_words::of_parsed(found.found);
+        facts::put_facts(found.unwrap_or_default(), facts);
+        let encoded = answer_words::of_parsed(found.is_some());
         answer_words::put(encoded, answer);
         return 0;
     }

@@ -10,7 +10,7 @@ use lib.Dec.{eqb, leb}
 use lib.ListN.{drop, length, length-map, take}
 use lib.Seq.{drop_at, length-take-le}
 use borrow.Author.Tests.{eqb-false, eqb-true, leb-false, leb-true, ltb-true}
-use Rattle.model.proofs.Bools.{not-true-false}
+use Rattle.std.proofs.lemmas.Bool.{false_from_ne_true}
 use Rattle.table.proofs.Decide.{decides-lt, fails}
 use Rattle.table.specs.Limits.{HorizonOut, horizon_out, most_horizon}
 use Rattle.run.specs.Run.{tasks_in}
@@ -284,10 +284,10 @@ module _ (w : SuppliedPlan) (row : List ℕ) where
 
   module _ (none : NoneApplies w row) where
     passed : state_out r ≡ false
-    passed = not-true-false (state_out r) (λ e. none 14 0 (fourteen ((state-decides r).0 e)))
+    passed = false_from_ne_true (state_out r) (λ e. none 14 0 (fourteen ((state-decides r).0 e)))
 
     timely : missed r ≡ false
-    timely = not-true-false (missed r) (λ e. none 25 t (late-now ((missed-decides r).0 e)))
+    timely = false_from_ne_true (missed r) (λ e. none 25 t (late-now ((missed-decides r).0 e)))
 
     again : ¬ StateOut (worked_row r row)
     again = fails _ _ (state-decides (worked_row r row)) (next-passes passed timely)

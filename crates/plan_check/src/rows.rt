@@ -5,14 +5,12 @@ ghost use Rattle.model.specs.Sizes.{fenced_byte, most_cores, most_tasks};
 ghost use Rattle.phase.specs.Task.{width_now};
 ghost use Rattle.plan_check.specs.Shown.{ShownOf, any_wrong, shown_in, wrong_with};
 
+use model::FENCED;
 use phase::Task;
 use run::Run;
 
 // The bytes that a row can show.
 pub const BYTES: usize = 256;
-
-// The byte of a fenced core.
-const FENCED: u8 = 255;
 
 // Whether a byte is an unknown position on a core: a fenced one without 255, another with a byte above the last position.
 fn unknown_byte(fence: u64, count: usize, core: u32, byte: u8) -> bool

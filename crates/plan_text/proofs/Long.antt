@@ -11,7 +11,8 @@ use lib.ListN.{drop, length, length-append, length-drop, take}
 use lib.Seq.{drop-append-le, length-take-le, take-append-le}
 use borrow.Author.Tests.{ne_eqb}
 use Rattle.model.specs.Sizes.{most_cores}
-use Rattle.model.proofs.Bools.{and_left, not-true-false}
+use Rattle.model.proofs.Bools.{and_left}
+use Rattle.std.proofs.lemmas.Bool.{false_from_ne_true}
 use Rattle.text.specs.Decimal.{all, value}
 use Rattle.text.specs.Format.{is_number, newline}
 use Rattle.text.specs.Input.{length_to}
@@ -64,7 +65,7 @@ mark_on m (b ∷ l) more e = go (eqb b m) e (mark_on m l more)
 
 -- more than ten bytes represent no number
 long-number : (w : List ℕ) → 10 < length w → is_number w ≡ false
-long-number w h = not-true-false (is_number w) (λ e. omega (arith, h, ((number-exact w).0 e).short))
+long-number w h = false_from_ne_true (is_number w) (λ e. omega (arith, h, ((number-exact w).0 e).short))
 
 -- the first word of more than ten bytes ends in them, or is too long for a number
 first_word :

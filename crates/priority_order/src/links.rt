@@ -5,10 +5,10 @@ ghost use Rattle.table.specs.Words.{count, visited};
 ghost use Rattle.judge.specs.Judged.{Judged};
 ghost use Rattle.priority_order.specs.Orders.{OrderIn, reordered};
 
-use conflict::links::WORDS;
+use conflict::links::{NewChain, next_at};
 use judge::Verdict;
 use model::MOST_TASKS;
-use table::{HEADER, RECORD};
+use table::MOST_WORDS;
 
 // The number of the record at a place of the chain.
 fn record_at(words: &[u32], place: usize) -> u32
@@ -17,25 +17,21 @@ fn record_at(words: &[u32], place: usize) -> u32
 {
     let mut number = words[0];
     for _ in 0..place {
-        number = words[HEADER + (number as usize - 1) * RECORD];
+        number = words[next_at(number)];
     }
     number
 }
 
 // The words of the table in an order: the next of each record is the one after it in the order, that of the last is zero.
-pub(crate) fn reordered(words: &[u32], order: [u32; MOST_TASKS], count: usize) -> [u32; WORDS]
+pub(crate) fn reordered(words: &[u32], order: [u32; MOST_TASKS], count: usize) -> [u32; MOST_WORDS]
     requires { OrderIn words.now count order }
     ensures { take (length words.now) result ≡ reordered words.now order }
 {
-    let mut copy = conflict::links::copied(words);
-    let mut link: usize = 0;
+    let mut chain = NewChain::of(words);
     for place in &order[..count] {
-        let number = record_at(words, *place as usize);
-        copy[link] = number;
-        link = HEADER + (number as usize - 1) * RECORD;
+        chain.append(record_at(words, *place as usize));
     }
-    copy[link] = 0;
-    copy
+    chain.end()
 }
 
 // The verdict on the table in an order.

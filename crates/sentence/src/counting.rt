@@ -31,16 +31,6 @@ fn add(granted: u32, ran: &mut [u64; MOST_TASKS])
     }
 }
 
-// The counts of the places above a place, and zeros from it on.
-fn counts_above(ran: [u64; MOST_TASKS], place: usize) -> [u64; MOST_TASKS]
-    requires { (place ≤ most_tasks) × (length ran ≡ most_tasks) }
-    ensures { result ≡ above place ran }
-{
-    let mut counts = [0u64; MOST_TASKS];
-    counts[..place].copy_from_slice(&ran[..place]);
-    counts
-}
-
 // The facts of the first miss, of a place at a tick: the run up to that tick; from the late job's release on, each tick in which it is not granted cores
 // is counted for the places that are.
 pub fn count(table: Loaded, tick: u32, place: usize) -> Facts
@@ -62,20 +52,20 @@ pub fn count(table: Loaded, tick: u32, place: usize) -> Facts
         registers = on.registers;
         if release <= before {
             let granted = registers.granted;
-            let runs = has(granted, place);
-            if !runs {
+            if !has(granted, place) {
                 add(granted, &mut ran);
             }
         }
     }
     let position = place as u32 + 1;
     let had = late.length - places[place];
-    let counts = counts_above(ran, place);
+    // a task has no part that is not above the late one
+    ran[place..].fill(0);
     Facts {
         position,
         tick: tick as u64,
         had: had as u64,
         length: late.length as u64,
-        ran: counts,
+        ran,
     }
 }

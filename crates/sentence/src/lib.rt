@@ -4,7 +4,7 @@
 ghost use Rattle.std.specs.Prelude.{◌≡◌, suc, ◌≤◌, length};
 ghost use Rattle.model.specs.Verdict.{FirstMiss};
 ghost use Rattle.table.specs.Fit.{loaded_table, Fit};
-ghost use Rattle.sentence.specs.Parsed.{no_facts, FactsOf};
+ghost use Rattle.sentence.specs.Parsed.{found_in, FactsOf};
 ghost use Rattle.sentence.specs.Waiting.{facts_at, facts_in};
 ghost use Rattle.sentence.specs.Counting.{LengthsWithin};
 ghost use Rattle.sentence.specs.SentenceAnswer.{answered, by_buffer, by_table, sentence_meaning, left_in, SentenceOf};
@@ -21,7 +21,7 @@ pub const LONGEST: usize = 700;
 
 // The facts of a miss: `ran[q]` is the count of the task at position q + 1, and 0 where it has no part.
 // Zeros where a task has no part, since C reads 32 counts.
-#[derive(Clone, Copy)]
+#[derive(Clone, Copy, Default)]
 pub struct Facts {
     pub position: u32,
     pub tick: u64,
@@ -30,50 +30,19 @@ pub struct Facts {
     pub ran: [u64; MOST_TASKS],
 }
 
-// The result of parsing a text: facts, or none, with zeros for all of them.
-#[derive(Clone, Copy)]
-pub struct ParsedFacts {
-    pub found: bool,
-    pub facts: Facts,
-}
-
-// Nothing is found.
-fn no_facts() -> ParsedFacts
-    ensures { result ≡ no_facts }
-{
-    let ran = [0u64; MOST_TASKS];
-    ParsedFacts {
-        found: false,
-        facts: Facts {
-            position: 0,
-            tick: 0,
-            had: 0,
-            length: 0,
-            ran,
-        },
-    }
-}
-
 // The facts of a sentence; none where the bytes are no sentence of expressible facts.
-pub fn facts_of(bytes: &[u8]) -> ParsedFacts
-    ensures { FactsOf bytes.now result }
+pub fn facts_of(bytes: &[u8]) -> Option<Facts>
+    ensures { FactsOf bytes.now (found_in result) }
 {
-    let Some(head) = reader::read_head(bytes) else {
-        return no_facts();
-    };
-    let Some(ran) = reader::read_parts(bytes, head.next, head.position) else {
-        return no_facts();
-    };
-    ParsedFacts {
-        found: true,
-        facts: Facts {
-            position: head.position as u32,
-            tick: head.tick,
-            had: head.had,
-            length: head.length,
-            ran,
-        },
-    }
+    let (head, parts) = reader::read_head(bytes)?;
+    let ran = reader::read_parts(parts, head.position)?;
+    Some(Facts {
+        position: head.position as u32,
+        tick: head.tick,
+        had: head.had,
+        length: head.length,
+        ran,
+    })
 }
 
 // Writes the sentence of a miss of a place at a tick at the front of the buffer, and returns its length; 18 where the buffer is too short.

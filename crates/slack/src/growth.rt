@@ -9,7 +9,7 @@ ghost use Rattle.slack.specs.Ordered.{ordered};
 ghost use Rattle.slack.specs.Slack.{misses, slack};
 
 use model::MOST_TASKS;
-use table::{Fitting, Loaded};
+use table::Fitting;
 
 // Whether a deadline is missed.
 fn misses(table: Fitting) -> bool
@@ -19,7 +19,7 @@ fn misses(table: Fitting) -> bool
 }
 
 // Whether a deadline is missed with the task at a place longer by `growth` ticks.
-// The place is a number, since the tasks after it are those of the table too.
+// The place is a number: a task by reference would not say which one of the table grows.
 fn misses_longer(table: Fitting, place: usize, growth: u32) -> bool
     requires { (place < table.loaded.count) × ((task (loaded_table table.loaded) place).length + growth ≤ most_time) }
     ensures { result ≡ misses (grown (loaded_table table.loaded) place growth) }
@@ -34,15 +34,10 @@ fn misses_longer(table: Fitting, place: usize, growth: u32) -> bool
 fn is_ordered(table: Fitting) -> bool
     ensures { result ≡ ordered (loaded_table table.loaded).rule (loaded_table table.loaded).tasks }
 {
-    let Loaded {
-        rule,
-        tasks,
-        count,
-        ..
-    } = table.loaded;
-    match rule {
+    let loaded = &table.loaded;
+    match loaded.rule {
         3 | 4 => false,
-        _ => judge::is_firm(rule, &tasks[..count]),
+        _ => judge::is_firm(loaded.rule, &loaded.tasks[..loaded.count]),
     }
 }
 

@@ -17,6 +17,7 @@ pub const MOST_HORIZON: u32 = 1_000_000_000;
 pub const HIGH: u64 = 4_294_967_296;
 
 // Whether the core count is not 1 to 64 (number 2).
+// Not one function with `rule_out`: pages name both by their paths, each with its own clause, and each is one expression.
 pub fn cores_out(cores: u32) -> bool
     ensures { result ≡ cores_out cores }
 {
@@ -24,7 +25,7 @@ pub fn cores_out(cores: u32) -> bool
 }
 
 // Whether the rule is not 1 to 4 (number 3).
-// Numbers, since this is the test of which numbers are a rule.
+// Numbers, since this is the test of which numbers are a rule. Like `cores_out`, which pages name too.
 pub fn rule_out(rule: u32) -> bool
     ensures { result ≡ rule_out rule }
 {

@@ -32,8 +32,7 @@ pub returns-in-Err : goal.returns-in-Err
 returns-in-Err c =
     let a = c.args in
     let l = c.loop-at in
-    taken-over a.start a.from a.ended a.bytes.now l.rows l.at _ l.invariant.0 c.in-Some.ensures _ _ refl c.in-Err.ensures.0
-    (last-ends c.in-Err.answer)
+    taken-over a.start a.from a.ended a.bytes.now l.rows l.at _ l.invariant.0 c.in-Some.ensures _ _ refl c.in-Err.ensures.0 (last-ends c.in-Err.answer)
 
 pub loop-at-smaller : goal.loop-at-smaller
 loop-at-smaller c =

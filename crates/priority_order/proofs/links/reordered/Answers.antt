@@ -1,12 +1,12 @@
 -- The chain is linked along the places passed (`Linking`).
-use Rattle.std.proofs.Common.{◌≡◌, ◌≤◌, ◌<◌, ◌-◌, ◌∙◌, ℕ, List, ap, sym, subst, refl, get_or, get_or-take, length, take, replicate, arith}
+use Rattle.std.proofs.Common.{◌≡◌, ◌≤◌, ◌<◌, ◌+◌, ◌-◌, ◌∙◌, ℕ, List, ap, sym, subst, refl, get_or, get_or-take, length, take, replicate, arith}
 use Rattle.std.proofs.Math.Seq.{length-take-le, take_at}
 use Rattle.conflict.proofs.Linked.{words-most}
 use Rattle.conflict.specs.Relinked.{most_words, next_word_at}
 use Rattle.table.specs.Numbers.{one}
 use Rattle.table.specs.Words.{count, visited}
 use Rattle.priority_order.specs.Orders.{OrderIn, Permutation}
-use Rattle.priority_order.proofs.Reordering.{linking-end, linking-more, linking-record, linking-start, tasks-few}
+use Rattle.priority_order.proofs.Reordering.{Linking, linking-end, linking-more, linking-record, linking-start, tasks-few}
 use Rattle.priority_order.proofs.links.reordered.Goals as goal
 
 module _ (ws : List ℕ) (n : ℕ) (o : List ℕ) (x : OrderIn ws n o) where
@@ -30,8 +30,8 @@ module _ (ws : List ℕ) (n : ℕ) (o : List ℕ) (x : OrderIn ws n o) where
       subst (λ (m : ℕ). (1 ≤ m) × (next_word_at m < length ws)) (sym (record_of number i l e))
       (linking-record ws x.passes o order i (omega (arith, first, x.size)))
 
-pub copied-copy-requires : goal.copied-copy-requires
-copied-copy-requires c = words-most c.args.words.now (λ h. c.requires.passes 1 0 (one h))
+pub of-chain-requires : goal.of-chain-requires
+of-chain-requires c = words-most c.args.words.now (λ h. c.requires.passes 1 0 (one h))
 
 pub slice_bounds-order-end : goal.slice_bounds-order-end
 slice_bounds-order-end c = within c.args.words.now c.args.count c.args.order c.requires
@@ -42,13 +42,15 @@ slice_bounds-place-items-end c = sym (first c.args.words.now c.args.count c.args
 pub loop-place-init : goal.loop-place-init
 loop-place-init c =
     let ws = c.args.words.now in
-    linking-start ws c.requires.passes c.args.order (order ws c.args.count c.args.order c.requires) c.copied-copy.result
-    (ap (take (length ws)) c.copied-copy.ensures ∙ take_at ws (replicate (most_words - length ws) 0) (length ws) refl)
+    subst (λ (link : ℕ). Linking ws c.args.order c.of-chain.result.words link 0) (sym c.of-chain.ensures.1)
+    (linking-start ws c.requires.passes c.args.order (order ws c.args.count c.args.order c.requires) c.of-chain.result.words
+    (ap (take (length ws)) c.of-chain.ensures.0 ∙ take_at ws (replicate (most_words - length ws) 0) (length ws) refl))
 
-pub overflow_sub-link : goal.overflow_sub-link
-overflow_sub-link c =
-    (inside c.args.words.now c.args.count c.args.order c.requires c.record_at-number.result c.loop-place.place-index c.loop-place-test.true
-    c.record_at-number.ensures).0
+pub append-requires : goal.append-requires
+append-requires c =
+    let ws = c.args.words.now in
+    let r = inside ws c.args.count c.args.order c.requires c.record_at.result c.loop-place.place-index c.loop-place-test.true c.record_at.ensures in
+    (r.0, omega (arith, r.1, words-most ws (λ h. c.requires.passes 1 0 (one h))))
 
 pub loop-place-preserved : goal.loop-place-preserved
 loop-place-preserved c =
@@ -57,9 +59,11 @@ loop-place-preserved c =
     let o = c.args.order in
     let x = c.requires in
     let l = c.loop-place in
-    linking-more ws x.passes o (order ws n o x) l.copy l.link l.place-index c.record_at-number.result l.invariant
+    subst (λ (link : ℕ). Linking ws o c.append.new.self.words link (l.place-index + 1)) (sym c.append.ensures.1)
+    (subst (λ (copy : List ℕ). Linking ws o copy (next_word_at c.record_at.result) (l.place-index + 1)) (sym c.append.ensures.0)
+    (linking-more ws x.passes o (order ws n o x) l.chain.words l.chain.link l.place-index c.record_at.result l.invariant
     (omega (arith, first ws n o x, x.size, c.loop-place-test.true))
-    (record_of ws n o x c.record_at-number.result l.place-index c.loop-place-test.true c.record_at-number.ensures)
+    (record_of ws n o x c.record_at.result l.place-index c.loop-place-test.true c.record_at.ensures)))
 
 pub returns : goal.returns
 returns c =
@@ -68,4 +72,4 @@ returns c =
     let o = c.args.order in
     let x = c.requires in
     let l = c.loop-place in
-    linking-end ws x.passes o (order ws n o x) l.copy l.link l.place-index l.invariant (omega (arith, first ws n o x, x.size, c.loop-place-test.false))
+    ap (take (length ws)) c.end.ensures ∙ linking-end ws x.passes o (order ws n o x) l.chain.words l.chain.link l.place-index l.invariant (omega (arith, first ws n o x, x.size, c.loop-place-test.false))
