@@ -4,9 +4,9 @@ ghost use Rattle.simulation.specs.Places.{segment};
 ghost use Rattle.printer.specs.Valid.{table_valid, owed, within, valid};
 
 use crate::Printer;
+use model::sets::places_where;
 use model::{MOST_CORES, MOST_TASKS};
 use simulation::TRIPLE;
-use simulation::gather::places_where;
 use table::Loaded;
 use table::limits::MOST_HORIZON;
 use text::row::{CELLS, LINE};
@@ -30,7 +30,7 @@ fn table_valid(table: Loaded) -> bool
         .all(|task| table::limits::task_number(wide, *task) == 0)
 }
 
-// The set of the places that are owed ticks. (`rule::owners` is of sets of cores, in a crate below.)
+// The set of the places that are owed ticks.
 fn owed(places: [u32; TRIPLE]) -> u32
     ensures { result ≡ owed (segment 0 places) }
 {

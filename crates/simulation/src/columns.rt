@@ -4,6 +4,7 @@ ghost use Rattle.simulation.specs.TickState.{numbers_of, loaded_numbers, paired_
 
 use crate::TRIPLE;
 use model::MOST_TASKS;
+use model::sets::places_where;
 use rule::PAIR;
 use table::{Loaded, Task};
 
@@ -33,7 +34,7 @@ pub struct Columns {
 pub fn paired_in(tasks: [Task; MOST_TASKS]) -> u32
     ensures { result ≡ paired_in tasks }
 {
-    crate::gather::places_where(MOST_TASKS, |i| tasks[i].width != tasks[i].second)
+    places_where(MOST_TASKS, |i| tasks[i].width != tasks[i].second)
 }
 
 // The numbers of a table, place by place.

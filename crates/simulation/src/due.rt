@@ -8,14 +8,14 @@ ghost use Rattle.simulation.specs.EventState.{due_at, earliest_of};
 ghost use Rattle.simulation.specs.Jump.{handled, handled_all};
 
 use crate::{EVENT, NEXT, TRIPLE};
-use model::sets::Members;
+use model::sets::{Members, places_where};
 
 // The set of those of the first `count` places whose event is this tick.
 pub(crate) fn due_places(tick: u32, count: usize, places: &[u32; TRIPLE]) -> u32
     requires { count ≤ most_tasks }
     ensures { result ≡ due_at tick count (segment second places.now) }
 {
-    crate::gather::places_where(count, |i| places[EVENT + i] == tick)
+    places_where(count, |i| places[EVENT + i] == tick)
 }
 
 // Not one with `due_places`, which the start calls before an event is known: one test before a call of it.

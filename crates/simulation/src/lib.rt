@@ -13,7 +13,6 @@ pub mod columns; // columns.rt: the table's numbers, as the machine is stepped w
 mod due; // due.rt: the places whose event a tick is
 pub mod events; // events.rt: from event to event
 pub mod machine; // machine.rt: the machine, and how it starts
-pub mod gather; // gather.rt: the set of the places at which a test holds
 pub mod ticks; // ticks.rt: tick by tick
 
 // The places' array has the ticks left of each place first, then its next event, then its next release.
