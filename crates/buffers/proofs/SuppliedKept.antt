@@ -338,7 +338,7 @@ fits-begun ws = go (answer_of ws) refl
     go (table.Refused n p) e =
         subst (λ (b : Begun). FitsPlan b.plan) (sym (begin-refused ws n p e)) (record { fits = record { all = refl; few = omega arith; past = refl }; many = refl })
 
--- begin writes all words of the plan that it returns, whatever was there
+-- begin writes all words of the plan that it returns, whatever was there (cited by none: it states what `begun_in` promises)
 pub begin-whole : (ws buffer : List ℕ) → plan_words ≤ length buffer → take plan_words (begun_in ws buffer) ≡ encode_plan (begin_of ws).plan
 begin-whole ws buffer long =
     let w = (begin_of ws).plan in

@@ -1,9 +1,10 @@
 -- A supplied plan in a buffer: what is written, and a row taken, by what the buffer holds.
 use Rattle.std.specs.Prelude.{Err}
-use mathlib.Core.Path.{◌≡◌, sym, ap, ◌∙◌}
+use mathlib.Core.Path.{◌≡◌, refl, sym, ap, ◌∙◌}
 use mathlib.Core.Bool.{Bool, true, false, ◌&&◌, cond}
 use mathlib.Core.List.{List, [], ◌∷◌}
 use Prim.Native.Nat.{ℕ, ◌≤◌, ◌<◌}
+use Rattle.std.proofs.Common.{Some, None}
 use lib.ListN.{length, get_or, take, drop, set}
 use lib.Dec.{leb}
 use borrow.Author.Tests.{le-leb, lt-leb, leb-true}
@@ -18,7 +19,7 @@ use Rattle.plan_check.specs.declared.SuppliedPlan.{SuppliedPlan}
 use Rattle.plan_check.specs.Extent.{ExtentOf, extent_in}
 use Rattle.plan_check.proofs.PlanExtent.{extent-turns-down}
 use Rattle.buffers.specs.Encoding.{places, overwritten, count_in, holds_run, run_in}
-use Rattle.buffers.specs.Supplied.{tick_at, notes_at, plan_words, notes_words, put_at, moved_in, plan_over, notes_in, holds_plan, plan_in, BufferPlan, plan, none, decode_plan}
+use Rattle.buffers.specs.Supplied.{tick_at, notes_at, plan_words, notes_words, put_at, moved_in, plan_over, notes_in, holds_plan, plan_in, BufferPlan, plan, none, decode_plan, plan_read}
 use Rattle.buffers.specs.CheckRow.{RowChecked, kept_plan, check_row_from}
 use Rattle.buffers.proofs.Places.{held-few}
 use Rattle.buffers.proofs.Noting.{word-put}
@@ -51,6 +52,20 @@ module _ (ws : List ℕ) where
 
   pub by-held-plan : {t : Bool} → holds_plan ws ≡ t → decode_plan ws ≡ cond t (plan (plan_in ws)) none
   by-held-plan e = ap (λ (t : Bool). cond t (plan (plan_in ws)) none) e
+
+  -- .. and read
+  pub plan-none : holds_plan ws ≡ false → None ≡ plan_read (decode_plan ws)
+  plan-none e = ap plan_read (sym (by-held-plan e))
+
+  pub plan-some : holds_plan ws ≡ true → Some (plan_in ws) ≡ plan_read (decode_plan ws)
+  plan-some e = ap plan_read (sym (by-held-plan e))
+
+  pub plan-held : (w : SuppliedPlan) → Some w ≡ plan_read (decode_plan ws) → (holds_plan ws ≡ true) × (w ≡ plan_in ws)
+  plan-held w e = go (holds_plan ws) refl
+    where
+      go : (t : Bool) → holds_plan ws ≡ t → (holds_plan ws ≡ true) × (w ≡ plan_in ws)
+      go true h = (h, let same : Some w ≡ Some (plan_in ws) = e ∙ sym (plan-some h) in cc)
+      go false h = let no : Some w ≡ None = e ∙ sym (plan-none h) in absurd (cc)
 
   -- what a buffer that holds a plan has
   module _ (e : holds_plan ws ≡ true) where

@@ -1,5 +1,7 @@
 -- An answer in three words: the case and its two numbers, 0 where it has none.
-use Rattle.std.specs.Prelude.{Bool, true, false, cond, ◌&&◌, List, ◌∷◌, ◌≡◌, ℕ, ◌≤◌, leb, length, drop}
+use Rattle.std.specs.Prelude.{Bool, true, false, cond, ◌&&◌, List, ◌∷◌, ◌≡◌, ℕ, ◌≤◌, leb, length, drop, Result}
+use Rattle.std.specs.Result.{result_unwrap_or}
+use Rattle.model.specs.declared.refusal.Refusal.{Refusal}
 use Rattle.model.specs.Sizes.{most_word}
 use Rattle.table.specs.Answer as table
 use Rattle.judge.specs.declared.Verdict.{Verdict}
@@ -47,6 +49,10 @@ of_sentence (sentence.Refused n p) = answer_words 3 n p
 abbrev pub of_given : table.Answer → ℕ → AnswerWords
 of_given table.Passed x = answer_words 0 x 0
 of_given (table.Refused n p) x = answer_words 3 n p
+
+-- .. as code returns it: given with a number beside it, or refused
+abbrev pub of_result : Result ℕ Refusal → AnswerWords
+of_result r = of_given (table.answer_in r) (result_unwrap_or r 0)
 
 -- take's three cases: 0 taken, 6 accepted, 3 Refused number tick
 abbrev pub of_taken : plan_check.Answer → AnswerWords

@@ -19,6 +19,7 @@ pub(crate) fn blank() -> [Note; MOST_TASKS]
 }
 
 // A state of all zeros, which 14 turns down: its run is that of a refused start.
+// By hand: `empty_state` of specs, which C finds after a refused beginning, has Resting(0), and no derive gives that.
 pub fn empty() -> SuppliedPlan
     ensures { result ≡ empty_state }
 {

@@ -14,6 +14,7 @@ use phase::Phase;
 use run::Run;
 
 // Whether no supplied plan leaves a task in this phase: it holds, or its counts are unequal.
+// A match, since one case compares its numbers: a `matches!` with a guard is no shorter.
 fn unreachable(phase: Phase) -> bool
     ensures { result ≡ unreachable_phase phase }
 {

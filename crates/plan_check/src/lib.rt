@@ -25,6 +25,7 @@ pub struct Note {
 }
 
 // A supplied plan between two rows: a run, its tick, and the phases recorded at the last S.
+// The notes stand beside the run's tasks: C's words of a plan, and `kept_plan` of specs, have the run and then the notes.
 #[derive(Clone, Copy)]
 pub struct SuppliedPlan {
     pub run: Run,
@@ -72,8 +73,7 @@ impl SuppliedPlan {
         Ok((progress, next))
     }
 
-    // The answer of `check_row` to the row of this tick, where its extent is known: for plans of many rows.
-    // The state that it returns is ready for the next row.
+    // The answer of `check_row` to the row of this tick, where its extent is known, for plans of many rows: the next state has the same one.
     pub fn enter(self, extent: Extent, row: &[u8]) -> Result<(Progress, SuppliedPlan), Refusal>
         requires { Ready self.run extent.start extent.horizon }
         ensures { (entered_in self result ≡ check_row_of self row.now) × Ready (entered_in self result).plan.run extent.start extent.horizon }

@@ -66,6 +66,7 @@ fn wrong(task: Task, cells: u8) -> bool
 }
 
 // Whether some task of the run is wrong in a row with these counts of cells.
+// Not a struct of the two: `after` has the run in its plan, and would build one to take it apart.
 pub(crate) fn any_wrong(run: Run, cells: &[u8; BYTES]) -> bool
     requires { run.count ≤ most_tasks }
     ensures { result ≡ any_wrong run cells.now }

@@ -225,6 +225,7 @@ impl Check {
     pub fn feed(self, bytes: &[u8], ended: bool) -> Fed
         ensures { FedOf (check_in self) ended bytes.now (fed_in result) }
     {
+        // A match: FedOf speaks of a check in any stage.
         match self {
             Check::Table => feed_table(bytes, ended),
             Check::Plan(rows) => feed_plan(rows, bytes, 0, ended),

@@ -13,16 +13,15 @@ ghost use Rattle.table.specs.Numbers.{NoneApplies};
 ghost use Rattle.table.specs.Words.{table_of};
 ghost use Rattle.text.specs.Written.{Put};
 ghost use Rattle.text.specs.Format.{words_of, numbers_in};
-ghost use Rattle.stream.specs.Sent.{SentOf};
-ghost use Rattle.stream.specs.Answered.{Answered};
+ghost use Rattle.stream.specs.Sent.{SentOf, sent_of};
 ghost use Rattle.query.specs.Figures.{figure_lines};
 ghost use Rattle.query.specs.Positions.{spaced_at, position_line};
 ghost use Rattle.query.specs.Query.{answer_room, refusal_line, PutOf, verdict_text, why_of, response_times_text, conflict_text, slack_text, bounds_text, answer_to, word_of, query_output};
 
 use model::{MOST_TASKS, Refusal};
 use sentence::LONGEST;
-use std::io::{Read, Write};
-use stream::{Reading, Sent};
+use std::io::Write;
+use stream::{Cut, Program};
 use text::ENOUGH;
 
 // A question on a table.
@@ -45,14 +44,6 @@ const INPUT: usize = WORD + ENOUGH;
 
 // The most bytes of an answer: a sentence and a newline.
 const ROOM: usize = LONGEST + 1;
-
-// The result: the buffer and what was read into it, and what was printed.
-#[derive(Clone, Copy)]
-struct Outcome {
-    bytes: [u8; INPUT],
-    reading: Reading,
-    sent: Sent,
-}
 
 // Writes the verdict's line at the front of the line; returns where it ends.
 fn verdict(words: &[u32], line: &mut [u8]) -> usize
@@ -198,8 +189,8 @@ fn put(question: Question, words: &[u32], lines: &mut [u8]) -> usize
 }
 
 // Prints the answer to a question on the table in these bytes.
-fn send_answer<W: Write>(out: &mut W, question: Question, bytes: &[u8]) -> Sent
-    ensures { SentOf 0 (answer_to question (numbers_in (words_of bytes.now))) result }
+fn send_answer<W: Write>(out: &mut W, question: Question, bytes: &[u8]) -> Result<usize, Cut>
+    ensures { SentOf 0 (answer_to question (numbers_in (words_of bytes.now))) (sent_of result) }
 {
     let mut lines = [0u8; ROOM];
     let length = match text::read(bytes) {
@@ -224,54 +215,37 @@ fn word_of(question: Question) -> &'static [u8]
     }
 }
 
-// Prints the answer to the question on a table.
-fn print<W: Write>(out: &mut W, bytes: &[u8]) -> Sent
-    ensures { SentOf 0 (query_output bytes.now) result }
-{
-    let questions = [
-        Question::Why,
-        Question::ResponseTimes,
-        Question::Conflict,
-        Question::Slack,
-        Question::Bounds,
-        Question::Verdict,
-    ];
-    for question in questions {
-        if let Some(table) = bytes.strip_prefix(word_of(question)) {
-            return send_answer(out, question, table);
-        }
-    }
-    stream::send(out, 0, b"no such question\n")
-}
+// The program `query`.
+struct Query;
 
-// Reads standard input until its end, or until it is longer than any question can be, and prints the answer; a read that fails is reported, and nothing is
-// printed.
-fn answer<R: Read, W: Write, E: Write>(input: &mut R, out: &mut W, log: &mut E) -> Outcome
-    ensures { Answered query_output result.bytes result.reading result.sent }
-{
-    let mut bytes = [0u8; INPUT];
-    let reading = stream::fill(input, &mut bytes, 0);
-    if reading.failed {
-        stream::report_unread(log, b"ask");
-        let sent = Sent {
-            count: 0,
-            whole: true,
-        };
-        return Outcome {
-            bytes,
-            reading,
-            sent,
-        };
-    }
-    let held = reading.held;
-    let sent = print(out, &bytes[..held]);
-    Outcome {
-        bytes,
-        reading,
-        sent,
+impl Program for Query {
+    ghost text = { query_output };
+
+    fn print<W: Write>(out: &mut W, bytes: &[u8]) -> Result<usize, Cut> {
+        let questions = [
+            Question::Why,
+            Question::ResponseTimes,
+            Question::Conflict,
+            Question::Slack,
+            Question::Bounds,
+            Question::Verdict,
+        ];
+        for question in questions {
+            if let Some(table) = bytes.strip_prefix(word_of(question)) {
+                return send_answer(out, question, table);
+            }
+        }
+        stream::send(out, 0, b"no such question\n")
     }
 }
 
 fn main(rt: HostRuntime) {
-    answer(&mut rt.stdin(), &mut rt.stdout(), &mut rt.stderr());
+    let mut bytes = [0u8; INPUT];
+    let _ = stream::answer::<Query, _, _, _>(
+        &mut rt.stdin(),
+        &mut rt.stdout(),
+        &mut rt.stderr(),
+        b"ask",
+        &mut bytes,
+    );
 }

@@ -23,6 +23,7 @@ fn code(refusal: Refusal) -> u32
 }
 
 // Whether words of this kind with this last word are an entry's: an advance's, or a withdrawal's, whose last word is 0.
+// A number, since C's entries are words, and `is_entry` of specs/ answers of every kind.
 fn is_entry(kind: u32, second: u32) -> bool
     ensures { result ≡ is_entry kind second }
 {
@@ -67,9 +68,10 @@ fn enter_all(run: Run, entries: &[u32], numbers: &mut [u32]) -> Run
     ensures { (result ≡ run_after_list run (entries_in entries.now))
         × (numbers.new ≡ codes run (entries_in entries.now) ++ drop (entry_count entries.now) numbers.old) }
 {
+    let (triples, _) = entries.as_chunks::<3>();
     let mut last = run;
-    for i in 0..entries.len() / 3 {
-        match enter(last, entries[3 * i], entries[3 * i + 1], entries[3 * i + 2]) {
+    for (i, entry) in triples.iter().enumerate() {
+        match enter(last, entry[0], entry[1], entry[2]) {
             Ok(next) => {
                 numbers[i] = 0;
                 last = next;
@@ -89,6 +91,7 @@ pub fn put(row: [u8; ROW], bytes: &mut [u8])
 }
 
 // A run that has started, through the list of entries: its answers and its last row are written, zeros where the row is refused.
+// The slices are apart, as C lends them to `replay`, which hands all on: a struct of them would be made and taken apart again.
 pub(crate) fn replay_run(
     run: Run,
     entries: &[u32],

@@ -5,7 +5,7 @@ ghost use Rattle.std.specs.Prelude.{◌≡◌};
 ghost use Rattle.session.specs.declared.Stage.TheVariants.{Table, Operations};
 ghost use Rattle.session.specs.Session.{transcript_in, is_over, fed_with, FedBy, FedOf, NewOf};
 
-pub mod open; // open.rt: the table, and the run that it starts
+mod open; // open.rt: the table, and the run that it starts
 pub mod operations; // operations.rt: the operation of a line
 mod replies; // replies.rt: the reply to an operation
 
@@ -54,35 +54,6 @@ fn fed_with(stage: Stage, run: Run, taken: usize, length: usize) -> Fed
     }
 }
 
-// The table, once it has ended, and the answer to it.
-fn feed_table(run: Run, bytes: &[u8], ended: bool, out: &mut [u8; REPLY]) -> Fed
-    ensures { FedBy (transcript_in Table run) ended bytes.now out.old out.new result }
-{
-    let Some(part) = splitter::table(bytes, ended) else {
-        return fed_with(Stage::Table, run, 0, 0);
-    };
-    let opened = open::begin(&bytes[..part.end], out);
-    match opened.run {
-        Some(begun) => fed_with(Stage::Operations, begun, part.next, opened.length),
-        None => fed_with(Stage::Over, run, part.next, opened.length),
-    }
-}
-
-// The first operation, once its line has ended, and the reply to it; a line longer than any operation is none.
-fn feed_operations(run: Run, bytes: &[u8], ended: bool, out: &mut [u8; REPLY]) -> Fed
-    ensures { FedBy (transcript_in Operations run) ended bytes.now out.old out.new result }
-{
-    let Some(part) = splitter::line(bytes, NONE_LONG, ended) else {
-        return fed_with(Stage::Operations, run, 0, 0);
-    };
-    let Some(operation) = operations::operation_of(&bytes[..part.end]) else {
-        let length = replies::write_word(b"not an operation", out);
-        return fed_with(Stage::Over, run, bytes.len(), length);
-    };
-    let reply = replies::answer(run, operation, out);
-    fed_with(Stage::Operations, reply.run, part.next, reply.length)
-}
-
 impl Session {
     // A session before its first byte.
     #[tactic(auto, unfolding(crate::specs::Transcript::transcript, crate::specs::Transcript::transcript_so_far))]
@@ -95,13 +66,42 @@ impl Session {
         }
     }
 
+    // The table, once it has ended, and the answer to it; a text longer than any table can be ends the session.
+    fn feed_table(self, bytes: &[u8], ended: bool, out: &mut [u8; REPLY]) -> Fed
+        ensures { FedBy (transcript_in Table self.run) ended bytes.now out.old out.new result }
+    {
+        let Some(part) = splitter::table(bytes, ended) else {
+            return fed_with(Stage::Table, self.run, 0, 0);
+        };
+        let begun = open::begin(&bytes[..part.end], out);
+        if text::BYTES < part.end {
+            return fed_with(Stage::Over, begun.run, part.next, begun.length);
+        }
+        fed_with(Stage::Operations, begun.run, part.next, begun.length)
+    }
+
+    // The first operation, once its line has ended, and the reply to it; a line longer than any operation is none.
+    fn feed_operations(self, bytes: &[u8], ended: bool, out: &mut [u8; REPLY]) -> Fed
+        ensures { FedBy (transcript_in Operations self.run) ended bytes.now out.old out.new result }
+    {
+        let Some(part) = splitter::line(bytes, NONE_LONG, ended) else {
+            return fed_with(Stage::Operations, self.run, 0, 0);
+        };
+        let Some(operation) = operations::operation_of(&bytes[..part.end]) else {
+            let length = replies::write_line(b"not an operation", &[], out);
+            return fed_with(Stage::Over, self.run, bytes.len(), length);
+        };
+        let reply = replies::answer(self.run, operation, out);
+        fed_with(Stage::Operations, reply.run, part.next, reply.length)
+    }
+
     // Takes the table or a line of the bytes, where it has ended or the input has, and writes the reply to it; what is left is to be fed again.
     pub fn feed(self, bytes: &[u8], ended: bool, out: &mut [u8; REPLY]) -> Fed
         ensures { FedOf self ended bytes.now out.old out.new result }
     {
         match self.stage {
-            Stage::Table => feed_table(self.run, bytes, ended, out),
-            Stage::Operations => feed_operations(self.run, bytes, ended, out),
+            Stage::Table => self.feed_table(bytes, ended, out),
+            Stage::Operations => self.feed_operations(bytes, ended, out),
             Stage::Over => fed_with(Stage::Over, self.run, bytes.len(), 0),
         }
     }

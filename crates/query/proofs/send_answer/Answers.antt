@@ -3,7 +3,7 @@ use Rattle.std.proofs.Common.{◌≡◌, ◌∙◌, List, ℕ, take, ap, ap₂, 
 use Rattle.text.specs.Format.{words_of, numbers_in}
 use Rattle.text.specs.Input.{read_in}
 use Rattle.text.proofs.ReadOf.{numbers-read}
-use Rattle.stream.specs.Sent.{SentOf}
+use Rattle.stream.specs.Sent.{SentOf, sent_of}
 use Rattle.query.specs.Query.{answer_to}
 use Rattle.query.proofs.send_answer.Goals as goal
 use Rattle.query.proofs.send_answer.Goals.{in-Some, in-None}
@@ -18,4 +18,4 @@ returns g c =
           ∙ ap said (w.as_slice.ensures ∙ numbers-read (read_in (Some w.in-Some.words)) bytes w.in-Some.ensures.value)
       | in-None w ↦ ap₂ take w.length-is w.lines-is ∙ w.put-length-in-None.ensures.1 ∙ ap said (numbers-read (read_in None) bytes w.in-None.ensures.value)
     ] in
-    subst (λ (l : List ℕ). SentOf 0 l c.send.result) text c.send.ensures
+    subst (λ (l : List ℕ). SentOf 0 l (sent_of c.send.result)) text c.send.ensures

@@ -3,21 +3,18 @@ use Rattle.std.proofs.Common.{sym, ap, ◌∙◌}
 use Rattle.model.proofs.Exits.{err-as}
 use Rattle.plan_check.proofs.StateTests.{few}
 use Rattle.plan_check.specs.RowAnswer.{answer_in}
-use Rattle.buffers.proofs.Supplying.{plan-long, plan-few, take-extent}
+use Rattle.buffers.proofs.Supplying.{plan-held, plan-long, take-extent}
 use Rattle.buffers.proofs.plan_buffer.take.Goals as goal
-
-pub plan_in-plan-requires : goal.plan_in-plan-requires
-plan_in-plan-requires c =
-    let h = sym c.holds.ensures ∙ c.if-not-holds.false in
-    (plan-long c.args.words.now h, plan-few c.args.words.now h)
 
 pub returns-in_err-extent : goal.returns-in_err-extent
 returns-in_err-extent c =
     let x = c.in_err-extent.field-0.0 in
     let ws = c.args.words.now in
+    let (h, same) = plan-held ws c.in-Some.plan (sym c.in-Some.is ∙ c.plan_in.ensures) in
     ap (λ r. record { answer = answer_in r; buffer = ws }) (err-as c.from_residual.result x c.from_residual.ensures.1)
-    ∙ take-extent ws c.args.row.now c.plan_in-plan.result x (sym c.holds.ensures ∙ c.if-not-holds.false) c.plan_in-plan.ensures c.in_err-extent.ensures
+    ∙ take-extent ws c.args.row.now c.in-Some.plan x h same c.in_err-extent.ensures
 
 pub put_plan-requires : goal.put_plan-requires
 put_plan-requires c =
-    (few c.in_ok-progress.next.run c.in_ok-progress.ensures.1.passes, plan-long c.args.words.now (sym c.holds.ensures ∙ c.if-not-holds.false))
+    let (h, same) = plan-held c.args.words.now c.in-Some.plan (sym c.in-Some.is ∙ c.plan_in.ensures) in
+    (few c.in_ok-progress.next.run c.in_ok-progress.ensures.1.passes, plan-long c.args.words.now h)
