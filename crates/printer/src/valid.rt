@@ -11,8 +11,8 @@ use table::Loaded;
 use table::limits::MOST_HORIZON;
 use text::row::{CELLS, LINE};
 
-// `task_number` is public and answers 0, 7 or 8: 0 is none.
 // Whether a table's count, core count and tasks are in their limits.
+// `task_number` is public and answers 0, 7 or 8: 0 is none.
 fn table_valid(table: Loaded) -> bool
     ensures { result ≡ table_valid table }
 {
@@ -37,8 +37,8 @@ fn owed(places: [u32; TRIPLE]) -> u32
     places_where(MOST_TASKS, |i| 0 < places[i])
 }
 
-// One expression: the library has no sets of bits.
 // Whether every place of one set is in another.
+// One expression: the library has no sets of bits.
 fn within(a: u32, b: u32) -> bool
     ensures { result ≡ within a b }
 {

@@ -21,8 +21,8 @@ pub struct Setting {
 
 // The numbers of a table that its run is stepped with; `widths` has the first of each place before the second, `times` has the lengths first,
 // then the deadlines, then the periods.
-// One array of widths, since the public functions of rule and `widths_in` (rule/specs/Widths) speak of one list, the first width of every place first.
-// One of times, as one of places beside it (`machine::Machine`): `release` copies from one to the other at equal places.
+// One array of widths, since rule's public functions and `widths_in` (rule/specs/Widths) speak of one list.
+// One of times, as one of places beside it (`machine::Machine`): `release` copies from one to the other.
 #[derive(Clone, Copy)]
 pub struct Columns {
     pub setting: Setting,
