@@ -15,10 +15,10 @@ use simulation::columns::Columns;
 use simulation::events::Registers;
 use table::Loaded;
 
-// Not one function with that of ticks: the end, the places that are asked, what is late and the step differ (by_ticks.rt says more).
-// It asks for some table of whose numbers the state is reached: a state in a struct with a ghost table would ask more of callers.
 // The full-length run from an event on, to the first event at tick `end` or later, or to the first deadline that it misses before `end`. All that goes from
 // event to event in a program goes through this loop: it is the only one that calls `jump`, which is then compiled into it.
+// Not one function with that of ticks: by_ticks.rt says why.
+// It asks for some table whose run reaches the state: a struct with a ghost table would ask more of callers.
 pub fn run_on(
     columns: &Columns,
     start: Registers,
@@ -51,9 +51,9 @@ pub fn run_on(
     }
 }
 
+// The first deadline that the full-length run misses before tick `end`, at equal ticks the first in priority.
 // Four calls, of the events' own start and loop, which tests/outside/event-judge reads here.
 // Table and end apart: the function is public, and `judge_by` takes it as it is.
-// The first deadline that the full-length run misses before tick `end`, at equal ticks the first in priority.
 pub fn first_miss(table: Loaded, end: u32) -> Option<Miss>
     requires { Fit table × (end ≤ table.horizon + 1) }
     ensures { MissedByJumps table end (miss_of result) }

@@ -14,11 +14,11 @@ use simulation::columns::Columns;
 use simulation::machine::Registers;
 use table::Loaded;
 
-// Not one function with that of events: the end, the places that are asked, what is late and the step differ. The labelled loop over ticks is a form that
-// docs/SCOPE.md names, and tests/outside/event-judge reads that the events' own loop reaches none of ticks.
-// It asks for some table of whose numbers the state is reached: a state in a struct with a ghost table would ask more of callers.
 // The full-length run from a tick on, to tick `end` or to the first deadline that it misses before. All that goes tick by tick in a program goes through this
 // loop: it is the only one that calls `step`, which is then compiled into it.
+// Not one function with that of events: the end, the places asked, what is late and the step differ.
+// docs/SCOPE.md names this labelled loop as a form, and tests/outside/event-judge reads the events' own loop.
+// It asks for some table whose run reaches the state: a struct with a ghost table would ask more of callers.
 pub fn run_on(
     columns: &Columns,
     start: Registers,
@@ -53,9 +53,9 @@ pub fn run_on(
     }
 }
 
+// The first deadline that the full-length run misses before tick `end`, at equal ticks the first in priority.
 // Four calls, of the ticks' own start and loop: a function for both ways would take both, and be longer.
 // Table and end apart: the function is public, and `judge_by` takes it as it is.
-// The first deadline that the full-length run misses before tick `end`, at equal ticks the first in priority.
 pub fn first_miss(table: Loaded, end: u32) -> Option<Miss>
     requires { Fit table × (end ≤ table.horizon + 1) }
     ensures { MissedOf (loaded_table table) end (miss_of result) }

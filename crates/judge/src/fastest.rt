@@ -8,8 +8,8 @@ ghost use Rattle.judge.specs.FirstMiss.{MissedOf, miss_of};
 use crate::Miss;
 use table::Loaded;
 
-// Table and end apart: the function is public, and `judge_by` takes it as it is.
 // The first deadline that the full-length run misses before tick `end`, at equal ticks the first in priority.
+// Table and end apart: the function is public, and `judge_by` takes it as it is.
 pub fn first_miss(table: Loaded, end: u32) -> Option<Miss>
     requires { Fit table × (end ≤ table.horizon + 1) }
     ensures { MissedOf (loaded_table table) end (miss_of result) }

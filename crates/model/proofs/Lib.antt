@@ -14,6 +14,7 @@ pub mod Refusals
 pub mod Search
 pub mod Lists
 pub mod Digits
+pub mod Gathered
 pub mod Members
 pub mod Jobs
 pub mod Grants

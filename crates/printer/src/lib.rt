@@ -19,8 +19,8 @@ use table::{Loaded, Task};
 use text::row::{CELLS, LINE};
 use text::{first, row};
 
-// Lengths of buffers that lie in the printer, without a heap: beside the registers, since a step of the loop returns all three.
 // The state of the printing: the registers of its run, the length of the row's text, and that of the line.
+// Lengths of buffers that lie in the printer, without a heap. A step of the loop returns all three.
 #[derive(Clone, Copy)]
 pub struct Stage {
     pub registers: Registers,
@@ -42,16 +42,16 @@ pub struct Printer {
     pub given: usize,
 }
 
-// A count of the caller's bytes, as a read gives it: the buffer is lent.
 // The number of bytes written, and the printer of what is left.
+// A count of the caller's bytes, as a read gives it: the buffer is lent.
 #[derive(Clone, Copy)]
 pub struct Piece {
     pub printer: Printer,
     pub length: usize,
 }
 
-// A row's text is made anew where the choice has changed, as plan's row is: of other arguments, into another buffer.
 // Writes the line of a tick, and takes the run one tick on.
+// A row's text is made anew where the choice has changed, as plan's row is: of other arguments, into another buffer.
 fn next_line(
     columns: &Columns,
     stage: Stage,
@@ -125,8 +125,8 @@ fn start(table: Loaded, end: u32, verdict: Verdict) -> Printer
     }
 }
 
-// Zeros, since the table of a printer is public, and `valid` and `PieceOf` speak of it in every printer.
 // A table without tasks, of which no rows are printed.
+// Zeros, since the table of a printer is public, and `valid` and `PieceOf` speak of it in every printer.
 fn no_table() -> Loaded
     ensures { result ≡ no_table }
 {
@@ -210,7 +210,8 @@ impl Printer {
         }
     }
 
-    // Fills the buffer with the next bytes of the output; a printer that is not valid has none: its length is 0, by `PieceOf`, as that of one at its end.
+    // Fills the buffer with the next bytes of the output; a printer that is not valid has none.
+    // The length 0 is a count of bytes, as at the end of the output (`PieceOf`).
     pub fn piece(self, buffer: &mut [u8]) -> Piece
         ensures { PieceOf self buffer.old buffer.new result }
     {

@@ -4,15 +4,15 @@ ghost use Rattle.simulation.specs.Places.{segment};
 ghost use Rattle.printer.specs.Valid.{table_valid, owed, within, valid};
 
 use crate::Printer;
+use model::sets::places_where;
 use model::{MOST_CORES, MOST_TASKS};
 use simulation::TRIPLE;
-use simulation::gather::places_where;
 use table::Loaded;
 use table::limits::MOST_HORIZON;
 use text::row::{CELLS, LINE};
 
-// `task_number` is public and answers 0, 7 or 8: 0 is none.
 // Whether a table's count, core count and tasks are in their limits.
+// `task_number` is public and answers 0, 7 or 8: 0 is none.
 fn table_valid(table: Loaded) -> bool
     ensures { result ≡ table_valid table }
 {
@@ -30,15 +30,15 @@ fn table_valid(table: Loaded) -> bool
         .all(|task| table::limits::task_number(wide, *task) == 0)
 }
 
-// The set of the places that are owed ticks. (`rule::owners` is of sets of cores, in a crate below.)
+// The set of the places that are owed ticks.
 fn owed(places: [u32; TRIPLE]) -> u32
     ensures { result ≡ owed (segment 0 places) }
 {
     places_where(MOST_TASKS, |i| 0 < places[i])
 }
 
-// One expression: the library has no sets of bits.
 // Whether every place of one set is in another.
+// One expression: the library has no sets of bits.
 fn within(a: u32, b: u32) -> bool
     ensures { result ≡ within a b }
 {

@@ -18,7 +18,7 @@ ghost use Rattle.rule.specs.Lent.{LentAs, NotBoth, ShownAs, Showable};
 ghost use Rattle.rule.specs.Marked.{marked, shown_bytes};
 ghost use Rattle.rule.specs.Widths.{widths_in};
 
-use model::sets::{Members, has};
+use model::sets::{Members, has, places_where};
 use model::{FENCED, MOST_TASKS, ROW};
 
 // The number of widths: each place has two, the first of every place before the second of any.
@@ -191,13 +191,7 @@ fn any(set: u64) -> bool
 pub fn owners(sets: &[u64; MOST_TASKS]) -> u32
     ensures { (p : ℕ) → bit result p ≡ ltb p most_tasks && some (cores (get_or sets.now p 0)) }
 {
-    let mut owners: u32 = 0;
-    for (i, set) in sets.iter().enumerate() {
-        if any(*set) {
-            owners |= 1u32 << i as u32;
-        }
-    }
-    owners
+    places_where(MOST_TASKS, |i| any(sets[i]))
 }
 
 // Adds to the set of each position that of another list.

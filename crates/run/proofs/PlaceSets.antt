@@ -11,7 +11,7 @@ use borrow.Author.Tests.{lt-ltb, eqb-true, eqb-false}
 use Rattle.model.proofs.Lists.{map_at}
 use Rattle.model.specs.Sizes.{most_tasks}
 use Rattle.rule.specs.Widths.{pair, width_in, widths_in}
-use Rattle.rule.proofs.Gathered.{Gathered}
+use Rattle.model.proofs.Gathered.{Gathered}
 use Rattle.rule.proofs.Widths.{front-is}
 use Rattle.run.specs.declared.Run.{Run}
 use Rattle.model.specs.Task as model

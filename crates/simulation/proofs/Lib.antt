@@ -17,7 +17,6 @@ pub mod Walk
 pub mod SameClaimants
 pub mod Refines
 pub mod Fields
-pub mod Gathered
 pub mod Steps
 pub mod AtTick
 pub mod RefinesTick

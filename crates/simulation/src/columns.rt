@@ -4,6 +4,7 @@ ghost use Rattle.simulation.specs.TickState.{numbers_of, loaded_numbers, paired_
 
 use crate::TRIPLE;
 use model::MOST_TASKS;
+use model::sets::places_where;
 use rule::PAIR;
 use table::{Loaded, Task};
 
@@ -20,8 +21,8 @@ pub struct Setting {
 
 // The numbers of a table that its run is stepped with; `widths` has the first of each place before the second, `times` has the lengths first,
 // then the deadlines, then the periods.
-// One array of widths, since the public functions of rule and `widths_in` (rule/specs/Widths) speak of one list, the first width of every place first.
-// One of times, as one of places beside it (`machine::Machine`): `release` copies from one to the other at equal places.
+// One array of widths, since rule's public functions and `widths_in` (rule/specs/Widths) speak of one list.
+// One of times, as one of places beside it (`machine::Machine`): `release` copies from one to the other.
 #[derive(Clone, Copy)]
 pub struct Columns {
     pub setting: Setting,
@@ -33,7 +34,7 @@ pub struct Columns {
 pub fn paired_in(tasks: [Task; MOST_TASKS]) -> u32
     ensures { result ≡ paired_in tasks }
 {
-    crate::gather::places_where(MOST_TASKS, |i| tasks[i].width != tasks[i].second)
+    places_where(MOST_TASKS, |i| tasks[i].width != tasks[i].second)
 }
 
 // The numbers of a table, place by place.

@@ -8,18 +8,18 @@ ghost use Rattle.simulation.specs.EventState.{due_at, earliest_of};
 ghost use Rattle.simulation.specs.Jump.{handled, handled_all};
 
 use crate::{EVENT, NEXT, TRIPLE};
-use model::sets::Members;
+use model::sets::{Members, places_where};
 
 // The set of those of the first `count` places whose event is this tick.
 pub(crate) fn due_places(tick: u32, count: usize, places: &[u32; TRIPLE]) -> u32
     requires { count ≤ most_tasks }
     ensures { result ≡ due_at tick count (segment second places.now) }
 {
-    crate::gather::places_where(count, |i| places[EVENT + i] == tick)
+    places_where(count, |i| places[EVENT + i] == tick)
 }
 
-// Not one with `due_places`, which the start calls before an event is known: one test before a call of it.
 // The same where the next event, the earliest event, is known: before it no place is due.
+// Not one with `due_places`, which the start calls before an event is known: one test before a call of it.
 pub(crate) fn due_by(tick: u32, event: u32, count: usize, places: &[u32; TRIPLE]) -> u32
     requires { count ≤ most_tasks }
     ensures { result ≡ cond (eqb tick event) (due_at tick count (segment second places.now)) 0 }
@@ -30,8 +30,8 @@ pub(crate) fn due_by(tick: u32, event: u32, count: usize, places: &[u32; TRIPLE]
     0
 }
 
-// A count beside the places that are lent, for speed: docs/DECISIONS.md, 'The machine'.
 // The earliest event of the first `count` places.
+// A count beside the places that are lent, for speed: docs/DECISIONS.md, 'The machine'.
 pub(crate) fn earliest(count: usize, places: &[u32; TRIPLE]) -> u32
     requires { count ≤ most_tasks }
     ensures { result ≡ earliest_of count (segment second places.now) }
@@ -43,8 +43,8 @@ pub(crate) fn earliest(count: usize, places: &[u32; TRIPLE]) -> u32
     event
 }
 
-// It asks what `crate::release` asks, which is public.
 // Handles a place at its event, this tick, where no tick is left, and returns the set of claimants: its next job is released, or it waits for its next release.
+// It asks what `crate::release` asks, which is public.
 pub(crate) fn handle_event(
     place: usize,
     tick: u32,

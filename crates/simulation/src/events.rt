@@ -31,8 +31,8 @@ pub struct Registers {
     pub even: u32,
 }
 
-// Made of the ticks' start: only the registers of the events are added.
 // The run before tick 0: no place claims or is granted cores, and each task waits for its first release, which turns it to its first width.
+// Made of the ticks' start: only the registers of the events are added.
 pub fn start(table: Loaded) -> Machine<Registers>
     requires { Fit table }
     ensures { event_state_of result.registers result.places ≡ initial_event_state table }
@@ -65,8 +65,9 @@ fn shortest(granted: u32, most: u32, places: &[u32; TRIPLE]) -> u32
     ticks
 }
 
-// Claimants by value beside the places that are lent, for speed: docs/DECISIONS.md, 'The machine'. In the clause they are one value (`machine_of`).
 // This number of ticks of the granted places; returns the set of those that still claim after them.
+// Claimants by value beside the places that are lent, for speed (docs/DECISIONS.md, 'The machine').
+// In the clause they are one value (`machine_of`).
 fn elapse(ticks: u32, granted: u32, claiming: u32, places: &mut [u32; TRIPLE]) -> u32
     requires { GrantedOwe ticks (bit granted) (machine_of places.old claiming) }
     ensures { machine_of places.new result ≡ elapsed ticks (bit granted) (machine_of places.old claiming) }
@@ -82,9 +83,9 @@ fn elapse(ticks: u32, granted: u32, claiming: u32, places: &mut [u32; TRIPLE]) -
     set
 }
 
-// Not one with `ticks::step`: a jump passes up to the next event and keeps the due places, a step passes one tick. Only the choice is alike.
 // A jump from a tick at which no job is late to the least event after it: the due places are handled, and a released place turns to its other width; the
 // choice is made where the claimants or their widths have changed; the ticks up to the next event or to the first end of a job that has cores pass.
+// Not one with `ticks::step`: a jump passes up to the next event and keeps the due places. Only the choice is alike.
 pub fn jump(columns: &Columns, registers: Registers, places: &mut [u32; TRIPLE]) -> Registers
     requires { (t : Loaded) × JumpStarts t (numbers_of columns.now) (event_state_of registers places.old) }
     ensures { JumpOf (numbers_of columns.now) (event_state_of registers places.old) (event_state_of result places.new) }

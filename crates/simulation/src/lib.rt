@@ -13,7 +13,6 @@ pub mod columns; // columns.rt: the table's numbers, as the machine is stepped w
 mod due; // due.rt: the places whose event a tick is
 pub mod events; // events.rt: from event to event
 pub mod machine; // machine.rt: the machine, and how it starts
-pub mod gather; // gather.rt: the set of the places at which a test holds
 pub mod ticks; // ticks.rt: tick by tick
 
 // The places' array has the ticks left of each place first, then its next event, then its next release.
@@ -30,9 +29,10 @@ pub const PERIOD: usize = 2 * MOST_TASKS;
 // The length of both arrays.
 pub const TRIPLE: usize = 3 * MOST_TASKS;
 
-// What stays below 2^32 is a clause, since the function is public, and a type would ask more. Registers by value and one array lent, for speed: a whole machine
-// by value took 2.6 to 7.4 times as long (docs/DECISIONS.md, 'The machine').
 // Releases a job of a place at this tick, and returns the set of claimants with the place in it.
+// What stays below 2^32 is a clause: the function is public, and a type would ask more.
+// Registers by value and one array lent, for speed: a whole machine by value took 2.6 to 7.4 times as long
+// (docs/DECISIONS.md, 'The machine').
 pub fn release(
     place: usize,
     tick: u32,

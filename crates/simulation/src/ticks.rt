@@ -18,8 +18,9 @@ pub struct Due {
     pub event: u32,
 }
 
-// What stays below 2^32 is a clause, since the function is public, and a type would ask more. Registers by value and the places lent, as `crate::release`.
 // Releases a job at each of the first `count` places whose event is this tick, for runs in which no job is late.
+// What stays below 2^32 is a clause: the function is public, and a type would ask more.
+// Registers by value and the places lent, as in `crate::release`.
 pub fn release_due(
     tick: u32,
     count: usize,
@@ -47,7 +48,8 @@ pub fn release_due(
 
 // A tick of the places that are granted cores; returns the set of those that still claim after it.
 // Not one with `events::elapse`: at an end this moves the event too.
-// Claimants by value beside the places that are lent, for speed: docs/DECISIONS.md, 'The machine'. In the clause they are one value (`machine_of`).
+// Claimants by value beside the places that are lent, for speed (docs/DECISIONS.md, 'The machine').
+// In the clause they are one value (`machine_of`).
 pub fn work(granted: u32, claiming: u32, places: &mut [u32; TRIPLE]) -> u32
     requires { GrantedOwed (bit granted) (machine_of places.old claiming) }
     ensures { machine_of places.new result ≡ worked_tick (bit granted) (machine_of places.old claiming) }
@@ -64,9 +66,9 @@ pub fn work(granted: u32, claiming: u32, places: &mut [u32; TRIPLE]) -> u32
     set
 }
 
-// Not one with `events::jump`: a step passes one tick, a jump passes up to the next event and keeps the due places. Only the choice is alike.
 // One tick, for runs in which no job is late: the due events where the next event has come, which turn a released place to its other width; the choice where
 // the claimants or their widths have changed; the work.
+// Not one with `events::jump`, which passes up to the next event and keeps the due places. Only the choice is alike.
 pub fn step(columns: &Columns, registers: Registers, places: &mut [u32; TRIPLE]) -> Registers
     requires { Steppable (numbers_of columns.now) (tick_state_of registers places.old) }
     ensures { tick_state_of result places.new ≡ next_tick_state (numbers_of columns.now) (tick_state_of registers places.old) }

@@ -1,6 +1,6 @@
 use Rattle.std.proofs.Common.{◌≡◌, Bool, ℕ, ◌<◌}
-use Rattle.simulation.proofs.Gathered.{Gathered}
-use Rattle.simulation.proofs.gather.places_where.Given as goal
+use Rattle.model.proofs.Gathered.{Gathered}
+use Rattle.model.proofs.sets.places_where.Given as goal
 
 -- the set has those of the first i places at which the test holds, whatever says so
 abbrev pub invariant-loop-i : goal.invariant-loop-i
