@@ -8,7 +8,7 @@ use native.Mathlib.Omega.{arith}
 use lib.Dec.{leb}
 use lib.ListN.{length}
 use borrow.Author.Tests.{leb-true, leb-false}
-use Rattle.model.proofs.Bools.{not-true-false}
+use Rattle.std.proofs.lemmas.Bool.{false_from_ne_true}
 use Rattle.model.specs.Jobs.{Job}
 use Rattle.model.specs.Lists.{full}
 use Rattle.model.specs.Task.{Task, Table}
@@ -60,5 +60,5 @@ open-until s p k t u l none o (suc d) h =
   where
     go : ((full s (t + d)).job p k).ended ≡ false → ((full s (suc (t + d))).job p k).ended ≡ false
     go still =
-        not-true-false ((full s (suc (t + d))).job p k).ended
+        false_from_ne_true ((full s (suc (t + d))).job p k).ended
         (λ e. none (suc (t + d)) (omega arith) (omega arith) (p, k, l, inr (inr (ends_at s (t + d) p k e still))))

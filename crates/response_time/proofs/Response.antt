@@ -9,7 +9,7 @@ use lib.Dec.{leb}
 use lib.ListN.{length}
 use borrow.Author.Tests.{leb-false, leb-true}
 use Rattle.model.proofs.Faithful.{job-number}
-use Rattle.model.proofs.Bools.{not-false-true}
+use Rattle.std.proofs.lemmas.Bool.{true_from_ne_false}
 use Rattle.model.proofs.Horizon.{repeat-all}
 use Rattle.model.proofs.Idling.{lending-idling, under}
 use Rattle.model.proofs.Runs.{full-fresh, full-stays, missed-at}
@@ -69,7 +69,7 @@ module _ (s : Table) (ok : AllValid s) (nm : NeverMissed s) (p : ℕ) (l : p < l
   -- a job has ended when it is due
   met : (k : ℕ) → ((full s (due (task s p) k)).job p k).ended ≡ true
   met k =
-      not-false-true ((full s (due (task s p) k)).job p k).ended
+      true_from_ne_false ((full s (due (task s p) k)).job p k).ended
       (λ o. nm p (due (task s p) k) (missed-at s p (due (task s p) k) k l refl o))
 
   -- the time of a job is that of its end
