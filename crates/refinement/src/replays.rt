@@ -63,23 +63,22 @@ pub fn enter(run: Run, kind: u32, first: u32, second: u32) -> Result<Run, Refusa
 }
 
 // The run after the list; its answers are written as numbers, 0 for taken.
-fn enter_all(run: Run, entries: &[u32], numbers: &mut [u32]) -> Run
+fn enter_all(mut run: Run, entries: &[u32], numbers: &mut [u32]) -> Run
     requires { entry_count entries.now ≤ length numbers.old }
     ensures { (result ≡ run_after_list run (entries_in entries.now))
         × (numbers.new ≡ codes run (entries_in entries.now) ++ drop (entry_count entries.now) numbers.old) }
 {
     let (triples, _) = entries.as_chunks::<3>();
-    let mut last = run;
     for (i, entry) in triples.iter().enumerate() {
-        match enter(last, entry[0], entry[1], entry[2]) {
+        match enter(run, entry[0], entry[1], entry[2]) {
             Ok(next) => {
                 numbers[i] = 0;
-                last = next;
+                run = next;
             }
             Err(refusal) => numbers[i] = code(refusal),
         }
     }
-    last
+    run
 }
 
 // Writes the row; the bytes after it are unchanged.
