@@ -79,7 +79,7 @@ fn next_line(
             text,
         );
     }
-    let ready = row::put_row(line, registers.tick, text, size);
+    let ready = row::put_row(line, registers.tick, &text[..size]);
     Stage {
         registers: next,
         text: size,
@@ -130,20 +130,12 @@ fn start(table: Loaded, end: u32, verdict: Verdict) -> Printer
 fn no_table() -> Loaded
     ensures { result ≡ no_table }
 {
-    let none = Task {
-        offset: 0,
-        width: 0,
-        length: 0,
-        deadline: 0,
-        period: 0,
-        second: 0,
-    };
     Loaded {
         count: 0,
         cores: 0,
         fence: 0,
         rule: 0,
-        tasks: [none; MOST_TASKS],
+        tasks: [Task::default(); MOST_TASKS],
         start: 0,
         period: 0,
         horizon: 0,
