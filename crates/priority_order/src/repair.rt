@@ -8,7 +8,8 @@ use crate::orders;
 use judge::{Miss, Verdict};
 use model::MOST_TASKS;
 
-// An order, and its first miss where it has one. That the verdict says so (`LateIn`) is no ghost field: it is a fact of the table's words too.
+// An order, and its first miss where it has one.
+// That the verdict says so (`LateIn`) is no ghost field: it is a fact of the table's words too.
 #[derive(Clone, Copy)]
 pub struct Late {
     pub missed: Option<Miss>,
@@ -60,6 +61,7 @@ fn most_ran(ran: [u64; MOST_TASKS]) -> Option<usize>
 }
 
 // The place of the task that ran most while the late one waited; none where nobody ran.
+// Order and count stand apart, as in `links::verdict_in`.
 fn blocking(words: &[u32], order: [u32; MOST_TASKS], miss: Miss, count: usize) -> Option<usize>
     requires { OrderIn words.now count order × LateIn words.now (late_with (Some miss) order) }
     ensures { position_in result ≡ blocking_in words.now (late_with (Some miss) order) }

@@ -53,7 +53,8 @@ fn value_of(digits: &[u8]) -> Option<u64>
 }
 
 // The number at the front of a text, of all the digits there: no zero in front of others, and below 2^64.
-// By hand: `parse` takes a plus sign, and a zero in front. Not text's reader: that one takes ten digits at most, zeros in front too (`NumberOf`).
+// By hand: `parse` takes a plus sign, and a zero in front.
+// Not text's reader: that one takes ten digits at most, zeros in front too (`NumberOf`).
 fn read_number(text: &[u8]) -> Option<(u64, &[u8])>
     ensures { NumberOf text.now result }
 {
