@@ -12,7 +12,7 @@ use Rattle.model.specs.Task.{narrowest, absent_task, rule_of, widest}
 use Rattle.model.specs.Task as model
 use Rattle.model.specs.Firm.{ParallelismMonotonic, parallelism_monotonic, firm}
 use borrow.Author.Tests.{ne_eqb}
-use Rattle.model.proofs.Bools.{same_test}
+use Rattle.std.specs.Cmp.{both_ways}
 use Rattle.model.proofs.Verdict.{monotonic-exact}
 use Rattle.table.specs.declared.Task.{Task}
 use Rattle.table.specs.Task.{no_task, task_of}
@@ -28,7 +28,7 @@ narrowest_at tasks p = min (get_or tasks p no_task).width (get_or tasks p no_tas
 pub monotonic-known :
     (tasks : List Task) (r : Bool) → (r ≡ true) ↔ ((p : ℕ) → p + 1 < length tasks → widest_at tasks p ≤ narrowest_at tasks (p + 1))
     → r ≡ parallelism_monotonic (map task_of tasks)
-monotonic-known tasks r h = same_test r (parallelism_monotonic τs) (λ e. exact.1 (rises (h.0 e))) (λ e. h.1 (risen (exact.0 e)))
+monotonic-known tasks r h = both_ways r (parallelism_monotonic τs) (λ e. exact.1 (rises (h.0 e))) (λ e. h.1 (risen (exact.0 e)))
   where
     τs : List model.Task
     τs = map task_of tasks

@@ -13,7 +13,7 @@ use borrow.Author.Tests.{eq-eqb}
 use Rattle.model.specs.Fence.{unfenced_count}
 use Rattle.model.specs.Task.{Table, AllValid, task}
 use Rattle.model.specs.Search.{any}
-use Rattle.model.proofs.Bools.{not-true-false}
+use Rattle.std.proofs.lemmas.Bool.{false_from_ne_true}
 use Rattle.model.specs.Task as plain
 use Rattle.model.specs.Lists.{Missed}
 use Rattle.model.specs.Horizon.{horizon}
@@ -145,7 +145,7 @@ one_in m v f w = ⊎_elim (λ x. omega (arith, f.0)) (λ x. omega (arith, f.1)) 
 -- a task that is within its limits is not turned down
 inside-in : (m : ℕ) (τ : plain.Task) → Inside m τ → task_out m τ ≡ false
 inside-in m τ i =
-    not-true-false (task_out m τ) (λ e.
+    false_from_ne_true (task_out m τ) (λ e.
     ⊎_elim
     (λ w. ⊎_elim (one_in m τ.odd_width i.odd-from) (one_in m τ.even_width i.even-from) w)
     (λ w. ⊎_elim (λ x. omega (arith, i.offset-most)) (λ w. ⊎_elim (λ x. x i.length_from) (λ w. ⊎_elim (λ x. x i.period-from) (λ x. x i.deadline-from) w) w) w)
