@@ -56,10 +56,9 @@ pub fn put_plan(plan: SuppliedPlan, shown: usize, noting: bool, words: &mut [u32
     }
 }
 
-// The note in the first words.
+// The note in these words.
 // No TryFrom, since words that are no phase are a note too.
-fn note_in(words: &[u32]) -> Note
-    requires { note_size ≤ length words.now }
+fn note_in(words: &[u32; EACH]) -> Note
     ensures { result ≡ note_in words.now }
 {
     let phase = Phase::try_from(PhaseWords {
@@ -81,9 +80,10 @@ fn notes_in(words: &[u32]) -> [Note; run_buffer::PLACES]
     let nothing = Note {
         phase: Phase::Resting(0),
     };
+    let (notes, _) = words[NOTES..].as_chunks::<EACH>();
     let mut noted = [nothing; run_buffer::PLACES];
-    for i in 0..run_buffer::PLACES {
-        noted[i] = note_in(&words[NOTES + EACH * i..]);
+    for (i, note) in notes[..run_buffer::PLACES].iter().enumerate() {
+        noted[i] = note_in(note);
     }
     noted
 }

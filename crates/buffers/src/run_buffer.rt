@@ -164,10 +164,9 @@ pub fn put_run(run: Run, shown: usize, words: &mut [u32])
     }
 }
 
-// The place in the first words; none where they have no parity or no phase.
-// No TryFrom, since neither a slice nor a task is of this crate.
-fn place_in(words: &[u32]) -> Option<Task>
-    requires { each_words ≤ length words.now }
+// The place in these words; none where they have no parity or no phase.
+// No TryFrom, since neither an array nor a task is of this crate.
+fn place_in(words: &[u32; EACH]) -> Option<Task>
     ensures { result ≡ place_read words.now }
 {
     if 1 < words[PARITY] {
@@ -204,9 +203,10 @@ pub(crate) fn run_in(words: &[u32]) -> Option<Run>
     if PLACES < count {
         return None;
     }
+    let (places, _) = words[HEAD..].as_chunks::<EACH>();
     let mut tasks = [phase::starts::unused(); PLACES];
-    for i in 0..count {
-        tasks[i] = place_in(&words[HEAD + EACH * i..])?;
+    for (i, place) in places[..count].iter().enumerate() {
+        tasks[i] = place_in(place)?;
     }
     let fence = table::limits::fence_of(words[3], words[4]);
     Some(Run {

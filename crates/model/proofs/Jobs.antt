@@ -69,7 +69,7 @@ next-ended C f false j e = (e, refl)
 abbrev pub mk : ℕ → ℕ → Bool → Job
 mk h c e = record { had = h; claimed = c; ended = e }
 
--- ticks had never fall
+-- ticks had never fall: a law of the definition, though nothing cites it
 pub next_grows : (C : ℕ) (f s : Bool) (h c : ℕ) (e : Bool) → h ≤ (next C f s (mk h c e)).had
 unfolding work
 next_grows C f true h c true = omega arith

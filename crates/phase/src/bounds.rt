@@ -28,6 +28,7 @@ impl Task {
     }
 
     // Whether the task breaks 7 or 8 on this number of unfenced cores, or its phase or its parity is outside the limits.
+    // 0 is the number where neither applies (`task_number` of table/specs/Limits).
     pub fn out(self, rule: u32, wide: u32) -> bool
         ensures { result ≡ out_in wide (rule_of rule) self }
     {

@@ -74,6 +74,7 @@ impl Task {
         }
     }
 
+    // `next`, which the pages name, is given each of these apart; a struct of them would be made for this one call.
     // The state of the task one tick on from the seen phase, by whether it is given cores in this tick, whether it borrows some and whether
     // it is reported.
     fn stepped(self, rule: u32, given: bool, lent: bool, reported: bool, seen: Phase) -> TaskState

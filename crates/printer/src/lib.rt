@@ -79,7 +79,7 @@ fn next_line(
             text,
         );
     }
-    let ready = row::put_row(line, registers.tick, text, size);
+    let ready = row::put_row(line, registers.tick, &text[..size]);
     Stage {
         registers: next,
         text: size,

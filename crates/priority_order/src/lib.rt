@@ -57,7 +57,7 @@ impl From<Refusal> for NoOrder {
     }
 }
 
-// The assignment by an order whose verdict is Firm or Full.
+// The assignment by an order whose verdict is Firm or Full. Order and count stand apart, as in `orders::positions`.
 fn assigned(verdict: Verdict, order: [u32; MOST_TASKS], count: usize) -> Option<Assignment>
     requires { Permutation count order × (count ≤ most_tasks) }
     ensures { AssignedBy verdict (positions_of count order) result }

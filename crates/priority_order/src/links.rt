@@ -10,7 +10,7 @@ use judge::Verdict;
 use model::MOST_TASKS;
 use table::MOST_WORDS;
 
-// The number of the record at a place of the chain.
+// The number of the record at a place of the chain, which is C's: the supplier's words name each next record.
 fn record_at(words: &[u32], place: usize) -> u32
     requires { NoneApplies words.now × (place < count words.now) }
     ensures { result ≡ visited words.now place }
@@ -22,7 +22,9 @@ fn record_at(words: &[u32], place: usize) -> u32
     number
 }
 
-// The words of the table in an order: the next of each record is the one after it in the order, that of the last is zero.
+// The words of the table in an order, since the judge takes C's words.
+// The next of each record is the one after it in the order, that of the last is zero.
+// Order and count stand apart, as in `verdict_in`.
 pub(crate) fn reordered(words: &[u32], order: [u32; MOST_TASKS], count: usize) -> [u32; MOST_WORDS]
     requires { OrderIn words.now count order }
     ensures { take (length words.now) result ≡ reordered words.now order }
@@ -35,6 +37,7 @@ pub(crate) fn reordered(words: &[u32], order: [u32; MOST_TASKS], count: usize) -
 }
 
 // The verdict on the table in an order.
+// The count stands beside the order and not in it: it is the table's, one for all orders of a search.
 pub(crate) fn verdict_in(words: &[u32], order: [u32; MOST_TASKS], count: usize) -> Verdict
     requires { OrderIn words.now count order }
     ensures { Judged (reordered words.now order) result }

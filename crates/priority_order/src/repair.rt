@@ -1,6 +1,5 @@
 // The order that follows one that misses: the late task goes to the place directly above the task that ran most while it waited.
-ghost use Rattle.std.specs.Prelude.{Some, ◌≡◌, length};
-ghost use Rattle.model.specs.Sizes.{most_tasks};
+ghost use Rattle.std.specs.Prelude.{Some, ◌≡◌};
 ghost use Rattle.sentence.specs.Facts.{named};
 ghost use Rattle.priority_order.specs.Orders.{OrderIn};
 ghost use Rattle.priority_order.specs.Repair.{LateIn, blocking_in, choice_of, late_in, late_of, late_with, later_of, most_ran, next_order, position_in};
@@ -10,6 +9,7 @@ use judge::{Miss, Verdict};
 use model::MOST_TASKS;
 
 // An order, and its first miss where it has one.
+// That the verdict says so (`LateIn`) is no ghost field: it is a fact of the table's words too.
 #[derive(Clone, Copy)]
 pub struct Late {
     pub missed: Option<Miss>,
@@ -47,7 +47,6 @@ pub(crate) fn later(first: Late, other: Late) -> Late
 
 // The place with the largest count, at equal counts the highest; none where every count is 0.
 fn most_ran(ran: [u64; MOST_TASKS]) -> Option<usize>
-    requires { length ran ≡ most_tasks }
     ensures { position_in result ≡ most_ran (named ran) }
 {
     let mut most: u64 = 0;
@@ -62,6 +61,7 @@ fn most_ran(ran: [u64; MOST_TASKS]) -> Option<usize>
 }
 
 // The place of the task that ran most while the late one waited; none where nobody ran.
+// Order and count stand apart, as in `links::verdict_in`.
 fn blocking(words: &[u32], order: [u32; MOST_TASKS], miss: Miss, count: usize) -> Option<usize>
     requires { OrderIn words.now count order × LateIn words.now (late_with (Some miss) order) }
     ensures { position_in result ≡ blocking_in words.now (late_with (Some miss) order) }

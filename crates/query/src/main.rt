@@ -46,8 +46,7 @@ const INPUT: usize = WORD + ENOUGH;
 const ROOM: usize = LONGEST + 1;
 
 // Writes the verdict's line at the front of the line; returns where it ends.
-fn verdict(words: &[u32], line: &mut [u8]) -> usize
-    requires { length line.old ≡ answer_room }
+fn verdict(words: &[u32], line: &mut [u8; ROOM]) -> usize
     ensures { (result ≤ answer_room) × (take result line.new ≡ verdict_text words.now) }
 {
     let verdict = judge::judge(words);
@@ -55,16 +54,14 @@ fn verdict(words: &[u32], line: &mut [u8]) -> usize
 }
 
 // Writes a refusal at the front of the line; returns where it ends.
-fn put_refusal(line: &mut [u8], refusal: Refusal) -> usize
-    requires { length line.old ≡ answer_room }
+fn put_refusal(line: &mut [u8; ROOM], refusal: Refusal) -> usize
     ensures { (result ≤ answer_room) × (take result line.new ≡ refusal_line refusal) }
 {
     text::first::put_pair(line, b"refused", refusal.number(), refusal.position())
 }
 
 // Writes why a table misses at the front of the line; returns where it ends, or the refusal.
-fn why(words: &[u32], line: &mut [u8]) -> Result<usize, Refusal>
-    requires { length line.old ≡ answer_room }
+fn why(words: &[u32], line: &mut [u8; ROOM]) -> Result<usize, Refusal>
     ensures { PutOf (why_of words.now) line.new result }
 {
     let length = sentence::sentence(words, line)?;
@@ -72,13 +69,14 @@ fn why(words: &[u32], line: &mut [u8]) -> Result<usize, Refusal>
     Ok(length + 1)
 }
 
-// Writes a line for each of the first numbers, its position and the number, at the front of the lines; returns where they end.
-fn put_figures(figures: [u32; MOST_TASKS], count: usize, lines: &mut [u8]) -> usize
-    requires { (count ≤ most_tasks) × (length lines.old ≡ answer_room) }
-    ensures { (Put lines.old 0 (figure_lines 0 (take count figures)) lines.new result) × (result ≤ answer_room) }
+// Writes a line for each number, its position and the number, at the front of the lines; returns where they end.
+// By hand: `write!` into an array promises how many bytes it wrote, and not which, and no heap is a rule.
+fn put_figures(figures: &[u32], lines: &mut [u8; ROOM]) -> usize
+    requires { length figures.now ≤ most_tasks }
+    ensures { (Put lines.old 0 (figure_lines 0 figures.now) lines.new result) × (result ≤ answer_room) }
 {
     let mut at: usize = 0;
-    for (place, figure) in figures[..count].iter().enumerate() {
+    for (place, figure) in figures.iter().enumerate() {
         let middle = text::decimal::put(lines, at, place as u64 + 1);
         let end = text::first::put_field(lines, middle, *figure);
         lines[end] = b'\n';
@@ -88,17 +86,20 @@ fn put_figures(figures: [u32; MOST_TASKS], count: usize, lines: &mut [u8]) -> us
 }
 
 // Writes a line for each task of a table that passes, its position and its number, at the front of the lines; returns where they end.
-fn put_answer(words: &[u32], figures: [u32; MOST_TASKS], lines: &mut [u8]) -> Result<usize, Refusal>
-    requires { NoneApplies words.now × (length lines.old ≡ answer_room) }
+fn put_answer(
+    words: &[u32],
+    figures: [u32; MOST_TASKS],
+    lines: &mut [u8; ROOM],
+) -> Result<usize, Refusal>
+    requires { NoneApplies words.now }
     ensures { PutOf (figure_lines 0 (take (length (table_of words.now).tasks) figures)) lines.new result }
 {
     let table = table::load(words)?;
-    Ok(put_figures(figures, table.count, lines))
+    Ok(put_figures(&figures[..table.count], lines))
 }
 
 // Writes the worst-case response time of each task at the front of the lines; returns where they end, or the refusal.
-fn response_times(words: &[u32], lines: &mut [u8]) -> Result<usize, Refusal>
-    requires { length lines.old ≡ answer_room }
+fn response_times(words: &[u32], lines: &mut [u8; ROOM]) -> Result<usize, Refusal>
     ensures { PutOf (response_times_text words.now) lines.new result }
 {
     let figures = response_time::response_times(words)?;
@@ -118,8 +119,8 @@ fn put_spaced(line: &mut [u8], at: usize, number: u32) -> usize
 }
 
 // Writes the positions of a set on one line, a space between two; returns where the line ends.
-fn put_positions(set: u32, line: &mut [u8]) -> usize
-    requires { length line.old ≡ answer_room }
+// By hand, as in `put_figures`.
+fn put_positions(set: u32, line: &mut [u8; ROOM]) -> usize
     ensures { (Put line.old 0 (position_line set) line.new result) × (result ≤ answer_room) }
 {
     let mut at: usize = 0;
@@ -133,8 +134,7 @@ fn put_positions(set: u32, line: &mut [u8]) -> usize
 }
 
 // Writes the positions of the tasks in conflict on one line; returns where it ends, or the refusal.
-fn conflict(words: &[u32], line: &mut [u8]) -> Result<usize, Refusal>
-    requires { length line.old ≡ answer_room }
+fn conflict(words: &[u32], line: &mut [u8; ROOM]) -> Result<usize, Refusal>
     ensures { PutOf (conflict_text words.now) line.new result }
 {
     let kept = conflict::conflict(words)?;
@@ -142,8 +142,7 @@ fn conflict(words: &[u32], line: &mut [u8]) -> Result<usize, Refusal>
 }
 
 // Writes the slack of each task at the front of the lines; returns where they end, or the refusal.
-fn slack(words: &[u32], lines: &mut [u8]) -> Result<usize, Refusal>
-    requires { length lines.old ≡ answer_room }
+fn slack(words: &[u32], lines: &mut [u8; ROOM]) -> Result<usize, Refusal>
     ensures { PutOf (slack_text words.now) lines.new result }
 {
     let figures = slack::slack(words)?;
@@ -151,8 +150,7 @@ fn slack(words: &[u32], lines: &mut [u8]) -> Result<usize, Refusal>
 }
 
 // Writes the response-time bound of each task at the front of the lines, or that there is none; returns where they end, or the refusal.
-fn bounds(words: &[u32], lines: &mut [u8]) -> Result<usize, Refusal>
-    requires { length lines.old ≡ answer_room }
+fn bounds(words: &[u32], lines: &mut [u8; ROOM]) -> Result<usize, Refusal>
     ensures { PutOf (bounds_text words.now) lines.new result }
 {
     let tested = interference::response_bounds(words)?;
@@ -163,8 +161,7 @@ fn bounds(words: &[u32], lines: &mut [u8]) -> Result<usize, Refusal>
 }
 
 // Writes the answer to a question on a table at the front of the lines; returns where it ends, or the refusal that is the answer.
-fn put_given(question: Question, words: &[u32], lines: &mut [u8]) -> Result<usize, Refusal>
-    requires { length lines.old ≡ answer_room }
+fn put_given(question: Question, words: &[u32], lines: &mut [u8; ROOM]) -> Result<usize, Refusal>
     ensures { PutOf (answer_to question words.now) lines.new result }
 {
     match question {
@@ -178,8 +175,7 @@ fn put_given(question: Question, words: &[u32], lines: &mut [u8]) -> Result<usiz
 }
 
 // Writes the answer to a question on a table, or its refusal, at the front of the lines; returns where it ends.
-fn put(question: Question, words: &[u32], lines: &mut [u8]) -> usize
-    requires { length lines.old ≡ answer_room }
+fn put(question: Question, words: &[u32], lines: &mut [u8; ROOM]) -> usize
     ensures { (result ≤ answer_room) × (take result lines.new ≡ answer_to question words.now) }
 {
     match put_given(question, words, lines) {

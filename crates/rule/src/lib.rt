@@ -22,6 +22,8 @@ use model::sets::{Members, has, places_where};
 use model::{FENCED, MOST_TASKS, ROW};
 
 // The number of widths: each place has two, the first of every place before the second of any.
+// One flat array, for speed: with `[[u32; 2]; 32]` a call of `choose` took 1.4 times as long (the same text compiled as
+// Rust, 4,096 sets of claimants).
 pub const PAIR: usize = 2 * MOST_TASKS;
 
 // Rule 1: a claimant that doesn't fit is skipped.
@@ -36,6 +38,8 @@ pub enum Selection {
 }
 
 // The tick rule, for one claimant on this number of free cores: a width that fits takes its cores.
+// The rule is any number, since the clause answers for each (`rule_of`). Of the four one ends the choosing, so that one
+// test suffices.
 pub fn select(rule: u32, free: u32, width: u32) -> Selection
     ensures { result ≡ selection (rule_of rule) free width }
 {
@@ -49,6 +53,7 @@ pub fn select(rule: u32, free: u32, width: u32) -> Selection
 }
 
 // The width of a place in a tick: its second where the place is in the set, else its first.
+// A place is a number below 32, as the digits of a set give it: a type of places would be made anew at each call.
 pub fn width_at(even: u32, widths: &[u32; PAIR], place: u32) -> u32
     requires { place < most_tasks }
     ensures { result ≡ get_or (widths_in even widths.now) place 0 }
@@ -58,6 +63,8 @@ pub fn width_at(even: u32, widths: &[u32; PAIR], place: u32) -> u32
 }
 
 // The set of positions that are given cores, of the set that claims; bit 0 is for position 1. The free cores are counted once.
+// `even` is of the tick, and the widths are of the table: a struct of both would be made at each call, here and in
+// `grants`, `show` and `lend`.
 pub fn choose(rule: u32, free: u64, claims: u32, even: u32, widths: &[u32; PAIR]) -> u32
     ensures { (p : ℕ) → bit result p ≡ granted (rule_of rule) (claimants (widths_in even widths.now) (bit claims)) (cores free) p }
 {
@@ -140,6 +147,7 @@ pub fn row_of(start: [u8; ROW], first: u8, sets: &[u64]) -> [u8; ROW]
 }
 
 // The row that shows these sets of cores, one of each position: core 0 first, the position or 0, 255 on a fenced core; bytes past the core count are 0.
+// Cores and fence are named apart by the pages, as in `cores::unfenced_cores` and `cores::unfenced_count`.
 pub fn row_in(cores: u32, fence: u64, sets: &[u64]) -> [u8; ROW]
     requires fact_1 { (cores ≤ most_cores) × (length sets.now ≤ most_tasks) }
     requires fact_2 { Showable fence cores (map listed.cores sets.now) }
@@ -153,6 +161,8 @@ pub fn row_in(cores: u32, fence: u64, sets: &[u64]) -> [u8; ROW]
 }
 
 // The row of a tick in which the places of a set claim the cores outside the fence.
+// Rule, cores and fence are fields of `Loaded` and of `Run`: a struct of the three would be made at each call. Both
+// callers know that there are at most 64 cores.
 pub fn show(
     rule: u32,
     cores: u32,
@@ -228,6 +238,7 @@ fn union(sets: &[u64]) -> u64
 }
 
 // The set of cores that the row shows of each of the first `count` positions: those that it borrows, or its own cores that no place borrows.
+// By a place, since three lists have one there, and the third is written.
 pub fn shown(
     reserved: &[u64; MOST_TASKS],
     borrowed: &[u64; MOST_TASKS],

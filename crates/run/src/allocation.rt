@@ -14,6 +14,7 @@ const LENDING: u32 = 4;
 
 // The set of the positions that are given cores in a tick, and of those that borrow some, bit 0 for position 1; and of each position the set of cores
 // that the row shows.
+// Sets by place, since `rule` gives and takes each list whole.
 #[derive(Clone, Copy)]
 pub struct Allocation {
     pub given: u32,

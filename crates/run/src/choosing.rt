@@ -10,6 +10,8 @@ use model::{MOST_TASKS, sets};
 // those that claim, the set of those that are Working, the set of those whose job is released in this tick, the set of those whose job is an even one,
 // and both widths: the first of each place, then the second of each. The sets of those that claim and that are Working are of the tasks as seen with their
 // empty jobs.
+// Whole sets and one array of widths, since 14, 15 and 20 are tests of whole sets, and the rule takes the sets and the
+// widths as they are.
 #[derive(Clone, Copy)]
 pub struct Claims {
     pub broken: u32,
@@ -24,6 +26,9 @@ pub struct Claims {
 impl Run {
     // What the tasks below the count claim in the present tick. Bit p of `empties` is set if the job of position p + 1 is empty; that of a withdrawn position
     // is too.
+    // The empties are one number, that each question on a run is asked with. No type of runs within their limits stands
+    // for the clause: `tick` knows number 14
+    // of the tasks only after this pass, and such a run would be a copy of the run.
     pub(crate) fn claims(self, empties: u32) -> Claims
         requires { (self.count ≤ most_tasks) × (self.cores ≤ most_cores) }
         ensures { ClaimsOf self empties result }

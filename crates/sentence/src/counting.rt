@@ -1,6 +1,5 @@
 // The facts of a miss, counted in the full-length run.
 ghost use Rattle.std.specs.Prelude.{◌≡◌, ℕ, suc, ◌≤◌, ◌<◌, ◌^◌, length, get_or};
-ghost use Rattle.model.specs.Search.{bit};
 ghost use Rattle.model.specs.Sizes.{most_tasks};
 ghost use Rattle.model.specs.Verdict.{FirstMiss};
 ghost use Rattle.table.specs.Fit.{loaded_table, Fit};
@@ -10,16 +9,8 @@ ghost use Rattle.sentence.specs.Counting.{added, above};
 
 use crate::Facts;
 use model::MOST_TASKS;
-use model::sets::Members;
+use model::sets::{Members, has};
 use table::Loaded;
-
-// Whether a place is in a set.
-fn has(set: u32, place: usize) -> bool
-    requires { place < most_tasks }
-    ensures { result ≡ bit set place }
-{
-    (set >> place) % 2 == 1
-}
 
 // Adds one to the count of each place of a set.
 fn add(granted: u32, ran: &mut [u64; MOST_TASKS])

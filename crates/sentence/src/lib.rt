@@ -3,14 +3,14 @@
 
 ghost use Rattle.std.specs.Prelude.{◌≡◌, suc, ◌≤◌, length};
 ghost use Rattle.model.specs.Verdict.{FirstMiss};
-ghost use Rattle.table.specs.Fit.{loaded_table, Fit};
+ghost use Rattle.table.specs.Fit.{loaded_table};
 ghost use Rattle.sentence.specs.Parsed.{found_in, FactsOf};
 ghost use Rattle.sentence.specs.Waiting.{facts_at, facts_in};
 ghost use Rattle.sentence.specs.Counting.{LengthsWithin};
 ghost use Rattle.sentence.specs.SentenceAnswer.{answered, by_buffer, by_table, sentence_meaning, left_in, SentenceOf};
 
 use model::{MOST_TASKS, Refusal};
-use table::Loaded;
+use table::Fitting;
 
 pub mod counting; // counting.rt: the facts of a miss, counted in the full-length run
 pub mod reader; // reader.rt: a sentence parsed
@@ -46,12 +46,18 @@ pub fn facts_of(bytes: &[u8]) -> Option<Facts>
 }
 
 // Writes the sentence of a miss of a place at a tick at the front of the buffer, and returns its length; 18 where the buffer is too short.
-fn write_miss(table: Loaded, tick: u32, place: usize, buffer: &mut [u8]) -> Result<usize, Refusal>
-    requires { Fit table × FirstMiss (loaded_table table) tick (suc place) × (tick ≤ table.horizon) × LengthsWithin table }
-    ensures { (answered result ≡ by_buffer (facts_at (loaded_table table) tick place) (length buffer.old))
-        × (buffer.new ≡ left_in (sentence_meaning (answered result)) (facts_at (loaded_table table) tick place) buffer.old) }
+fn write_miss(
+    fitting: Fitting,
+    tick: u32,
+    place: usize,
+    buffer: &mut [u8],
+) -> Result<usize, Refusal>
+    requires { FirstMiss (loaded_table fitting.loaded) tick (suc place) × (tick ≤ fitting.loaded.horizon) × LengthsWithin fitting.loaded }
+    ensures { (answered result ≡ by_buffer (facts_at (loaded_table fitting.loaded) tick place) (length buffer.old))
+        × (buffer.new ≡ left_in (sentence_meaning (answered result)) (facts_at (loaded_table fitting.loaded) tick place) buffer.old) }
 {
-    let facts = counting::count(table, tick, place);
+    let facts = counting::count(fitting.loaded, tick, place);
+    // an array and its length, and not yet the caller's buffer: there is no heap, and on 18 the buffer stays as it was
     let mut text = [0u8; LONGEST];
     let length = writer::put(facts, &mut text);
     if buffer.len() < length {
@@ -61,14 +67,15 @@ fn write_miss(table: Loaded, tick: u32, place: usize, buffer: &mut [u8]) -> Resu
 }
 
 // The sentence of a table that passed: number 17 or 18, or its first miss.
-fn by_table(table: Loaded, buffer: &mut [u8]) -> Result<usize, Refusal>
-    requires { Fit table × LengthsWithin table }
-    ensures { (answered result ≡ by_table (loaded_table table) (length buffer.old))
-        × (buffer.new ≡ left_in (sentence_meaning (answered result)) (facts_in (loaded_table table)) buffer.old) }
+fn by_table(fitting: Fitting, buffer: &mut [u8]) -> Result<usize, Refusal>
+    requires { LengthsWithin fitting.loaded }
+    ensures { (answered result ≡ by_table (loaded_table fitting.loaded) (length buffer.old))
+        × (buffer.new ≡ left_in (sentence_meaning (answered result)) (facts_in (loaded_table fitting.loaded)) buffer.old) }
 {
+    let table = fitting.loaded;
     match judge::fastest::first_miss(table, table.horizon + 1) {
         None => Err(Refusal::NoMiss),
-        Some(miss) => write_miss(table, miss.tick, miss.position as usize - 1, buffer),
+        Some(miss) => write_miss(fitting, miss.tick, miss.position as usize - 1, buffer),
     }
 }
 
@@ -77,6 +84,6 @@ fn by_table(table: Loaded, buffer: &mut [u8]) -> Result<usize, Refusal>
 pub fn sentence(words: &[u32], buffer: &mut [u8]) -> Result<usize, Refusal>
     ensures { SentenceOf words.now buffer.old buffer.new (answered result) }
 {
-    let table = table::load(words)?;
-    by_table(table, buffer)
+    let fitting = Fitting::load(words)?;
+    by_table(fitting, buffer)
 }

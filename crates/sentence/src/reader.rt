@@ -1,11 +1,9 @@
 // Words and numbers read from the front of a text: what is there, and the text after it.
 ghost use mathlib.Core.Bool.{◌&&◌, true};
-ghost use Rattle.std.specs.Prelude.{◌≡◌, ◌≤◌, ◌<◌, MatchOption, eqb, leb, ltb, length, drop};
+ghost use Rattle.std.specs.Prelude.{◌≡◌, ◌≤◌, ◌<◌, MatchOption, eqb, leb, ltb};
 ghost use Rattle.text.specs.Decimal.{Digits, value};
-ghost use Rattle.text.specs.Output.{letters};
 ghost use Rattle.sentence.specs.Facts.{limit};
-ghost use Rattle.sentence.specs.Parsed.{same};
-ghost use Rattle.sentence.specs.Reading.{starts_with, digits_of, NumberOf, FieldOf, PartOf, PartsOf, HeadOf};
+ghost use Rattle.sentence.specs.Reading.{digits_of, NumberOf, FieldOf, PartOf, PartsOf, HeadOf};
 ghost use Rattle.model.specs.Sizes.{most_tasks};
 
 use model::MOST_TASKS;
@@ -24,14 +22,6 @@ pub struct Head {
     pub tick: u64,
     pub had: u64,
     pub length: u64,
-}
-
-// Whether the bytes from `at` on begin with a word.
-pub fn begins_with(bytes: &[u8], at: usize, word: &[u8]) -> bool
-    requires { at ≤ length bytes.now }
-    ensures { result ≡ starts_with word.now (drop at bytes.now) }
-{
-    bytes[at..].starts_with(word)
 }
 
 // The number of digits at the front of a text.
@@ -64,6 +54,7 @@ fn value_of(digits: &[u8]) -> Option<u64>
 
 // The number at the front of a text, of all the digits there: no zero in front of others, and below 2^64.
 // By hand: `parse` takes a plus sign, and a zero in front.
+// Not text's reader: that one takes ten digits at most, zeros in front too (`NumberOf`).
 fn read_number(text: &[u8]) -> Option<(u64, &[u8])>
     ensures { NumberOf text.now result }
 {

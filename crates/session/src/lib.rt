@@ -35,6 +35,7 @@ pub struct Session {
 }
 
 // The number of bytes taken, the number of bytes written, and the session after them.
+// No plainer as one with plan_text's, which writes nothing.
 // The buffer is the caller's, and a count of its bytes is returned, as a read does.
 #[derive(Clone, Copy)]
 pub struct Fed {
@@ -67,6 +68,7 @@ impl Session {
     }
 
     // The table, once it has ended, and the answer to it; a text longer than any table can be ends the session.
+    // No plainer as one with plan_text's: three lines are alike, and what follows the table differs.
     fn feed_table(self, bytes: &[u8], ended: bool, out: &mut [u8; REPLY]) -> Fed
         ensures { FedBy (transcript_in Table self.run) ended bytes.now out.old out.new result }
     {
@@ -96,6 +98,7 @@ impl Session {
     }
 
     // Takes the table or a line of the bytes, where it has ended or the input has, and writes the reply to it; what is left is to be fed again.
+    // A `match` on the stage and no closure: a session may be of any stage (`FedOf`).
     pub fn feed(self, bytes: &[u8], ended: bool, out: &mut [u8; REPLY]) -> Fed
         ensures { FedOf self ended bytes.now out.old out.new result }
     {

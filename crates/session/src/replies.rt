@@ -21,6 +21,7 @@ pub struct Reply {
 }
 
 // Writes a line of a word and numbers, a space before each; returns where it ends.
+// That a text is written stands in each clause, and no type can say it: each names another text.
 pub(crate) fn write_line(word: &[u8], numbers: &[u64], out: &mut [u8; REPLY]) -> usize
     requires { length (line_of word.now numbers.now) ≤ longest_reply }
     ensures { TextWritten (line_of word.now numbers.now) out.old out.new result }

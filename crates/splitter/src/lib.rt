@@ -23,6 +23,7 @@ pub fn is_dashes(line: &[u8]) -> bool
 }
 
 // The line at the front, once it has ended or the input has; one of `most` bytes is handed on before it has ended.
+// The bytes and whether the input has ended are no struct: the public feeds of a session and of a check take both.
 pub fn line(bytes: &[u8], most: usize, ended: bool) -> Option<Part>
     ensures { LineOf bytes.now most ended (part_in bytes.now result) }
 {
@@ -58,6 +59,7 @@ fn unclosed(bytes: &[u8], from: usize, ended: bool) -> Option<Part>
 }
 
 // The table's text at the front, once a line `--` has ended after it or the input has; too many bytes for a table are handed on as they are.
+// The bytes and the end, as in `line`.
 pub fn table(bytes: &[u8], ended: bool) -> Option<Part>
     ensures { TableOf bytes.now ended (part_in bytes.now result) }
 {

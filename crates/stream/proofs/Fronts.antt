@@ -5,7 +5,7 @@ use mathlib.Core.Path.{◌∙◌, ◌≡◌, ap, subst⁻¹, sym}
 use Prim.Native.Nat.{◌-◌, ◌<◌, suc, zero, ℕ}
 use native.Mathlib.Omega.{arith}
 use lib.Dec.{eqb}
-use lib.ListN.{drop, drop_of_length-le, length, length-drop, take, take-append-drop}
+use lib.ListN.{drop, length, length-drop, take, take-append-drop}
 use lib.Seq.{length-take-le, take-nil, take-take}
 use Rattle.stream.specs.Reading.{Reading}
 use Rattle.std.proofs.Common.{rules}
@@ -33,9 +33,6 @@ module _ (held : ℕ) (before read : List ℕ) (r : Reading) (w : ReadAfter held
 
   pub left-and-came : take held before ++ came ≡ take r.held read
   left-and-came = ap (λ (x : List ℕ). x ++ came) (sym w.kept ∙ sym (take-take held r.held read w.least)) ∙ take-append-drop held (take r.held read)
-
-  pub none_came : r.held ≡ held → came ≡ []
-  none_came e = drop_of_length-le (take r.held read) {i = held} (omega (arith, e, length-take-le r.held read (omega (arith, w.most, w.same))))
 
   -- what is left of them is at the front
   pub left-kept : (after : List ℕ) (taken n : ℕ) → MovedToFront taken r.held read after n → take n after ≡ drop taken (take held before ++ came)

@@ -3,11 +3,10 @@
 use mathlib.Core.Bool.{true, false, false≢true}
 use mathlib.Core.List.{List, [], ◌++◌}
 use mathlib.Core.Path.{◌≡◌, refl, sym, ap, subst, ◌∙◌}
-use Prim.Native.Nat.{ℕ, ◌+◌, ◌-◌, ◌≤◌}
+use Prim.Native.Nat.{ℕ, ◌+◌}
 use native.Mathlib.Omega.{arith}
 use lib.ListN.{length, take, length-append}
 use lib.Seq.{take-take}
-use borrow.Rule.Slice.PartMut.{put_mid, take_put}
 use Rattle.std.specs.Prelude.{Result, Ok, Err}
 use Rattle.std.specs.Result.{IsErr, IsErrAnd}
 use Rattle.std.proofs.lemmas.Result.{err_from_is_err_and}
@@ -17,13 +16,6 @@ use Rattle.stream.specs.Reading.{Reading, ReadAfter, ReadOnceOf, FilledOf, read_
 use Rattle.stream.specs.Sent.{saturated, Sent, SentOf, sent_of}
 
 -- READING
-
--- what is before the part that is lent to a read is as it was
-pub part-behind :
-    (held : ℕ) (before part : List ℕ) (r : Reading) → held ≤ length before → length (put_mid held (length before - held) before part) ≡ length before
-    → held ≤ r.held → r.held ≤ length before → ReadAfter held before (put_mid held (length before - held) before part) r
-part-behind held before part r h same least most =
-    record { kept = take_put held (length before - held) before part h; same = same; least = least; most = most }
 
 -- a read after the bytes of others
 pub behind-on :

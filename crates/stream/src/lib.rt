@@ -23,6 +23,7 @@ pub struct Filled {
     pub ended: bool,
 }
 
+// The count is no struct with the buffer: what may not change, `read` and `fill` are public and ask no more of callers.
 // Reads once, after the bytes that the buffer holds; returns how many it holds then: as many as before where the input has ended.
 pub fn read<R: Read>(input: &mut R, buffer: &mut [u8], held: usize) -> io::Result<usize>
     requires { held ≤ length buffer.old }
@@ -31,7 +32,7 @@ pub fn read<R: Read>(input: &mut R, buffer: &mut [u8], held: usize) -> io::Resul
     Ok(held + input.read(&mut buffer[held..])?)
 }
 
-// Reads after the bytes that the buffer holds, until it is full or the input ends.
+// Reads after the bytes that the buffer holds, until it is full or the input ends. The count stays beside the buffer, as in `read`.
 pub fn fill<R: Read>(input: &mut R, buffer: &mut [u8], held: usize) -> io::Result<Filled>
     requires { held ≤ length buffer.old }
     ensures { FilledOf held buffer.old buffer.new (filled held result) }

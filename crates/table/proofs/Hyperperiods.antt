@@ -12,7 +12,7 @@ use borrow.Author.Tests.{lt-ltb, ltb-true}
 use Rattle.model.specs.Task as model
 use Rattle.model.specs.Task.{absent_task}
 use Rattle.model.specs.Horizon.{lcm, hyperperiod}
-use Rattle.model.proofs.Bools.{same_test}
+use Rattle.std.specs.Cmp.{both_ways}
 use Rattle.model.proofs.Starts.{Periods, cycle-pos, hyperperiod-pos, hyperperiod-more, hyperperiod-fewer}
 use Rattle.table.specs.declared.Task.{Task}
 use Rattle.table.specs.Task.{task_of, no_task, InLimits, TimesWithin}
@@ -55,7 +55,7 @@ module _ (tasks : List Task) (limits : InLimits tasks (length tasks)) where
 -- P is known up to one above the limit n: this decides whether S + P exceeds n ..
 pub exceeds-capped : (n s p : ℕ) → ltb n (s + min p (n + 1)) ≡ ltb n (s + p)
 exceeds-capped n s p =
-    same_test (ltb n (s + min p (n + 1))) (ltb n (s + p))
+    both_ways (ltb n (s + min p (n + 1))) (ltb n (s + p))
     (λ e. lt-ltb n (s + p) (omega (arith, ltb-true n (s + min p (n + 1)) e)))
     (λ e. lt-ltb n (s + min p (n + 1)) (omega (arith, ltb-true n (s + p) e)))
 

@@ -9,7 +9,7 @@ use lib.ListN.{length}
 use Rattle.model.specs.Task.{task, AllValid, rule_of}
 use Rattle.model.specs.Fence.{unfenced_count}
 use Rattle.model.specs.Horizon.{horizon}
-use Rattle.model.proofs.Bools.{not-true-false}
+use Rattle.std.proofs.lemmas.Bool.{false_from_ne_true}
 use Rattle.model.specs.Sizes.{most_cores, most_tasks}
 use Rattle.table.specs.Answer.{Past, Again, Whole}
 use Rattle.table.specs.Words.{head, core_count, rule, fence, visited, count, task_at, table_of}
@@ -59,8 +59,8 @@ module _ (ws : List ℕ) (none : NoneApplies ws) where
   passed-count =
       let n = table-length ws in
       rw n (count-from ws (λ h. none 1 0 (one h)) (λ h. none 4 0 (four h))
-      (not-true-false (out_of_range_at ws (last_step ws)) (λ e. none 5 0 ((five-decides ws).0 e)))
-      (not-true-false (repeated_at ws (last_step ws)) (λ e. none 6 0 ((six-decides ws).0 e))))
+      (false_from_ne_true (out_of_range_at ws (last_step ws)) (λ e. none 5 0 ((five-decides ws).0 e)))
+      (false_from_ne_true (repeated_at ws (last_step ws)) (λ e. none 6 0 ((six-decides ws).0 e))))
 
   -- the walk comes to the end of the chain, and meets another record at each of its places
   pub passed-reached : Reaches ws (count ws)
@@ -69,8 +69,8 @@ module _ (ws : List ℕ) (none : NoneApplies ws) where
       (sym
       (ends_there ws (last_step ws) (last-reached ws)
       (last-ends ws
-      (not-true-false (out_of_range_at ws (last_step ws)) (λ e. none 5 0 ((five-decides ws).0 e)))
-      (not-true-false (repeated_at ws (last_step ws)) (λ e. none 6 0 ((six-decides ws).0 e))))))
+      (false_from_ne_true (out_of_range_at ws (last_step ws)) (λ e. none 5 0 ((five-decides ws).0 e)))
+      (false_from_ne_true (repeated_at ws (last_step ws)) (λ e. none 6 0 ((six-decides ws).0 e))))))
       (last-reached ws)
 
   -- 1 to 64 cores

@@ -12,7 +12,7 @@ pub mod words; // words.rt: the numbers of a table's text
 use words::Words;
 
 // The most numbers of a table's text: the words of a header and of 32 records.
-pub const NUMBERS: usize = table::HEADER + table::RECORD * model::MOST_TASKS;
+pub const NUMBERS: usize = table::MOST_WORDS;
 
 // The most digits of a line.
 pub const DIGITS: usize = 10;

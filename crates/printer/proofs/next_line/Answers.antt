@@ -3,7 +3,7 @@ use native.Mathlib.Omega.{arith}
 use mathlib.Core.List.{List}
 use mathlib.Core.Path.{sym, ◌∙◌, subst₂}
 use Prim.Native.Nat.{ℕ}
-use lib.ListN.{take}
+use lib.ListN.{length-take, take}
 use Rattle.simulation.specs.TickState.{Numbers, numbers_of, TickState, tick_state_of}
 use Rattle.simulation.proofs.Steps.{chosen_on, even-on}
 use Rattle.text.proofs.Writing.{put-length}
@@ -51,7 +51,8 @@ put_allocation-size-requires c = (c.requires.safe.cores, c.requires.safe.few, om
 pub put_row-ready-requires : goal.put_row-ready-requires
 put_row-ready-requires c =
     let x = text_of (goal.at.put_row-ready-requires c).Joined-next-registers in
-    (omega (arith, x.1, x.2), x.1, omega (arith, c.requires.long))
+    let j = (goal.at.put_row-ready-requires c).Joined-next-registers.if-next-registers in
+    (omega (arith, length-take j.size j.text, x.1), omega (arith, c.requires.long))
 
 pub returns : goal.returns
 returns c =

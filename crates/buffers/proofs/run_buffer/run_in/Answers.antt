@@ -8,9 +8,9 @@ use Rattle.phase.specs.declared.Task.{Task}
 use Rattle.run.specs.declared.Run.{Run}
 use Rattle.phase.specs.Task.{unused, past_end}
 use Rattle.run.proofs.Written.{written-more, drop-equal}
-use Rattle.buffers.specs.Encoding.{head_words, each_words, places, words_to, place_in, is_place, place_read, places_in, are_places, count_in, fence_in, padded, holds_run, run_in}
+use Rattle.buffers.specs.Encoding.{head_words, each_words, places, words_to, place_in, is_place, places_in, are_places, count_in, fence_in, padded, holds_run, run_in}
 use Rattle.buffers.proofs.Places.{read_more, length-read, test_on, test-stop, none_left, held-short, held-many, held_by}
-use Rattle.buffers.proofs.Reading.{behind, none-read, run-none, run-some}
+use Rattle.buffers.proofs.Reading.{place-chunk, place-room, none-read, run-none, run-some}
 use Rattle.buffers.proofs.run_buffer.run_in.Goals as goal
 
 -- the places as they are made, all of them unused
@@ -40,35 +40,38 @@ returns-in_err-tasks c =
     let ws = c.args.words.now in
     let i = c.loop-i.i in
     let n = count_in ws in
-    let stop = none-read (is_place (drop (words_to i) ws)) (place_in (drop (words_to i) ws)) (ap place_read (sym (behind ws (words_to i))) ∙ (sym c.place_in.ensures ∙ c.in_err-tasks.was)) in
+    let size = place-room ws c.if-words-lt-WORDS.false c.as_chunks.result.0.now c.as_chunks.ensures.front_len n c.if-count-gt-PLACES.false in
+    let stop = none-read (is_place (drop (words_to i) ws)) (place_in (drop (words_to i) ws)) (sym (place-chunk ws c.if-words-lt-WORDS.false c.as_chunks.result.0.now c.as_chunks.ensures.front n i c.if-count-gt-PLACES.false (omega (arith, size))) ∙ (sym c.place_in.ensures ∙ c.in_err-tasks.was)) in
     let is : c.from_residual.result ≡ None = search rules in
     is ∙ run-none ws
     (held_by ws c.if-words-lt-WORDS.false c.if-count-gt-PLACES.false
-    ∙ (c.loop-i.invariant.held ∙ test-stop (n - i) (n - (i + 1)) (words_to i) ws (omega arith) stop))
+    ∙ (c.loop-i.invariant.held ∙ test-stop (n - i) (n - (i + 1)) (words_to i) ws (omega (arith, size)) stop))
 
 pub loop-i-preserved : goal.loop-i-preserved
 loop-i-preserved c =
     let ws = c.args.words.now in
     let i = c.loop-i.i in
     let n = count_in ws in
+    let size = place-room ws c.if-words-lt-WORDS.false c.as_chunks.result.0.now c.as_chunks.ensures.front_len n c.if-count-gt-PLACES.false in
     let t = c.in_ok-tasks.field-0 in
-    let was = cond_some (is_place (drop (words_to i) ws)) (place_in (drop (words_to i) ws)) t (ap place_read (sym (behind ws (words_to i))) ∙ (sym c.place_in.ensures ∙ c.in_ok-tasks.was)) in
+    let was = cond_some (is_place (drop (words_to i) ws)) (place_in (drop (words_to i) ws)) t (sym (place-chunk ws c.if-words-lt-WORDS.false c.as_chunks.result.0.now c.as_chunks.ensures.front n i c.if-count-gt-PLACES.false (omega (arith, size))) ∙ (sym c.place_in.ensures ∙ c.in_ok-tasks.was)) in
     let more : places_in (i + 1) (drop head_words ws) ≡ places_in i (drop head_words ws) ++ (t ∷ []) =
     ap (λ (k : ℕ). places_in k (drop head_words ws)) (add-one i)
     ∙ (read_more i (drop head_words ws) ∙ ap (λ (u : Task). places_in i (drop head_words ws) ++ (u ∷ [])) (ap place_in (drop-drop (each_words * i) head_words ws) ∙ was.1)) in
-    let next = written-more (places_in i (drop head_words ws)) made i t past_end (length-read i (drop head_words ws)) (omega arith) in
+    let next = written-more (places_in i (drop head_words ws)) made i t past_end (length-read i (drop head_words ws)) (omega (arith, size)) in
     let e : words_to i + each_words ≡ words_to (i + 1) = omega arith in
     record {
       read = ap (λ (l : List Task). set l i t) c.loop-i.invariant.read ∙ (next ∙ ap (λ (l : List Task). l ++ drop (i + 1) made) (sym more));
-      held = c.loop-i.invariant.held ∙ (test_on (n - i) (n - (i + 1)) (words_to i) ws (omega arith) was.0 ∙ ap (λ (k : ℕ). are_places (n - (i + 1)) (drop k ws)) e);
+      held = c.loop-i.invariant.held ∙ (test_on (n - i) (n - (i + 1)) (words_to i) ws (omega (arith, size)) was.0 ∙ ap (λ (k : ℕ). are_places (n - (i + 1)) (drop k ws)) e);
     }
 
 pub returns : goal.returns
 returns c =
     let ws = c.args.words.now in
     let n = count_in ws in
-    let e : c.loop-i.i ≡ n = omega arith in
-    let left : n - c.loop-i.i ≡ 0 = omega arith in
+    let size = place-room ws c.if-words-lt-WORDS.false c.as_chunks.result.0.now c.as_chunks.ensures.front_len n c.if-count-gt-PLACES.false in
+    let e : c.loop-i.i ≡ n = omega (arith, size) in
+    let left : n - c.loop-i.i ≡ 0 = omega (arith, size) in
     let tasks : c.loop-i.tasks ≡ padded n (places_in n (drop head_words ws)) =
     c.loop-i.invariant.read
     ∙ (ap (λ (k : ℕ). places_in k (drop head_words ws) ++ drop k made) e ∙ ap (λ (l : List Task). places_in n (drop head_words ws) ++ l) (drop-equal places n unused)) in

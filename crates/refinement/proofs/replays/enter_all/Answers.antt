@@ -32,9 +32,9 @@ code-requires c =
     let l = c.loop-i in
     let es = c.args.entries.now in
     let x = entry_at es l.i in
-    let same = ap (entry_of l.last) (entry-chunk es c.as_chunks.result.0.now c.as_chunks.ensures.front l.i (omega (arith, c.as_chunks.ensures.front_len))) in
+    let same = ap (entry_of l.run) (entry-chunk es c.as_chunks.result.0.now c.as_chunks.ensures.front l.i (omega (arith, c.as_chunks.ensures.front_len))) in
     subst (λ (a : Advanced). EntryAnswer (answer_meaning a.answer))
-    (sym (answer-of l.last l.last x c.enter.result (Err c.in-Err.refusal) c.in-Err.is (c.enter.ensures ∙ same) refl)) (small-answer l.last x)
+    (sym (answer-of l.run l.run x c.enter.result (Err c.in-Err.refusal) c.in-Err.is (c.enter.ensures ∙ same) refl)) (small-answer l.run x)
 
 -- one entry more, with its answer as number k and the next run r
 module _ (run : Run) (es numbers₀ numbers : List ℕ) (i : ℕ) (room : i < length numbers₀) where
@@ -61,20 +61,20 @@ loop-i-preserved c =
     let es = a.entries.now in
     let x = entry_at es l.i in
     let after = run_after_list a.run (first es l.i) in
-    let same = ap (entry_of l.last) (entry-chunk es c.as_chunks.result.0.now c.as_chunks.ensures.front l.i (omega (arith, c.as_chunks.ensures.front_len))) in
+    let same = ap (entry_of l.run) (entry-chunk es c.as_chunks.result.0.now c.as_chunks.ensures.front l.i (omega (arith, c.as_chunks.ensures.front_len))) in
     elim c.match-enter.branch [
       | in-Ok w ↦
-          let ans = answer-of l.last after x c.enter.result (Ok w.in-Ok.next) w.in-Ok.is (c.enter.ensures ∙ same) l.invariant.after in
+          let ans = answer-of l.run after x c.enter.result (Ok w.in-Ok.next) w.in-Ok.is (c.enter.ensures ∙ same) l.invariant.after in
           record {
-            after = more-run a.run es a.numbers.now l.numbers l.i (omega arith) c.match-enter.last (w.last-is ∙ ap (λ (b : Advanced). b.run) ans);
+            after = more-run a.run es a.numbers.now l.numbers l.i (omega arith) c.match-enter.run (w.run-is ∙ ap (λ (b : Advanced). b.run) ans);
             written =
                 w.numbers-is
                 ∙ more-codes a.run es a.numbers.now l.numbers l.i (omega arith) l.invariant.written 0 (ap (λ (b : Advanced). code (answer_meaning b.answer)) ans);
           }
       | in-Err w ↦
-          let ans = answer-of l.last after x c.enter.result (Err w.in-Err.refusal) w.in-Err.is (c.enter.ensures ∙ same) l.invariant.after in
+          let ans = answer-of l.run after x c.enter.result (Err w.in-Err.refusal) w.in-Err.is (c.enter.ensures ∙ same) l.invariant.after in
           record {
-            after = more-run a.run es a.numbers.now l.numbers l.i (omega arith) c.match-enter.last (w.last-is ∙ ap (λ (b : Advanced). b.run) ans);
+            after = more-run a.run es a.numbers.now l.numbers l.i (omega arith) c.match-enter.run (w.run-is ∙ ap (λ (b : Advanced). b.run) ans);
             written =
                 w.numbers-is
                 ∙ more-codes a.run es a.numbers.now l.numbers l.i (omega arith) l.invariant.written w.code.result

@@ -1,12 +1,11 @@
 -- `table::chain::walk`: where a record is met for the first time there is a place for its task; the header bounds the words and the records.
 use Rattle.std.proofs.Common.{◌≡◌, ◌∙◌, ap, ◌+◌, ◌*◌, ◌-◌, ◌≤◌, ◌<◌, ℕ, List, length, arith}
 use Rattle.model.specs.Sizes.{most_tasks}
-use Rattle.table.specs.declared.Task.{Task}
-use Rattle.table.specs.Task.{no_task}
 use Rattle.table.specs.Words.{header_words, records}
 use Rattle.table.specs.Answer.{header_number}
 use Rattle.table.specs.Load.{code_task}
 use Rattle.table.proofs.HeaderPasses.{header-passes, words_long, words-few}
+use Rattle.table.proofs.Places.{none-is}
 use Rattle.table.proofs.Records.{count-in, chunks-in, word-in, task-of-record}
 use Rattle.table.proofs.Walking.{walking-none, walking-again, walking-room, walking-step, walked-past, walked-again, walked_whole}
 use Rattle.table.proofs.chain.walk.Goals as goal
@@ -16,10 +15,6 @@ long ws fine = words_long ws (header-passes ws fine).words-in
 
 few : (ws : List ℕ) → header_number ws ≡ 0 → records ws ≤ most_tasks
 few ws fine = words-few ws (header-passes ws fine).words-in
-
--- the default task is none
-none-is : (t : Task) → (t.offset ≡ 0) × ((t.width ≡ 0) × ((t.length ≡ 0) × ((t.deadline ≡ 0) × ((t.period ≡ 0) × (t.second ≡ 0))))) → t ≡ no_task
-none-is t e = λ i. record { offset = e.0 i; width = e.1.0 i; length = e.1.1.0 i; deadline = e.1.1.1.0 i; period = e.1.1.1.1.0 i; second = e.1.1.1.1.1 i }
 
 pub slice_bounds-as_chunks-count : goal.slice_bounds-as_chunks-count
 slice_bounds-as_chunks-count c = long c.args.words.now c.requires

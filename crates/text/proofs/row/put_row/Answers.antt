@@ -1,7 +1,6 @@
 -- The tick has at most ten digits, and the text of the cores is after them.
 use Prim.Native.Nat.{◌≤◌}
 use native.Mathlib.Omega.{arith}
-use lib.ListN.{length-take}
 use Rattle.text.proofs.Decimals.{decimal-length, count_most}
 use Rattle.text.proofs.Writing.{put_then, put-length}
 use Rattle.text.proofs.row.put_row.Goals as goal
@@ -19,10 +18,10 @@ put-at-requires c = omega (arith, count_most 9 c.args.tick (omega arith))
 pub put-requires : goal.put-requires
 put-requires c =
     let e = short (goal.at.put-requires c).After-put-at in
-    omega (arith, e, length-take c.args.count c.args.text.now, put-length c.put-at.ensures (omega (arith, e)))
+    omega (arith, e, put-length c.put-at.ensures (omega (arith, e)))
 
 pub returns : goal.returns
 returns c =
     let e = short (goal.at.returns c).After-put-at in
-    let most : c.put.result ≤ 267 = omega (arith, c.put.ensures.ends, length-take c.args.count c.args.text.now, e) in
+    let most : c.put.result ≤ 267 = omega (arith, c.put.ensures.ends, e) in
     (put_then c.put-at.ensures c.put.ensures (omega (arith, most)), most)
