@@ -84,8 +84,8 @@ impl Search {
     }
 
     // The window of the place: one that passes, or one more than its deadline where none is found.
-    // No Option: `bound_from` of model/specs/Interference gives that number, and `test` asks only whether it is past the deadline.
-    // Not one bisection with slack's: `bound_from` asks at the middle of a range that has its lower end, slack of one that has not.
+    // No Option: `bound_from` of model/specs/Interference gives that number, and `test` asks only if it is too large.
+    // Not one bisection with slack's: this range has its lower end, as `bound_from` says, and slack's has not.
     pub(crate) fn bound(&self) -> u32
         ensures { result ≡ bound_from (loaded_table self.now.table) (λ i. get_or self.now.ends i 0) self.now.place }
     {

@@ -49,7 +49,8 @@ pub(crate) fn is_given(table: Fitting) -> bool
 }
 
 // The slack of the task at a place: bisection between a growth that fits and one that misses, from none and from one past the deadline.
-// A bisection by hand: the library's is over a slice, and here a number is sought. The one of `interference` asks at the middle of another range.
+// A bisection by hand: the library's is over a slice, and here a number is sought.
+// Not one bisection with that of `interference`, which asks at the middle of another range.
 fn slack_at(table: Fitting, place: usize) -> u32
     requires { (place < table.loaded.count) × (has_slack (loaded_table table.loaded) ≡ true) }
     ensures { result ≡ slack (loaded_table table.loaded) place }

@@ -20,7 +20,7 @@ pub fn horizon_out(start: u32, period: u32) -> bool
 }
 
 // A table whose tasks are within their limits: number 9, or the table.
-// What it asks of the chain stands in clauses, since `last_start` and `hyperperiod`, which pages name, ask it of any tasks.
+// What it asks of the chain stands in clauses: `last_start` and `hyperperiod`, which pages name, ask it of any tasks.
 fn by_horizon(cores: u32, fence: u64, rule: u32, chain: Chain) -> Result<Loaded, Refusal>
     requires some { 1 ≤ chain.count }
     requires few { chain.count ≤ most_tasks }

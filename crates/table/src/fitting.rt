@@ -5,7 +5,8 @@ use crate::Loaded;
 use model::Refusal;
 
 // The table, and in the type what a run needs of it.
-// No impl Model: it is Copy, so a view would have to give back the rule's number, S, P and the horizon, which no table of the model has.
+// No impl Model: it is Copy, so a view would have to give back all fields. No table of the model has the rule's number,
+// S, P and the horizon.
 #[derive(Clone, Copy)]
 pub struct Fitting {
     pub loaded: Loaded,

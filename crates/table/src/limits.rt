@@ -17,7 +17,7 @@ pub const MOST_HORIZON: u32 = 1_000_000_000;
 pub const HIGH: u64 = 4_294_967_296;
 
 // Whether the core count is not 1 to 64 (number 2).
-// Not one function with `rule_out`: pages name both by their paths, each with its own clause, and each is one expression.
+// Not one function with `rule_out`: pages name both, each has its own clause, and each is one expression.
 pub fn cores_out(cores: u32) -> bool
     ensures { result ≡ cores_out cores }
 {
