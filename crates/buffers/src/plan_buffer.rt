@@ -88,7 +88,7 @@ fn notes_in(words: &[u32]) -> [Note; run_buffer::PLACES]
     noted
 }
 
-// The plan at the front of the buffer, or none: any words are a tick, and any are notes.
+// The plan at the front of the buffer, or none: any words are a tick, and any are notes. No `TryFrom`, like `run_in`.
 fn plan_in(words: &[u32]) -> Option<SuppliedPlan>
     ensures { result ≡ plan_read (decode_plan words.now) }
 {

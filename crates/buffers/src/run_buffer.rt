@@ -193,6 +193,7 @@ fn place_in(words: &[u32; EACH]) -> Option<Task>
 }
 
 // The run at the front of the buffer, or none. The places past its count are not read: zeros and Resting(0).
+// A function and no `TryFrom`, since neither words nor a run are of this crate.
 pub(crate) fn run_in(words: &[u32]) -> Option<Run>
     ensures { result ≡ run_read (decode words.now) }
 {

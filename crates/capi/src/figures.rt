@@ -18,6 +18,7 @@ pub extern "C" fn sivorandra_response_times(
 {
     results::answered(figures, MOST_TASKS, answer, |figures| {
         let found = response_time::response_times(words);
+        // zeros beside a refusal, as C is promised
         put_figures(found.unwrap_or([0; MOST_TASKS]), figures);
         results::encoded(found, 0)
     })
@@ -31,6 +32,7 @@ pub extern "C" fn sivorandra_slack(words: &[u32], figures: &mut [u32], answer: &
 {
     results::answered(figures, MOST_TASKS, answer, |figures| {
         let found = slack::slack(words);
+        // zeros beside a refusal, as C is promised
         put_figures(found.unwrap_or([0; MOST_TASKS]), figures);
         results::encoded(found, 0)
     })
@@ -45,6 +47,7 @@ pub extern "C" fn sivorandra_bounds(words: &[u32], figures: &mut [u32], answer: 
     results::answered(figures, MOST_TASKS, answer, |figures| {
         let found = interference::response_bounds(words);
         let bounds = found.unwrap_or(None);
+        // zeros beside a refusal, as C is promised
         put_figures(bounds.unwrap_or([0; MOST_TASKS]), figures);
         results::encoded(found, u32::from(bounds.is_some()))
     })

@@ -32,6 +32,7 @@ pub extern "C" fn sivorandra_check_begin(words: &[u32], plan: &mut [u32], answer
 {
     results::answered(plan, plan_buffer::WORDS, answer, |plan| {
         let begun = plan_check::begin(words);
+        // an empty plan beside a refusal, as C is promised
         let first = begun.unwrap_or(plan_check::begins::empty());
         plan_buffer::put_plan(first, run_buffer::PLACES, true, plan);
         results::encoded(begun, 0)

@@ -19,6 +19,7 @@ pub extern "C" fn sivorandra_start(words: &[u32], run: &mut [u32], answer: &mut 
 {
     results::answered(run, run_buffer::WORDS, answer, |run| {
         let started = run::start(words);
+        // an empty run beside a refusal, as C is promised
         let first = started.unwrap_or(run::starts::empty());
         run_buffer::put_run(first, run_buffer::PLACES, run);
         results::encoded(started, 0)
@@ -38,6 +39,7 @@ pub extern "C" fn sivorandra_row(
 {
     let shown = run_buffer::ask(run, |held| held.row(empties));
     results::answered(row, ROW, answer, |row| {
+        // zeros beside a refusal, as C is promised
         refinement::replays::put(shown.unwrap_or([0; ROW]), row);
         results::encoded(shown, 0)
     })
@@ -57,6 +59,7 @@ pub extern "C" fn sivorandra_sets(
 {
     let shown = run_buffer::ask(run, |held| held.sets(empties));
     results::answered(sets, MOST_TASKS, answer, |sets| {
+        // zeros beside a refusal, as C is promised
         put_figures(shown.unwrap_or([0; MOST_TASKS]), sets);
         results::encoded(shown, 0)
     })
@@ -75,6 +78,7 @@ pub extern "C" fn sivorandra_working(
 {
     let shown = run_buffer::ask(run, |held| held.working(empties));
     results::answered(set, 1, answer, |set| {
+        // zeros beside a refusal, as C is promised
         set[0] = shown.unwrap_or(0);
         results::encoded(shown, 0)
     })

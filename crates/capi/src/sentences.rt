@@ -37,6 +37,7 @@ fn facts_in(bytes: &[u8], facts: &mut [u64]) -> AnswerWords
     ensures answer { result ≡ of_parsed (parsed bytes.now) }
 {
     let found = sentence::facts_of(bytes);
+    // zeros beside a refusal, as C is promised
     facts::put_facts(found.unwrap_or_default(), facts);
     AnswerWords::from(found)
 }
