@@ -78,6 +78,7 @@ pub fn is_firm(rule: u32, tasks: &[Task]) -> bool
 }
 
 // The verdict on a table that misses no deadline.
+// The count has a clause, here and in verdict_by: a `Fitting` would ask more of callers, who judge any 32 tasks.
 pub fn accepted(table: Loaded) -> Verdict
     requires { table.count ≤ most_tasks }
     ensures { result ≡ accepted_of table }

@@ -88,6 +88,7 @@ fn next_line(
 }
 
 // The printer of a verdict's line and of the rows of its table up to a tick.
+// The two limits are a clause and no `Fitting`: a refused table has a printer too.
 fn start(table: Loaded, end: u32, verdict: Verdict) -> Printer
     requires { (table.cores ≤ most_cores) × (table.count ≤ most_tasks) }
     ensures { PrinterStartOf table end verdict result }
