@@ -18,6 +18,7 @@ ghost use Rattle.query.specs.Figures.{figure_lines};
 ghost use Rattle.query.specs.Positions.{spaced_at, position_line};
 ghost use Rattle.query.specs.Query.{answer_room, refusal_line, PutOf, verdict_text, why_of, response_times_text, conflict_text, slack_text, bounds_text, answer_to, word_of, query_output};
 
+use model::sets::Members;
 use model::{MOST_TASKS, Refusal};
 use sentence::LONGEST;
 use std::io::Write;
@@ -124,10 +125,8 @@ fn put_positions(set: u32, line: &mut [u8; ROOM]) -> usize
     ensures { (Put line.old 0 (position_line set) line.new result) × (result ≤ answer_room) }
 {
     let mut at: usize = 0;
-    for place in 0..32 {
-        if (set >> place) % 2 == 1 {
-            at = put_spaced(line, at, place + 1);
-        }
+    for place in Members::from(set) {
+        at = put_spaced(line, at, place as u32 + 1);
     }
     line[at] = b'\n';
     at + 1
