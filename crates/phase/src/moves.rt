@@ -74,9 +74,9 @@ impl Task {
         }
     }
 
-    // `next`, which the pages name, is given each of these apart; a struct of them would be made for this one call.
     // The state of the task one tick on from the seen phase, by whether it is given cores in this tick, whether it borrows some and whether
     // it is reported.
+    // `next`, which the pages name, is given each of these apart; a struct of them would be made for this one call.
     fn stepped(self, rule: u32, given: bool, lent: bool, reported: bool, seen: Phase) -> TaskState
         requires { NoOverflow seen }
         ensures { result ≡ next_state (rule_of rule) (task_of self) given lent reported self.even seen }

@@ -26,6 +26,8 @@ fn unreachable(phase: Phase) -> bool
 }
 
 // Whether some task of the run is in such a phase.
+// The count within 32 is a clause, here and in the functions of a state: a state is any run, and 14 tests it.
+// A type of states that pass would be built anew for each row.
 fn any_unreachable(run: Run) -> bool
     requires { run.count ≤ most_tasks }
     ensures { result ≡ any run.count (λ p. unreachable_phase (phase_at run p)) }

@@ -22,8 +22,8 @@ use model::sets::{Members, has, places_where};
 use model::{FENCED, MOST_TASKS, ROW};
 
 // The number of widths: each place has two, the first of every place before the second of any.
-// One flat array: what may not change, `widths_in` and the public functions here speak of one list. (`choose` alone took
-// 1.4 times as long with `[[u32; 2]; 32]`, compiled as Rust; a whole verdict took 0.81 to 0.94 times as long.)
+// One flat array and no pairs: what may not change, `widths_in` (rule/specs/Widths), on which clauses of rule, run,
+// simulation and printer stand, is of one list.
 pub const PAIR: usize = 2 * MOST_TASKS;
 
 // Rule 1: a claimant that doesn't fit is skipped.
@@ -94,6 +94,7 @@ pub fn choose(rule: u32, free: u64, claims: u32, even: u32, widths: &[u32; PAIR]
 
 // The set of cores of each of the first `count` positions, 0 where it is given none; `claims` is the set that claims, bit 0 for position 1.
 // Not one with `choose`, which keeps a count of the free cores in place of their set.
+// The count stands beside the widths: a slice of the first `count` would cut between their two halves.
 pub fn grants(
     rule: u32,
     free: u64,
@@ -238,7 +239,7 @@ fn union(sets: &[u64]) -> u64
 }
 
 // The set of cores that the row shows of each of the first `count` positions: those that it borrows, or its own cores that no place borrows.
-// By a place, since three lists have one there, and the third is written.
+// By a place, since three lists have one there, and the third is written. The count cuts all three.
 pub fn shown(
     reserved: &[u64; MOST_TASKS],
     borrowed: &[u64; MOST_TASKS],

@@ -26,9 +26,8 @@ pub struct Claims {
 impl Run {
     // What the tasks below the count claim in the present tick. Bit p of `empties` is set if the job of position p + 1 is empty; that of a withdrawn position
     // is too.
-    // The empties are one number, that each question on a run is asked with. No type of runs within their limits stands
-    // for the clause: `tick` knows number 14
-    // of the tasks only after this pass, and such a run would be a copy of the run.
+    // The empties are one number, that each question on a run is asked with.
+    // No type of runs within their limits: it would be built for this one call, and 14 is known of the tasks only after it.
     pub(crate) fn claims(self, empties: u32) -> Claims
         requires { (self.count ≤ most_tasks) × (self.cores ≤ most_cores) }
         ensures { ClaimsOf self empties result }

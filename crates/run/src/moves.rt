@@ -8,8 +8,8 @@ use crate::Run;
 use model::sets;
 
 impl Run {
-    // `advance` knows of 14 by its tick: a type of runs that pass it would be a copy of the run for this one call.
     // The run one tick on, of an advance that is taken; `given` is the set of places that are given cores in this tick, `lent` that of those that borrow some.
+    // No type of runs that pass 14: it would be built for this one call, and `advance` knows of 14 by its tick.
     pub(crate) fn moved(self, given: u32, lent: u32, reports: u32, empties: u32) -> Run
         requires fact_1 { run_out self ≡ false }
         requires fact_2 { ((p : ℕ) → bit given p ≡ has_cores self empties p) }

@@ -27,6 +27,7 @@ pub fn empty() -> Run
 }
 
 // The run of a table that was loaded, as it starts. Not inlined: its copies would take stack while the table is judged.
+// It is public: a `Fitting` would ask more than the count.
 #[inline(never)]
 pub fn begun(table: Loaded) -> Run
     requires { table.count ≤ most_tasks }

@@ -10,7 +10,7 @@ use model::Refusal;
 
 impl Run {
     // Whether the rule and the widths are firm, by the judge's test.
-    // `may_withdraw` alone calls it, behind number 14, and no type of such runs does (`claims`).
+    // No type of runs that pass 14: it would be built for this one call, of `may_withdraw`.
     pub(crate) fn is_firm(self) -> bool
         requires { self.count ≤ most_tasks }
         ensures { result ≡ firm_in self }

@@ -11,6 +11,7 @@ use crate::{EVENT, NEXT, TRIPLE};
 use model::sets::{Members, places_where};
 
 // The set of those of the first `count` places whose event is this tick.
+// A count beside the places that are lent, as in `earliest`.
 pub(crate) fn due_places(tick: u32, count: usize, places: &[u32; TRIPLE]) -> u32
     requires { count ≤ most_tasks }
     ensures { result ≡ due_at tick count (segment second places.now) }

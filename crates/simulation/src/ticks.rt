@@ -20,7 +20,7 @@ pub struct Due {
 
 // Releases a job at each of the first `count` places whose event is this tick, for runs in which no job is late.
 // What stays below 2^32 is a clause: the function is public, and a type would ask more.
-// Registers by value and the places lent, as in `crate::release`.
+// Registers by value and the places lent, as in `crate::release`; a count beside them, as in `earliest`.
 pub fn release_due(
     tick: u32,
     count: usize,

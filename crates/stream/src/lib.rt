@@ -113,6 +113,8 @@ pub struct Exchange {
 
 // Reads an input until its end, or until the buffer is full, and prints the program's answer to it; a read that fails is reported, and nothing is printed.
 // As many bytes as the buffer holds decide the answer.
+// Input, output, log, name and buffer come apart, here, in `receive` and in `run`: a struct of five borrows with three
+// type parameters would be built in each `main` for one call.
 pub fn answer<P: Program, R: Read, W: Write, E: Write>(
     input: &mut R,
     out: &mut W,
@@ -168,6 +170,7 @@ pub struct Received {
 }
 
 // Reads once after the bytes that are left, and feeds all to the program; a read that fails is reported.
+// The count stays beside the buffer, as in `read`.
 pub fn receive<P: Feed, R: Read, W: Write, E: Write>(
     input: &mut R,
     out: &mut W,

@@ -38,7 +38,7 @@ pub struct Task {
 // A table: the cores, the fence, which is a set of them, the tasks in priority order, zeros past the count, the last S, P and the horizon.
 // The rule is a number, since columns and printers take a table of any rule. An array with its count stands for a list, without a heap.
 // What public functions ask of it (`Fit`, an end within the horizon) stands in their clauses, since pages name them.
-// Private ones take a `Fitting`.
+// Private functions that run the table take a `Fitting`; those that need the count alone ask for it.
 #[derive(Clone, Copy)]
 pub struct Loaded {
     pub count: usize,
