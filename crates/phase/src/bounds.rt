@@ -21,7 +21,8 @@ impl Task {
             }
             Phase::Holding(z, reserved) => {
                 crate::idles(rule)
-                    & ((z < self.parameters.deadline) & ((reserved < self.parameters.length) & (reserved <= z)))
+                    & ((z < self.parameters.deadline)
+                        & ((reserved < self.parameters.length) & (reserved <= z)))
             }
             Phase::Resting(z) => (1 <= z) & (z < self.parameters.period),
         }
