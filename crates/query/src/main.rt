@@ -155,7 +155,7 @@ fn bounds(words: &[u32], lines: &mut [u8; ROOM]) -> Result<usize, Refusal>
     let tested = interference::response_bounds(words)?;
     match tested {
         Some(figures) => put_answer(words, figures, lines),
-        None => Ok(text::row::copy(b"none\n", 0, 5, lines, 0)),
+        None => Ok(text::row::put(lines, 0, b"none\n")),
     }
 }
 
