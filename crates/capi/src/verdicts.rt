@@ -10,6 +10,7 @@ use buffers::answer_words::AnswerWords;
 
 // A call that writes to no other slice, by the words of a table: 0 where `answer` has space; else 1, and it is as found.
 // Not by `results::answered`, since there is no slice to lend it.
+// 0 or 1, and no Result, since C reads it as the status of its call (include/sivorandra.h).
 fn answered<F: FnOnce(&[u32]) -> AnswerWords>(words: &[u32], answer: &mut [u32], call: F) -> u32
     requires { F.IsAlwaysCallable call }
     ensures fits { answer_fits answer.old ≡ true
