@@ -53,7 +53,7 @@ pub struct PlanProgress {
 }
 
 // The state of a check: what the next bytes are read as, the table or the plan; or its answer, after which nothing is read.
-// Like session's, but what follows the table differs.
+// Not session's Stage, which has the run beside it.
 #[derive(Clone, Copy)]
 pub enum Check {
     Table,

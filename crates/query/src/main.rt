@@ -188,6 +188,7 @@ fn send_answer<W: Write>(out: &mut W, question: Question, bytes: &[u8]) -> Resul
     ensures { SentOf 0 (answer_to question (numbers_in (words_of bytes.now))) (sent_of result) }
 {
     let mut lines = [0u8; ROOM];
+    // No plainer as one in text: a new public function with its own clause, for these four lines in three crates.
     let length = match text::read(bytes) {
         Some(words) => put(question, words.as_slice(), &mut lines),
         // what is no table's text has no numbers, and no words are refused likewise: 1 0

@@ -18,6 +18,7 @@ use text::row::LINE;
 fn verdict_on(bytes: &[u8]) -> Verdict
     ensures { result ≡ verdict_of (numbers_in (words_of bytes.now)) }
 {
+    // No plainer as one in text: a new public function with its own clause, for these four lines in three crates.
     match text::read(bytes) {
         Some(words) => judge::judge(words.as_slice()),
         None => judge::judge(&[]),
