@@ -108,7 +108,7 @@ fn response_times(words: &[u32], lines: &mut [u8; ROOM]) -> Result<usize, Refusa
 }
 
 // Writes a number, after a space where it is not the first of its line; returns where it ends.
-// By hand: the bytes go into the caller's slice from a place on. The library's text without a heap, `InlineText`, has its own buffer.
+// By hand: of a lent slice `write!` promises how many bytes it wrote, and not which; `InlineText` has its own buffer.
 fn put_spaced(line: &mut [u8], at: usize, number: u32) -> usize
     requires { at + 11 ≤ length line.old }
     ensures { (Put line.old at (spaced_at at number) line.new result) × (result ≤ at + 11) }
@@ -235,6 +235,7 @@ impl Program for Query {
     }
 }
 
+// A main for each program: the runtime is handed to it alone, and all else is `stream::answer`.
 fn main(rt: HostRuntime) {
     let mut bytes = [0u8; INPUT];
     let _ = stream::answer::<Query, _, _, _>(

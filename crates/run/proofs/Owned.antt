@@ -54,7 +54,6 @@ unfolding set_of
 set-some [] = refl
 set-some (c ∷ l) = lt-ltb 0 (2 ^ c + set_of l) (omega (arith, pow_pos c))
 
-
 -- ---- whose a core is
 
 -- an owner's list has the core

@@ -45,11 +45,7 @@ pub(crate) fn allocate(
         let borrowed = rule::lend(&reserved, holders, seekers, even, widths, count);
         let lent = rule::owners(&borrowed);
         let sets = rule::shown(&reserved, &borrowed, count);
-        return Allocation {
-            given,
-            lent,
-            sets,
-        };
+        return Allocation { given, lent, sets };
     }
     Allocation {
         given,
