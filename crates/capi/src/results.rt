@@ -21,6 +21,7 @@ pub(crate) fn encoded<T: Copy>(given: Result<T, Refusal>, beside: u32) -> Answer
 
 // A call that writes to a lent slice, and is answered in three words: 0 where the slice has the `need` elements that the call writes, and `answer` space; else
 // 1, and both are as found.
+// 0 or 1, and no Result, since C reads it as the status of its call (include/sivorandra.h).
 pub(crate) fn answered<T, C: FnOnce(&mut [T]) -> AnswerWords>(
     lent: &mut [T],
     need: usize,

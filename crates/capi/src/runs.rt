@@ -85,6 +85,7 @@ pub extern "C" fn sivorandra_working(
 }
 
 // An entry on the run that the buffer holds.
+// 0 or 1, and no Result, since C reads it as the status of its call (include/sivorandra.h).
 fn enter<E: FnOnce(Run) -> Result<Run, Refusal>>(
     run: &mut [u32],
     answer: &mut [u32],
@@ -138,6 +139,8 @@ pub extern "C" fn sivorandra_withdraw_all(run: &mut [u32], set: u32, answer: &mu
 // The run of a table's words, taken through all of `entries`, three words each, 0, reports and empties, or 1, position and 0, or 2, set and 0: its
 // answers go into `numbers`, its last row, asked with no empty job, into the first 64 bytes of `row`.
 // Case 0: the last row is shown; 4: the last row is refused, number position; 3: the start is Refused number position, and both as found.
+// 0 or 1, and no Result, since C reads it as the status of its call (include/sivorandra.h).
+// Not by `answered`: two slices are lent, and `replay` itself says that they do not fit.
 #[unsafe(no_mangle)]
 pub extern "C" fn sivorandra_replay(
     words: &[u32],

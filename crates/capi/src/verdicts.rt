@@ -9,7 +9,8 @@ use buffers::answer_words;
 use buffers::answer_words::AnswerWords;
 
 // A call that writes to no other slice, by the words of a table: 0 where `answer` has space; else 1, and it is as found.
-// Not by `results::answered`, since there is no slice to lend it.
+// No plainer by `results::answered`: each call would lend an empty slice and take one that it does not use.
+// 0 or 1, and no Result, since C reads it as the status of its call (include/sivorandra.h).
 fn answered<F: FnOnce(&[u32]) -> AnswerWords>(words: &[u32], answer: &mut [u32], call: F) -> u32
     requires { F.IsAlwaysCallable call }
     ensures fits { answer_fits answer.old ≡ true

@@ -42,6 +42,7 @@ pub struct Ran<R> {
 }
 
 // The larger of a task's two widths.
+// Stays over the library's max: a public function of a crate that docs/ names as something to use (docs/PROOFS.md).
 pub fn wider(a: u32, b: u32) -> u32
     ensures { result ≡ max a b }
 {
@@ -49,6 +50,7 @@ pub fn wider(a: u32, b: u32) -> u32
 }
 
 // The smaller of a task's two widths.
+// Stays over the library's min, as `wider` does.
 pub fn narrower(a: u32, b: u32) -> u32
     ensures { result ≡ min a b }
 {

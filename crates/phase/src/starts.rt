@@ -12,14 +12,7 @@ pub fn unused() -> Task
     ensures { result ≡ unused }
 {
     Task {
-        parameters: table::Task {
-            offset: 0,
-            width: 0,
-            length: 0,
-            deadline: 0,
-            period: 0,
-            second: 0,
-        },
+        parameters: table::Task::default(),
         even: false,
         phase: Phase::Resting(0),
     }

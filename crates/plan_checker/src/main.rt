@@ -16,6 +16,7 @@ use stream::{Cut, Feed, Round};
 use text::row::LINE;
 
 // Prints the answer.
+// No plainer as one with those of the other programs: three lines, over arrays of two lengths.
 fn print<W: Write>(out: &mut W, answer: Option<PlanAnswer>) -> Result<usize, Cut>
     ensures { SentOf 0 (plan_answer_line (answered answer)) (sent_of result) }
 {
@@ -54,6 +55,7 @@ impl Feed for PlanChecker {
     }
 }
 
+// A main for each program: the runtime is handed to it alone, and all else is `stream::run`.
 fn main(rt: HostRuntime) {
     let mut checker = PlanChecker {
         check: Check::new(),

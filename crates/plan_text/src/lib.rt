@@ -45,6 +45,7 @@ impl From<Refusal> for PlanAnswer {
 
 // A plan between two lines: its state, the number of lines so far, and whether its last row was taken and it is accepted.
 // A flag: an accepted plan has its state and its lines too, and a further row is taken by the same call.
+// A bool, since `skipped` and `end_answer` of specs test one.
 #[derive(Clone, Copy)]
 pub struct PlanProgress {
     pub plan: SuppliedPlan,
@@ -53,7 +54,7 @@ pub struct PlanProgress {
 }
 
 // The state of a check: what the next bytes are read as, the table or the plan; or its answer, after which nothing is read.
-// Like session's, but what follows the table differs.
+// Not session's Stage, which has the run beside it.
 #[derive(Clone, Copy)]
 pub enum Check {
     Table,
@@ -205,6 +206,7 @@ fn feed_table(bytes: &[u8], ended: bool) -> Fed
     };
     match begin(&bytes[..part.end]) {
         Ok(rows) => feed_plan(rows, bytes, part.next, ended),
+        // not by From: the table's numbers are all below 24, which the type does not say
         Err(refusal) => Fed {
             check: Check::Over(PlanAnswer::Refused(refusal.number(), refusal.position())),
             taken: bytes.len(),

@@ -162,6 +162,7 @@ impl Printer {
     pub fn new(bytes: &[u8]) -> Printer
         ensures { MadeFrom bytes.now result }
     {
+        // No plainer as one in text: a new public function with its own clause, for these four lines in three crates.
         match text::read(bytes) {
             Some(words) => of_words(words.as_slice()),
             // what is no table's text has no numbers, and no words are refused likewise: 1 0

@@ -20,7 +20,7 @@ mod sorting; // sorting.rt: the five sorted orders
 mod links; // links.rt: the words of the table in an order, and their verdict
 mod repair; // repair.rt: the order that follows one that misses
 
-// The most judgings where nothing else is asked.
+// The most judgings where nothing else is asked. For callers of `order`: no code here uses it.
 pub const JUDGINGS: u32 = 200;
 
 // The number of sorted orders.

@@ -108,7 +108,7 @@ fn response_times(words: &[u32], lines: &mut [u8; ROOM]) -> Result<usize, Refusa
 }
 
 // Writes a number, after a space where it is not the first of its line; returns where it ends.
-// By hand: the bytes go into the caller's slice from a place on. The library's text without a heap, `InlineText`, has its own buffer.
+// By hand: of a lent slice `write!` promises how many bytes it wrote, and not which; `InlineText` has its own buffer.
 fn put_spaced(line: &mut [u8], at: usize, number: u32) -> usize
     requires { at + 11 ≤ length line.old }
     ensures { (Put line.old at (spaced_at at number) line.new result) × (result ≤ at + 11) }
@@ -155,7 +155,7 @@ fn bounds(words: &[u32], lines: &mut [u8; ROOM]) -> Result<usize, Refusal>
     let tested = interference::response_bounds(words)?;
     match tested {
         Some(figures) => put_answer(words, figures, lines),
-        None => Ok(text::row::copy(b"none\n", 0, 5, lines, 0)),
+        None => Ok(text::row::put(lines, 0, b"none\n")),
     }
 }
 
@@ -188,6 +188,7 @@ fn send_answer<W: Write>(out: &mut W, question: Question, bytes: &[u8]) -> Resul
     ensures { SentOf 0 (answer_to question (numbers_in (words_of bytes.now))) (sent_of result) }
 {
     let mut lines = [0u8; ROOM];
+    // No plainer as one in text: a new public function with its own clause, for these four lines in three crates.
     let length = match text::read(bytes) {
         Some(words) => put(question, words.as_slice(), &mut lines),
         // what is no table's text has no numbers, and no words are refused likewise: 1 0
@@ -234,6 +235,7 @@ impl Program for Query {
     }
 }
 
+// A main for each program: the runtime is handed to it alone, and all else is `stream::answer`.
 fn main(rt: HostRuntime) {
     let mut bytes = [0u8; INPUT];
     let _ = stream::answer::<Query, _, _, _>(

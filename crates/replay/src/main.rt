@@ -51,6 +51,7 @@ impl Feed for Replay {
     }
 }
 
+// A main for each program: the runtime is handed to it alone, and all else is `stream::run`.
 fn main(rt: HostRuntime) {
     let mut replay = Replay {
         session: Session::new(),

@@ -63,7 +63,7 @@ fn write_miss(
     if buffer.len() < length {
         return Err(Refusal::ShortBuffer);
     }
-    Ok(text::row::copy(&text, 0, length, buffer, 0))
+    Ok(text::row::put(buffer, 0, &text[..length]))
 }
 
 // The sentence of a table that passed: number 17 or 18, or its first miss.

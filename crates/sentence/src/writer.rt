@@ -43,7 +43,7 @@ pub fn put(facts: Facts, line: &mut [u8]) -> usize
     let b = decimal::put_after(line, a, b" misses at tick ", facts.tick);
     let c = decimal::put_after(line, b, b" with ", facts.had);
     let d = decimal::put_after(line, c, b" of ", facts.length);
-    let e = row::copy(b" ticks", 0, 6, line, d);
+    let e = row::put(line, d, b" ticks");
     let f = put_parts(line, e, ran);
     line[f] = b'.';
     f + 1

@@ -19,7 +19,7 @@ const NONE_LONG: usize = 1 + 2 * (1 + text::DIGITS) + 1;
 pub const REPLY: usize = 4 + MOST_TASKS * (1 + 20) + 1;
 
 // What the next bytes are read as: the table, the operations, or nothing any more.
-// Like plan_text's, but what follows the table differs.
+// Not plan_text's Check, whose cases hold their data.
 #[derive(Clone, Copy)]
 pub enum Stage {
     Table,
@@ -28,6 +28,7 @@ pub enum Stage {
 }
 
 // The state of a session: its stage, and the run.
+// A tag beside the run: what may not change, `transcript_of` of specs/Session, is of `s.stage` and `s.run`.
 #[derive(Clone, Copy)]
 pub struct Session {
     pub stage: Stage,

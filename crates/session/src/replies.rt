@@ -30,6 +30,7 @@ pub(crate) fn write_line(word: &[u8], numbers: &[u64], out: &mut [u8; REPLY]) ->
 }
 
 // Writes a refusal with its number and position; returns where it ends.
+// By hand, as text's functions, which it calls.
 pub(crate) fn write_refused(refusal: Refusal, out: &mut [u8; REPLY]) -> usize
     ensures { TextWritten (line_of (letters "refused") (number_of refusal ∷ position_of refusal ∷ [])) out.old out.new result }
 {
@@ -37,6 +38,7 @@ pub(crate) fn write_refused(refusal: Refusal, out: &mut [u8; REPLY]) -> usize
 }
 
 // Writes the bytes of the first cores of a row.
+// By hand, as text's functions, which it calls.
 fn write_cores(cores: u32, bytes: [u8; ROW], out: &mut [u8; REPLY]) -> usize
     ensures { TextWritten (line_of (letters "row") (take cores bytes)) out.old out.new result }
 {

@@ -40,6 +40,7 @@ impl Program for Rows {
     }
 }
 
+// A main for each program: the runtime is handed to it alone, and all else is `stream::answer`.
 fn main(rt: HostRuntime) {
     let mut bytes = [0u8; ENOUGH];
     let _ = stream::answer::<Rows, _, _, _>(

@@ -23,8 +23,8 @@ pub struct Filled {
     pub ended: bool,
 }
 
-// The count is no struct with the buffer: what may not change, `read` and `fill` are public and ask no more of callers.
 // Reads once, after the bytes that the buffer holds; returns how many it holds then: as many as before where the input has ended.
+// The count is no struct with the buffer: what may not change, `read` and `fill` are public and ask no more of callers.
 pub fn read<R: Read>(input: &mut R, buffer: &mut [u8], held: usize) -> io::Result<usize>
     requires { held ≤ length buffer.old }
     ensures { ReadOnceOf held buffer.old buffer.new (read_once held result) }

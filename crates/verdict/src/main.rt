@@ -18,6 +18,7 @@ use text::row::LINE;
 fn verdict_on(bytes: &[u8]) -> Verdict
     ensures { result ≡ verdict_of (numbers_in (words_of bytes.now)) }
 {
+    // No plainer as one in text: a new public function with its own clause, for these four lines in three crates.
     match text::read(bytes) {
         Some(words) => judge::judge(words.as_slice()),
         None => judge::judge(&[]),
@@ -30,6 +31,7 @@ struct FirstLine;
 impl Program for FirstLine {
     ghost text = { first_for };
 
+    // No plainer as one with those of the other programs: three lines, over arrays of two lengths.
     fn print<W: Write>(out: &mut W, bytes: &[u8]) -> Result<usize, Cut> {
         let mut line = [0u8; LINE];
         let length = text::first::put_first(&mut line, verdict_on(bytes));
@@ -37,6 +39,7 @@ impl Program for FirstLine {
     }
 }
 
+// A main for each program: the runtime is handed to it alone, and all else is `stream::answer`.
 fn main(rt: HostRuntime) {
     let mut bytes = [0u8; ENOUGH];
     let _ = stream::answer::<FirstLine, _, _, _>(

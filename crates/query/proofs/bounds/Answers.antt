@@ -27,5 +27,5 @@ returns-in-Some c =
 pub returns-in-None : goal.returns-in-None
 returns-in-None c =
     let r = c.response_bounds in
-    let p = c.copy.ensures in
+    let p = c.put.ensures in
     (omega (arith, p.ends), put_front p ∙ bounds-no c.args.words.now r.result r.ensures c.in_ok-tested.tested c.in_ok-tested.was c.in-None.is)

@@ -42,5 +42,5 @@ returns c =
     let f = facts_at (loaded_table c.args.fitting.loaded) c.args.tick c.args.place in
     let aside = subst (λ (g : Facts). Put (replicate 700 0) 0 (sentence_text g) c.put-length.new.line c.put-length.result) c.count-facts.ensures c.put-length.ensures in
     let measured = text-length _ _ _ _ aside in
-    let done = text-copied _ _ _ _ aside _ _ _ c.copy.ensures in
+    let done = text-copied _ _ _ _ aside _ _ _ c.put.ensures in
     (ap Length done.0 ∙ long-enough f (length c.args.buffer.now) (omega (arith, measured, c.if-buffer-length.false)), done.1)

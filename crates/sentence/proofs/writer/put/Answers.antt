@@ -30,14 +30,14 @@ put_after-d-requires c =
     let three = put_both two c.put_after-c.ensures (room-3 f n c.requires) in
     room_after (fourth f) three (room-4 f n c.requires)
 
-pub copy-e-requires : goal.copy-e-requires
-copy-e-requires c =
+pub put-e-requires : goal.put-e-requires
+put-e-requires c =
     let f = facts_by c.args.facts in
     let n = length c.args.line.now in
     let two = put_both c.put_after-a.ensures c.put_after-b.ensures (room-2 f n c.requires) in
     let three = put_both two c.put_after-c.ensures (room-3 f n c.requires) in
     let four = put_both three c.put_after-d.ensures (room-4 f n c.requires) in
-    (omega arith, room_after (letters " ticks") four (room-5 f n c.requires))
+    room_after (letters " ticks") four (room-5 f n c.requires)
 
 pub put_parts-f-requires : goal.put_parts-f-requires
 put_parts-f-requires c =
@@ -46,7 +46,7 @@ put_parts-f-requires c =
     let two = put_both c.put_after-a.ensures c.put_after-b.ensures (room-2 f n c.requires) in
     let three = put_both two c.put_after-c.ensures (room-3 f n c.requires) in
     let four = put_both three c.put_after-d.ensures (room-4 f n c.requires) in
-    let five = put_both four c.copy-e.ensures (room-5 f n c.requires) in
+    let five = put_both four c.put-e.ensures (room-5 f n c.requires) in
     room_after (parts f.others []) five (room-6 f n c.requires)
 
 pub bounds-line-f : goal.bounds-line-f
@@ -56,7 +56,7 @@ bounds-line-f c =
     let two = put_both c.put_after-a.ensures c.put_after-b.ensures (room-2 f n c.requires) in
     let three = put_both two c.put_after-c.ensures (room-3 f n c.requires) in
     let four = put_both three c.put_after-d.ensures (room-4 f n c.requires) in
-    let five = put_both four c.copy-e.ensures (room-5 f n c.requires) in
+    let five = put_both four c.put-e.ensures (room-5 f n c.requires) in
     let six = put_both five c.put_parts-f.ensures (room-6 f n c.requires) in
     let r = room_after (letters ".") six (room-7 f n c.requires) in
     omega (arith, r)
@@ -68,7 +68,7 @@ returns c =
     let two = put_both c.put_after-a.ensures c.put_after-b.ensures (room-2 f n c.requires) in
     let three = put_both two c.put_after-c.ensures (room-3 f n c.requires) in
     let four = put_both three c.put_after-d.ensures (room-4 f n c.requires) in
-    let five = put_both four c.copy-e.ensures (room-5 f n c.requires) in
+    let five = put_both four c.put-e.ensures (room-5 f n c.requires) in
     let six = put_both five c.put_parts-f.ensures (room-6 f n c.requires) in
     let q = c.put_parts-f in
     let r = room_after (letters ".") six (room-7 f n c.requires) in
