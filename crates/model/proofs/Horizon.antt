@@ -59,7 +59,7 @@ covers : (s : Table) → Periods s.tasks → (p : ℕ) → p < length s.tasks �
 unfolding horizon
 covers s h p l = omega (arith, S-last s.tasks p h l)
 
-factor : (m n : ℕ) → 0 < m * n → 0 < m
+pub factor : (m n : ℕ) → 0 < m * n → 0 < m
 factor zero n h = omega arith
 factor (suc m) n h = omega arith
 

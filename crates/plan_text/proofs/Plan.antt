@@ -40,7 +40,7 @@ use Rattle.plan_text.specs.Line.{cells_of, is_byte, is_verdict, long_line, most_
 use Rattle.plan_text.specs.Checked.{end_answer, row_entered, or_else, is_more, next_line, skipped, refusal_answer, rows_at, rows_answer, step_of, line_answer}
 use Rattle.plan_text.specs.Plan.{WordsOf, ExpressibleRow, plan_text, plan_answer_of}
 use Rattle.plan_text.proofs.Lines.{rows_none}
-use Rattle.plan_text.proofs.Long.{refusal-ends}
+use Rattle.plan_text.proofs.Long.{no-either, refusal-ends}
 use Rattle.plan_text.proofs.Answers.{entered-plan, on-end}
 use Rattle.splitter.proofs.Words.{words-one}
 use Rattle.text.specs.Input.{length_to}
@@ -172,13 +172,7 @@ digit-verdict d l h = rw (ne_eqb 102 d (λ e. omega (arith, e, h)), ne_eqb 109 d
 
 digit-passed : (r : PlanProgress) (d : ℕ) (l : List ℕ) → d ≤ 57 → skipped r (d ∷ l) ≡ false
 unfolding skipped
-digit-passed r d l h = rw (digit-verdict d l h, ne_eqb (length (d ∷ l)) 0 (λ e. omega (arith, e))) (go (eqb r.lines 0) r.accepted)
-  where
-    go : (t u : Bool) → ((t && false) || (u && false)) ≡ false
-    go true true = refl
-    go true false = refl
-    go false true = refl
-    go false false = refl
+digit-passed r d l h = rw (digit-verdict d l h, ne_eqb (length (d ∷ l)) 0 (λ e. omega (arith, e))) (no-either (eqb r.lines 0) r.accepted)
 
 row-passed : (r : PlanProgress) (t : ℕ) (ns : List ℕ) → skipped r (bare t ns) ≡ false
 row-passed r t ns = let x = digit-first t ns in ap (skipped r) x.2 ∙ digit-passed r x.0 x.1 x.4

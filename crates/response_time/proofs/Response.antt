@@ -10,7 +10,7 @@ use lib.ListN.{length}
 use borrow.Author.Tests.{leb-false, leb-true}
 use Rattle.model.proofs.Faithful.{job-number}
 use Rattle.std.proofs.lemmas.Bool.{true_from_ne_false}
-use Rattle.model.proofs.Horizon.{repeat-all}
+use Rattle.model.proofs.Horizon.{factor, repeat-all}
 use Rattle.model.proofs.Idling.{lending-idling, under}
 use Rattle.model.proofs.Runs.{full-fresh, full-stays, missed-at}
 use Rattle.model.proofs.Search.{any_of, least-any, least-lowest}
@@ -26,10 +26,6 @@ use Rattle.response_time.proofs.Greatest.{greatest-at, greatest-is}
 -- what has ended stays ended
 pub ended-later : (s : Table) (p k n m : ℕ) → n ≤ m → ((full s n).job p k).ended ≡ true → ((full s m).job p k).ended ≡ true
 ended-later s p k n m l e = let d = le_dest l in subst (λ (x : ℕ). ((full s x).job p k).ended ≡ true) d.1 (full-stays s n d.0 p k e)
-
-factor : (m n : ℕ) → 0 < m * n → 0 < m
-factor zero n h = omega arith
-factor (suc m) n h = omega arith
 
 -- the job that job k of place p repeats: released P earlier, and not before S of the place
 pub record Earlier (s : Table) (p k : ℕ) : Type 0 where

@@ -32,7 +32,8 @@ pub(crate) fn due_by(tick: u32, event: u32, count: usize, places: &[u32; TRIPLE]
 }
 
 // The earliest event of the first `count` places.
-// A count beside the places that are lent, for speed: docs/DECISIONS.md, 'The machine'.
+// The count stands beside the places: their array has three numbers of each, and no slice of it is the first `count`
+// places.
 pub(crate) fn earliest(count: usize, places: &[u32; TRIPLE]) -> u32
     requires { count ≤ most_tasks }
     ensures { result ≡ earliest_of count (segment second places.now) }

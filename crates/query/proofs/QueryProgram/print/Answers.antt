@@ -7,7 +7,8 @@ use Rattle.sentence.specs.Reading.{starts_with}
 use Rattle.stream.specs.Sent.{SentOf, sent_of}
 use Rattle.query.specs.declared.Question.TheVariants.{Why}
 use Rattle.query.specs.Query.{answer_to, questions, query_output, word_of}
-use Rattle.query.proofs.Asking.{front-begins, asked_here, asked-on, asked-none}
+use Rattle.sentence.proofs.Reading.{front-begins}
+use Rattle.query.proofs.Asking.{asked_here, asked-on, asked-none}
 use Rattle.query.proofs.QueryProgram.print.Goals as goal
 
 pub loop-question-init : goal.loop-question-init
