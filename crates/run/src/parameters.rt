@@ -13,8 +13,7 @@ impl Run {
         requires { self.count ≤ most_tasks }
         ensures { (result ≡ parameters_in self) × (tasks_of result self.count ≡ tasks_in self) }
     {
-        let none = phase::starts::unused();
-        let mut tasks = [none.parameters; MOST_TASKS];
+        let mut tasks = [table::Task::default(); MOST_TASKS];
         for (i, task) in self.tasks[..self.count].iter().enumerate() {
             tasks[i] = task.parameters;
         }

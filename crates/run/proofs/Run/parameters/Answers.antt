@@ -1,7 +1,6 @@
 use Rattle.std.proofs.Common.{refl, ◌≡◌, ap, ◌∙◌, arith, rules, length, get_or, take, get_or-set_other, length-set}
 use Rattle.std.proofs.Math.Seq.{get_or-take}
 use Rattle.model.specs.Sizes.{most_tasks}
-use Rattle.phase.specs.declared.Task.{Task}
 use Rattle.table.specs.Task.{no_task}
 use Rattle.phase.specs.Task.{task_of, past_end}
 use Rattle.run.specs.Run.{run_task_at}
@@ -10,8 +9,8 @@ use Rattle.run.proofs.Run.parameters.Goals as goal
 
 pub loop-i-init : goal.loop-i-init
 loop-i-init c =
-    let none = ap (λ (t : Task). t.parameters) c.unused-none.ensures in
-    record { size = refl; known = λ p h. absurd (omega arith); none = λ p h. none-there most_tasks p c.unused-none.result.parameters none }
+    let none : c.default-tasks.result ≡ no_task = search (rules, c.default-tasks.ensures) in
+    record { size = refl; known = λ p h. absurd (omega arith); none = λ p h. none-there most_tasks p c.default-tasks.result none }
 
 pub loop-i-preserved : goal.loop-i-preserved
 loop-i-preserved c =
