@@ -11,6 +11,7 @@ ghost use Rattle.priority_order.specs.Repair.{LateIn, late_in, repairs};
 ghost use Rattle.priority_order.specs.Tried.{tried_orders};
 
 use judge::Verdict;
+use links::Order;
 use model::{MOST_TASKS, Refusal};
 use repair::Late;
 use table::Loaded;
@@ -103,7 +104,12 @@ fn repaired(
         if order == kept {
             return Err(NoOrder::Tried(tried + made));
         }
-        let verdict = links::verdict_in(words, order, count);
+        let in_order = Order {
+            words,
+            count,
+            places: order,
+        };
+        let verdict = in_order.verdict();
         if let Some(found) = assigned(verdict, order, count) {
             return Ok(found);
         }
@@ -131,7 +137,12 @@ fn search(words: &[u32], table: Loaded, judgings: u32) -> Result<Assignment, NoO
     let first = judgings.min(SORTED);
     for number in 0..first {
         let order = sorting::sorted(table, number);
-        let verdict = links::verdict_in(words, order, count);
+        let in_order = Order {
+            words,
+            count,
+            places: order,
+        };
+        let verdict = in_order.verdict();
         let found = assigned(verdict, order, count);
         if let Some(best) = firm(found) {
             return Ok(best);

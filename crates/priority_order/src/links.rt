@@ -22,26 +22,33 @@ fn record_at(words: &[u32], place: usize) -> u32
     number
 }
 
-// The words of the table in an order, since the judge takes C's words.
-// The next of each record is the one after it in the order, that of the last is zero.
-// Order and count stand apart, as in `verdict_in`.
-pub(crate) fn reordered(words: &[u32], order: [u32; MOST_TASKS], count: usize) -> [u32; MOST_WORDS]
-    requires { OrderIn words.now count order }
-    ensures { take (length words.now) result ≡ reordered words.now order }
-{
-    let mut chain = NewChain::of(words);
-    for place in &order[..count] {
-        chain.append(record_at(words, *place as usize));
-    }
-    chain.end()
+// The words of a table that passes, and an order of its tasks: of the places, as many as it has tasks.
+#[derive(Clone, Copy)]
+pub(crate) struct Order<'a> {
+    pub(crate) words: &'a [u32],
+    pub(crate) count: usize,
+    pub(crate) places: [u32; MOST_TASKS],
+    ghost fits: { ∥ OrderIn words.now count places ∥₁ },
 }
 
-// The verdict on the table in an order.
-// The count stands beside the order and not in it: it is the table's, one for all orders of a search.
-pub(crate) fn verdict_in(words: &[u32], order: [u32; MOST_TASKS], count: usize) -> Verdict
-    requires { OrderIn words.now count order }
-    ensures { Judged (reordered words.now order) result }
-{
-    let part = reordered(words, order, count);
-    judge::judge(&part[..words.len()])
+impl<'a> Order<'a> {
+    // The words of the table in the order, since the judge takes C's words.
+    // The next of each record is the one after it in the order, that of the last is zero.
+    pub(crate) fn reordered(self) -> [u32; MOST_WORDS]
+        ensures { take (length self.entry.words.now) result ≡ reordered self.entry.words.now self.entry.places }
+    {
+        let mut chain = NewChain::of(self.words);
+        for place in &self.places[..self.count] {
+            chain.append(record_at(self.words, *place as usize));
+        }
+        chain.end()
+    }
+
+    // The verdict on the table in the order.
+    pub(crate) fn verdict(self) -> Verdict
+        ensures { Judged (reordered self.entry.words.now self.entry.places) result }
+    {
+        let part = self.reordered();
+        judge::judge(&part[..self.words.len()])
+    }
 }

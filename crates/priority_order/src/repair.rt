@@ -4,6 +4,7 @@ ghost use Rattle.sentence.specs.Facts.{named};
 ghost use Rattle.priority_order.specs.Orders.{OrderIn};
 ghost use Rattle.priority_order.specs.Repair.{LateIn, blocking_in, choice_of, late_in, late_of, late_with, later_of, most_ran, next_order, position_in};
 
+use crate::links::Order;
 use crate::orders;
 use judge::{Miss, Verdict};
 use model::MOST_TASKS;
@@ -61,14 +62,13 @@ fn most_ran(ran: [u64; MOST_TASKS]) -> Option<usize>
 }
 
 // The place of the task that ran most while the late one waited; none where nobody ran.
-// Order and count stand apart, as in `links::verdict_in`.
-fn blocking(words: &[u32], order: [u32; MOST_TASKS], miss: Miss, count: usize) -> Option<usize>
-    requires { OrderIn words.now count order × LateIn words.now (late_with (Some miss) order) }
-    ensures { position_in result ≡ blocking_in words.now (late_with (Some miss) order) }
+fn blocking(order: Order, miss: Miss) -> Option<usize>
+    requires { LateIn order.words.now (late_with (Some miss) order.places) }
+    ensures { position_in result ≡ blocking_in order.entry.words.now (late_with (Some miss) order.entry.places) }
 {
-    let part = crate::links::reordered(words, order, count);
+    let part = order.reordered();
     // no order that misses has words that are refused
-    let table = table::load(&part[..words.len()]).ok()?;
+    let table = table::load(&part[..order.words.len()]).ok()?;
     let facts = sentence::counting::count(table, miss.tick, miss.position as usize - 1);
     most_ran(facts.ran)
 }
@@ -79,8 +79,14 @@ pub(crate) fn next_order(words: &[u32], late: Late, count: usize) -> Option<[u32
     ensures { choice_of result ≡ next_order words.now late.order }
 {
     let miss = late.missed?;
-    let above = blocking(words, late.order, miss, count)?;
-    let mut next = late.order;
+    let places = late.order;
+    let order = Order {
+        words,
+        count,
+        places,
+    };
+    let above = blocking(order, miss)?;
+    let mut next = places;
     orders::move_up(&mut next, above, miss.position as usize - 1);
     Some(next)
 }

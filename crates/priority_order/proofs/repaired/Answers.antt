@@ -42,11 +42,11 @@ returns-then-eq c =
     let follows : next_order c.args.words.now c.loop-made.late.order ≡ just next = sym c.next_order.ensures ∙ ap choice_of c.in-Some.is in
     going-kept _ _ _ _ _ _ _ _ _ _ _ c.loop-made.invariant next follows (sym (same_pointwise next c.loop-made.kept) ∙ (sym c.eq.ensures ∙ c.if-eq.true))
 
-pub verdict_in-verdict-requires : goal.verdict_in-verdict-requires
-verdict_in-verdict-requires c =
+pub invariant_of-in_order : goal.invariant_of-in_order
+invariant_of-in_order c =
     let next = c.in-Some.order in
     let follows : next_order c.args.words.now c.loop-made.late.order ≡ just next = sym c.next_order.ensures ∙ ap choice_of c.in-Some.is in
-    order-in c.args.words.now c.args.count c.loop-made.late.order next c.loop-made.invariant.order follows
+    record { fits = ∣ order-in c.args.words.now c.args.count c.loop-made.late.order next c.loop-made.invariant.order follows ∣₁ }
 
 pub assigned-requires : goal.assigned-requires
 assigned-requires c =
@@ -62,7 +62,7 @@ returns-in-Some-assigned c =
     let x = order-in c.args.words.now c.args.count c.loop-made.late.order next c.loop-made.invariant.order follows in
     let other : same next c.loop-made.kept ≡ false = sym (same_pointwise next c.loop-made.kept) ∙ (sym c.eq.ensures ∙ c.if-eq.false) in
     let h = c.in-Some-assigned.ensures in
-    let v : verdict_by c.in-Some-assigned.found.fit ≡ verdict_in c.args.words.now next = h.0 ∙ c.verdict_in-verdict.ensures.value in
+    let v : verdict_by c.in-Some-assigned.found.fit ≡ verdict_in c.args.words.now next = h.0 ∙ c.verdict-verdict.ensures.value in
     assigned-answer c.in-Some-assigned.found _ _ v (h.1 ∙ ap (λ (n : ℕ). positions_of n next) x.size)
     ∙ going-given _ _ _ _ _ _ _ _ _ _ _ c.loop-made.invariant c.loop-made-test.true next follows other
     (ap is_accepted (sym v) ∙ fit-accepted c.in-Some-assigned.found.fit)
@@ -90,7 +90,7 @@ loop-made-preserved c =
           (w.kept-is ∙ sym (ap (λ (t : Bool). cond t next l.kept) no), w.power-is ∙ sym (ap (λ (t : Bool). cond t (2 * l.power) l.power) no))
     ] in
     going_on _ _ _ _ _ _ _ _ _ _ _ l.invariant c.loop-made-test.true next follows other x
-    c.verdict_in-verdict.result c.verdict_in-verdict.ensures.value c.in_default-assigned.ensures
+    c.verdict-verdict.result c.verdict-verdict.ensures.value c.in_default-assigned.ensures
     (late_in c.late_of-late.result) c.late_of-late.ensures c.if-from-power.kept then.0 c.if-from-power.power then.1
 
 pub returns : goal.returns

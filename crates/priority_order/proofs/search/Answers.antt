@@ -57,9 +57,9 @@ loop-number-init c =
     let ws = c.args.words.now in
     subst (λ (o : List ℕ). Seen ws 0 empty (no_miss o)) (sym c.own.ensures) (seen_start ws c.requires.0)
 
-pub verdict_in-verdict-requires : goal.verdict_in-verdict-requires
-verdict_in-verdict-requires c =
-    order-in c.args.words.now c.args.table c.requires.0 c.requires.1 c.sorted-order.result c.loop-number.number c.sorted-order.ensures
+pub invariant_of-in_order : goal.invariant_of-in_order
+invariant_of-in_order c =
+    record { fits = ∣ order-in c.args.words.now c.args.table c.requires.0 c.requires.1 c.sorted-order.result c.loop-number.number c.sorted-order.ensures ∣₁ }
 
 pub assigned-found-requires : goal.assigned-found-requires
 assigned-found-requires c = (
@@ -80,7 +80,7 @@ returns-in-Some c =
     let t = c.args.table in
     let l = c.loop-number in
     let o = c.sorted-order.result in
-    let g = by_order ws t c.requires.0 c.requires.1 _ o _ c.verdict_in-verdict.ensures.value c.assigned-found.ensures in
+    let g = by_order ws t c.requires.0 c.requires.1 _ o _ c.verdict-verdict.ensures.value c.assigned-found.ensures in
     let (v, ps, f) = firm-some _ _ c.assigned-found.result c.in-Some.best g (sym c.firm.ensures ∙ c.in-Some.is) in
     assigned-answer c.in-Some.best (verdict_in ws o) (positions_of (count ws) o) v ps
     ∙ search-firm ws c.requires.0 c.args.judgings l.number l.accepted (late_in l.late) l.invariant
@@ -92,11 +92,11 @@ loop-number-preserved c =
     let t = c.args.table in
     let l = c.loop-number in
     let o = c.sorted-order.result in
-    let value = c.verdict_in-verdict.ensures.value in
+    let value = c.verdict-verdict.ensures.value in
     let g = by_order ws t c.requires.0 c.requires.1 _ o _ value c.assigned-found.ensures in
     seen_more ws c.requires.0 l.number l.accepted (late_in l.late) l.invariant o
     (sorted ws t c.requires.0 c.requires.1 o l.number c.sorted-order.ensures)
-    c.verdict_in-verdict.result value
+    c.verdict-verdict.result value
     (ap is_firm value ∙ firm-none _ _ c.assigned-found.result g (sym c.firm.ensures ∙ c.in_default.is))
     c.assigned-found.result (subst (λ (u : Verdict). AssignedBy u (positions_of (count ws) o) c.assigned-found.result) (sym value) g)
     c.or-accepted.result c.or-accepted.ensures (late_in c.later-late.result) (c.later-late.ensures

@@ -20,6 +20,7 @@ use Rattle.sentence.specs.Facts.{Facts}
 use Rattle.sentence.specs.Waiting.{facts_at}
 use Rattle.priority_order.specs.Orders.{Permutation, reordered, OrderIn}
 use Rattle.priority_order.specs.Repair.{most_ran, LateIn}
+use Rattle.priority_order.proofs.Known.{order_in}
 use Rattle.priority_order.proofs.Reordering.{reordered-length}
 use Rattle.priority_order.proofs.Repairing.{MissIn, late-miss, miss-in}
 use native.Mathlib.Omega.{arith}
@@ -63,22 +64,22 @@ refused (Err x) o e f = (x, refl)
 
 pub slice_bounds-part-end : goal.slice_bounds-part-end
 slice_bounds-part-end c =
-    let ws = c.args.words.now in
-    let e = same_length ws c.args.count (the_late c.args.miss c.args.order) c.requires.0 refl c.requires.1 in
+    let ws = c.args.order.words.now in
+    let e = same_length ws c.args.order.count (the_late c.args.miss c.args.order.places) (order_in c.args.order) refl c.requires in
     omega (arith, length-take (length ws) c.reordered-part.result, ap {B = ℕ} length c.reordered-part.ensures, e)
 
 pub slice_bounds-load-end : goal.slice_bounds-load-end
 slice_bounds-load-end c =
-    sym (ap {B = ℕ} length c.reordered-part.ensures ∙ same_length c.args.words.now c.args.count (the_late c.args.miss c.args.order) c.requires.0 refl c.requires.1)
+    sym (ap {B = ℕ} length c.reordered-part.ensures ∙ same_length c.args.order.words.now c.args.order.count (the_late c.args.miss c.args.order.places) (order_in c.args.order) refl c.requires)
 
 pub overflow_sub-miss : goal.overflow_sub-miss
-overflow_sub-miss c = omega (arith, (missed c.args.words.now c.args.count (the_late c.args.miss c.args.order) c.requires.0 refl c.requires.1).some)
+overflow_sub-miss c = omega (arith, (missed c.args.order.words.now c.args.order.count (the_late c.args.miss c.args.order.places) (order_in c.args.order) refl c.requires).some)
 
 pub count-facts-requires : goal.count-facts-requires
 count-facts-requires c =
-    let ws = c.args.words.now in
-    let x = the_late c.args.miss c.args.order in
-    let m = missed ws c.args.count x c.requires.0 refl c.requires.1 in
+    let ws = c.args.order.words.now in
+    let x = the_late c.args.miss c.args.order.places in
+    let m = missed ws c.args.order.count x (order_in c.args.order) refl c.requires in
     let us = reordered ws x.order in
     let t = c.in_ok-table.table in
     let loads = subst (λ (us : List ℕ). LoadOf us c.load.result) c.reordered-part.ensures c.load.ensures in
@@ -93,8 +94,8 @@ count-facts-requires c =
 
 pub returns : goal.returns
 returns c =
-    let ws = c.args.words.now in
-    let x = the_late c.args.miss c.args.order in
+    let ws = c.args.order.words.now in
+    let x = the_late c.args.miss c.args.order.places in
     let loads = subst (λ (us : List ℕ). LoadOf us c.load.result) c.reordered-part.ensures c.load.ensures in
     let is = loaded c.load.result c.ok.result c.in_ok-table.table c.ok.ensures.value c.in_ok-table.was in
     let same = table (reordered ws x.order) c.load.result loads c.in_ok-table.table is in
@@ -104,9 +105,9 @@ returns c =
 -- its words pass
 pub returns-in_err-table : goal.returns-in_err-table
 returns-in_err-table c =
-    let ws = c.args.words.now in
-    let m = missed ws c.args.count (the_late c.args.miss c.args.order) c.requires.0 refl c.requires.1 in
+    let ws = c.args.order.words.now in
+    let m = missed ws c.args.order.count (the_late c.args.miss c.args.order.places) (order_in c.args.order) refl c.requires in
     let loads = subst (λ (us : List ℕ). LoadOf us c.load.result) c.reordered-part.ensures c.load.ensures in
     let (e, is) = refused c.load.result c.ok.result c.ok.ensures.value c.in_err-table.was in
-    let (says, first) = load-err (reordered ws c.args.order) c.load.result loads e is in
+    let (says, first) = load-err (reordered ws c.args.order.places) c.load.result loads e is in
     absurd (m.passes _ _ first.0)

@@ -30,8 +30,11 @@ returns-in_err-miss c =
     ap choice_of c.from_residual.ensures
     ∙ sym (next-none c.args.words.now c.args.late.order (late_in c.args.late) c.requires.1 (ap (is_some {T = MissOf}) c.in_err-miss.was))
 
+pub invariant_of-order : goal.invariant_of-order
+invariant_of-order c = record { fits = ∣ c.requires.0 ∣₁ }
+
 pub blocking-requires : goal.blocking-requires
-blocking-requires c = (c.requires.0, says-of c.args.words.now c.args.late c.in_ok-miss.miss c.requires.1 c.in_ok-miss.was)
+blocking-requires c = says-of c.args.words.now c.args.late c.in_ok-miss.miss c.requires.1 c.in_ok-miss.was
 
 pub returns-in_err-above : goal.returns-in_err-above
 returns-in_err-above c =

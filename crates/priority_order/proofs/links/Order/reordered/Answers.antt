@@ -6,8 +6,9 @@ use Rattle.conflict.specs.Relinked.{most_words, next_word_at}
 use Rattle.table.specs.Numbers.{one}
 use Rattle.table.specs.Words.{count, visited}
 use Rattle.priority_order.specs.Orders.{OrderIn, Permutation}
+use Rattle.priority_order.proofs.Known.{order_in}
 use Rattle.priority_order.proofs.Reordering.{Linking, linking-end, linking-more, linking-record, linking-start, tasks-few}
-use Rattle.priority_order.proofs.links.reordered.Goals as goal
+use Rattle.priority_order.proofs.links.Order.reordered.Goals as goal
 
 module _ (ws : List ℕ) (n : ℕ) (o : List ℕ) (x : OrderIn ws n o) where
   -- the order is one of the table's tasks
@@ -31,33 +32,47 @@ module _ (ws : List ℕ) (n : ℕ) (o : List ℕ) (x : OrderIn ws n o) where
       (linking-record ws x.passes o order i (omega (arith, first, x.size)))
 
 pub of-chain-requires : goal.of-chain-requires
-of-chain-requires c = words-most c.args.words.now (λ h. c.requires.passes 1 0 (one h))
+of-chain-requires c = words-most c.args.self.words.now (λ h. (order_in c.args.self).passes 1 0 (one h))
 
-pub slice_bounds-order-end : goal.slice_bounds-order-end
-slice_bounds-order-end c = within c.args.words.now c.args.count c.args.order c.requires
+pub shared_ref_as_front-place-items : goal.shared_ref_as_front-place-items
+shared_ref_as_front-place-items c =
+    let x = order_in c.args.self in
+    omega (arith, x.size, tasks-few c.args.self.words.now x.passes)
 
 pub slice_bounds-place-items-end : goal.slice_bounds-place-items-end
-slice_bounds-place-items-end c = sym (first c.args.words.now c.args.count c.args.order c.requires)
+slice_bounds-place-items-end c = sym (first c.args.self.words.now c.args.self.count c.args.self.places (order_in c.args.self))
 
 pub loop-place-init : goal.loop-place-init
 loop-place-init c =
-    let ws = c.args.words.now in
-    subst (λ (link : ℕ). Linking ws c.args.order c.of-chain.result.words link 0) (sym c.of-chain.ensures.1)
-    (linking-start ws c.requires.passes c.args.order (order ws c.args.count c.args.order c.requires) c.of-chain.result.words
+    let ws = c.args.self.words.now in
+    let x = order_in c.args.self in
+    subst (λ (link : ℕ). Linking ws c.args.self.places c.of-chain.result.words link 0) (sym c.of-chain.ensures.1)
+    (linking-start ws x.passes c.args.self.places (order ws c.args.self.count c.args.self.places x) c.of-chain.result.words
     (ap (take (length ws)) c.of-chain.ensures.0 ∙ take_at ws (replicate (most_words - length ws) 0) (length ws) refl))
+
+pub record_at-requires : goal.record_at-requires
+record_at-requires c =
+    let ws = c.args.self.words.now in
+    let n = c.args.self.count in
+    let o = c.args.self.places in
+    let x = order_in c.args.self in (
+      x.passes,
+      subst (λ (p : ℕ). p < count ws) (sym (get_or-take n o c.loop-place.place-index 0 (omega (arith, first ws n o x, c.loop-place-test.true))))
+          ((order ws n o x).within c.loop-place.place-index (omega (arith, first ws n o x, x.size, c.loop-place-test.true))),
+    )
 
 pub append-requires : goal.append-requires
 append-requires c =
-    let ws = c.args.words.now in
-    let r = inside ws c.args.count c.args.order c.requires c.record_at.result c.loop-place.place-index c.loop-place-test.true c.record_at.ensures in
-    (r.0, omega (arith, r.1, words-most ws (λ h. c.requires.passes 1 0 (one h))))
+    let ws = c.args.self.words.now in
+    let r = inside ws c.args.self.count c.args.self.places (order_in c.args.self) c.record_at.result c.loop-place.place-index c.loop-place-test.true c.record_at.ensures in
+    (r.0, omega (arith, r.1, words-most ws (λ h. (order_in c.args.self).passes 1 0 (one h))))
 
 pub loop-place-preserved : goal.loop-place-preserved
 loop-place-preserved c =
-    let ws = c.args.words.now in
-    let n = c.args.count in
-    let o = c.args.order in
-    let x = c.requires in
+    let ws = c.args.self.words.now in
+    let n = c.args.self.count in
+    let o = c.args.self.places in
+    let x = order_in c.args.self in
     let l = c.loop-place in
     subst (λ (link : ℕ). Linking ws o c.append.new.self.words link (l.place-index + 1)) (sym c.append.ensures.1)
     (subst (λ (copy : List ℕ). Linking ws o copy (next_word_at c.record_at.result) (l.place-index + 1)) (sym c.append.ensures.0)
@@ -67,9 +82,9 @@ loop-place-preserved c =
 
 pub returns : goal.returns
 returns c =
-    let ws = c.args.words.now in
-    let n = c.args.count in
-    let o = c.args.order in
-    let x = c.requires in
+    let ws = c.args.self.words.now in
+    let n = c.args.self.count in
+    let o = c.args.self.places in
+    let x = order_in c.args.self in
     let l = c.loop-place in
     ap (take (length ws)) c.end.ensures ∙ linking-end ws x.passes o (order ws n o x) l.chain.words l.chain.link l.place-index l.invariant (omega (arith, first ws n o x, x.size, c.loop-place-test.false))
