@@ -69,7 +69,8 @@ fn parallelism_monotonic(tasks: &[Task]) -> bool
 }
 
 // Whether the rule and the widths of the tasks are firm, that is predictable for shorter jobs too: rules 2, 3 and 4, and any other where widths never fall.
-// The verdict tests it of a table, number 21 of a run. The rule is a number, since it answers for every number.
+// The verdict tests it of a table, number 21 of a run. The rule is a number, since it answers for every number: an enum would be
+// made for one `match`.
 pub fn is_firm(rule: u32, tasks: &[Task]) -> bool
     ensures { result ≡ firm (rule_of rule) (map task_of tasks.now) }
 {

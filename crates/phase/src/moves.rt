@@ -49,7 +49,7 @@ impl Task {
         }
     }
 
-    // The state of a task whose job has just ended.
+    // The state of a task whose job has just ended. The rule is any number, as `idles` takes it.
     fn ended(self, rule: u32, z: u32, reserved: u32) -> TaskState
         ensures { result ≡ ended (rule_of rule) (task_of self) self.even z reserved }
     {
@@ -60,7 +60,7 @@ impl Task {
         }
     }
 
-    // The state of a task after a tick of work, own or lent.
+    // The state of a task after a tick of work, own or lent. The rule is any number, as `idles` takes it.
     fn worked(self, rule: u32, reported: bool, z: u32, had: u32, reserved: u32) -> TaskState
         ensures { result ≡ worked (rule_of rule) (task_of self) reported self.even z had reserved }
     {
@@ -77,6 +77,7 @@ impl Task {
     // The state of the task one tick on from the seen phase, by whether it is given cores in this tick, whether it borrows some and whether
     // it is reported.
     // `next`, which the pages name, is given each of these apart; a struct of them would be made for this one call.
+    // The rule is any number, as `idles` takes it.
     fn stepped(self, rule: u32, given: bool, lent: bool, reported: bool, seen: Phase) -> TaskState
         requires { NoOverflow seen }
         ensures { result ≡ next_state (rule_of rule) (task_of self) given lent reported self.even seen }

@@ -7,7 +7,8 @@ ghost use Rattle.phase.specs.Task.{unused, start_task};
 use crate::{Phase, Task};
 
 // A place past the count: zeros, odd and Resting(0).
-// No derived Default: the phase of zeros is Resting(0).
+// Not derived: the phase of zeros is Resting(0), which no derive gives. One impl for Phase and derives above it are no
+// plainer: clauses name this value by its definition.
 pub fn unused() -> Task
     ensures { result ≡ unused }
 {

@@ -10,7 +10,8 @@ use phase::Task;
 use table::Loaded;
 
 // The run of all zeros with every phase Resting(0), which 14 turns down: what stands for the run of a start that is refused.
-// No derived Default: the phase of zeros is Resting(0).
+// Not derived: the phase of zeros is Resting(0), which no derive gives. One impl for Phase and derives above it are no
+// plainer: clauses name this value by its definition.
 pub fn empty() -> Run
     ensures { result ≡ empty_run }
 {

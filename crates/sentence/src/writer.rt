@@ -9,7 +9,7 @@ use crate::Facts;
 use model::MOST_TASKS;
 use text::{decimal, row};
 
-// Writes the part of the task at `place`, counted from 0, if it ran; returns where it ends.
+// Writes the part of the task at `place`, counted from 0, if it ran; returns where it ends. By hand, as text's `decimal::put`.
 fn put_part(line: &mut [u8], at: usize, place: usize, count: u64) -> usize
     requires { (place ≤ 31) × (at + length (parts (named_from place (count ∷ [])) []) ≤ length line.old) }
     ensures { Put line.old at (parts (named_from place (count ∷ [])) []) line.new result }
@@ -21,7 +21,7 @@ fn put_part(line: &mut [u8], at: usize, place: usize, count: u64) -> usize
     decimal::put_after(line, middle, b" ran ", count)
 }
 
-// Writes the parts from `from` on; returns where they end.
+// Writes the parts from `from` on; returns where they end. By hand, as text's `decimal::put`.
 fn put_parts(line: &mut [u8], from: usize, ran: [u64; MOST_TASKS]) -> usize
     requires { from + length (parts (named ran) []) ≤ length line.old }
     ensures { Put line.old from (parts (named ran) []) line.new result }
@@ -33,7 +33,7 @@ fn put_parts(line: &mut [u8], from: usize, ran: [u64; MOST_TASKS]) -> usize
     at
 }
 
-// Writes the sentence at the front of a buffer that it fits in; returns its length.
+// Writes the sentence at the front of a buffer that it fits in; returns its length. By hand, as text's `decimal::put`.
 pub fn put(facts: Facts, line: &mut [u8]) -> usize
     requires { length (sentence_text (facts_by facts)) ≤ length line.old }
     ensures { Put line.old 0 (sentence_text (facts_by facts)) line.new result }
