@@ -77,6 +77,7 @@ fn notes_in(words: &[u32]) -> [Note; run_buffer::PLACES]
     requires { plan_words ≤ length words.now }
     ensures { result ≡ notes_in places (drop notes_at words.now) }
 {
+    // any note will do here: each place is written below
     let nothing = Note {
         phase: Phase::Resting(0),
     };
