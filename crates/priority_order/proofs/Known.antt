@@ -3,7 +3,7 @@ use mathlib.Core.Path.{◌≡◌, refl, sym, ◌∙◌}
 use mathlib.Core.HLevel.{Σ_prop_path, ×_prop, ⊥_prop}
 use mathlib.Core.List.{List}
 use mathlib.Core.Logic.{∥∥₁_elim}
-use Prim.Native.Nat.{ℕ, ◌<◌}
+use Prim.Native.Nat.{ℕ, ◌<◌, ◌≤◌}
 use native.Mathlib.Bridge.{le_prop}
 use native.Mathlib.Nat.{ℕ_set}
 use native.Mathlib.Omega.{arith}
@@ -14,6 +14,7 @@ use borrow.Author.Tests.{ltb-false, ltb-true}
 use Rattle.model.specs.Sizes.{most_tasks}
 use Rattle.table.specs.Numbers.{NoneApplies}
 use Rattle.table.specs.Words.{count}
+use Rattle.priority_order.proofs.Reordering.{tasks-few}
 use Rattle.priority_order.specs.declared.links.Order.{Order}
 use Rattle.priority_order.specs.Orders.{OrderIn}
 
@@ -61,3 +62,7 @@ module _ (ws : List ℕ) (n : ℕ) (o : List ℕ) (known : ∥ OrderIn ws n o �
 
 pub order_in : (x : Order) → OrderIn x.words.now x.count x.places
 order_in x = in_order x.words.now x.count x.places x.fits
+
+-- it has at most 32 tasks
+pub few_in : (x : Order) → x.count ≤ most_tasks
+few_in x = omega (arith, (order_in x).size, tasks-few x.words.now (order_in x).passes)

@@ -1,12 +1,11 @@
 // An order of priorities under which a table is accepted: five sorted orders are tried, then the one with the latest first miss is repaired.
 #![tactic(auto)]
 
-ghost use Rattle.std.specs.Prelude.{◌≡◌, ◌<◌, ◌≤◌, ◌+◌};
-ghost use Rattle.model.specs.Sizes.{most_tasks};
+ghost use Rattle.std.specs.Prelude.{◌≡◌, ◌<◌, ◌+◌};
 ghost use Rattle.table.specs.Load.{LoadedAs};
 ghost use Rattle.table.specs.Numbers.{NoneApplies};
 ghost use Rattle.priority_order.specs.Answer.{AssignedBy, OrderOf, answer_in, answered, firm_in, positions_of};
-ghost use Rattle.priority_order.specs.Orders.{OrderIn, Permutation};
+ghost use Rattle.priority_order.specs.Orders.{OrderIn};
 ghost use Rattle.priority_order.specs.Repair.{LateIn, late_in, repairs};
 ghost use Rattle.priority_order.specs.Tried.{tried_orders};
 
@@ -18,7 +17,7 @@ use table::Loaded;
 
 mod orders; // orders.rt: an order of 32 places, and a task that moves up in it
 mod sorting; // sorting.rt: the five sorted orders
-mod links; // links.rt: the words of the table in an order, and their verdict
+mod links; // links.rt: the table in an order: its words, their verdict, and the positions
 mod repair; // repair.rt: the order that follows one that misses
 
 // The most judgings where nothing else is asked. For callers of `order`: no code here uses it.
@@ -58,17 +57,16 @@ impl From<Refusal> for NoOrder {
     }
 }
 
-// The assignment by an order whose verdict is Firm or Full. Order and count stand apart, as in `orders::positions`.
-fn assigned(verdict: Verdict, order: [u32; MOST_TASKS], count: usize) -> Option<Assignment>
-    requires { Permutation count order × (count ≤ most_tasks) }
-    ensures { AssignedBy verdict (positions_of count order) result }
+// The assignment by an order whose verdict is Firm or Full.
+fn assigned(verdict: Verdict, order: Order) -> Option<Assignment>
+    ensures { AssignedBy verdict (positions_of order.entry.count order.entry.places) result }
 {
     let fit = match verdict {
         Verdict::Firm(start, period) => Fit::Firm(start, period),
         Verdict::Full(start, period) => Fit::Full(start, period),
         Verdict::Miss(_, _) | Verdict::Refused(_, _) => return None,
     };
-    let order = orders::positions(order, count);
+    let order = order.positions();
     Some(Assignment { fit, order })
 }
 
@@ -110,7 +108,7 @@ fn repaired(
             places: order,
         };
         let verdict = in_order.verdict();
-        if let Some(found) = assigned(verdict, order, count) {
+        if let Some(found) = assigned(verdict, in_order) {
             return Ok(found);
         }
         // order number 1, 2, 4, 8 .. is kept
@@ -143,7 +141,7 @@ fn search(words: &[u32], table: Loaded, judgings: u32) -> Result<Assignment, NoO
             places: order,
         };
         let verdict = in_order.verdict();
-        let found = assigned(verdict, order, count);
+        let found = assigned(verdict, in_order);
         if let Some(best) = firm(found) {
             return Ok(best);
         }

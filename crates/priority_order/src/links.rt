@@ -1,8 +1,9 @@
-// The words of the table in an order of its tasks, and the verdict on them.
+// A table with an order of its tasks: its words in that order, the verdict on them, and the positions.
 ghost use Rattle.std.specs.Prelude.{◌≡◌, ◌<◌, length, take};
 ghost use Rattle.table.specs.Numbers.{NoneApplies};
 ghost use Rattle.table.specs.Words.{count, visited};
 ghost use Rattle.judge.specs.Judged.{Judged};
+ghost use Rattle.priority_order.specs.Answer.{positions_of};
 ghost use Rattle.priority_order.specs.Orders.{OrderIn, reordered};
 
 use conflict::links::{NewChain, next_at};
@@ -22,7 +23,7 @@ fn record_at(words: &[u32], place: usize) -> u32
     number
 }
 
-// The words of a table that passes, and an order of its tasks: of the places, as many as it has tasks.
+// The words of a table that passes, and an order of its tasks: as many of the places count as it has tasks.
 #[derive(Clone, Copy)]
 pub(crate) struct Order<'a> {
     pub(crate) words: &'a [u32],
@@ -50,5 +51,17 @@ impl<'a> Order<'a> {
     {
         let part = self.reordered();
         judge::judge(&part[..self.words.len()])
+    }
+
+    // The positions of the places of the order, and zeros after them.
+    pub(crate) fn positions(self) -> [u32; MOST_TASKS]
+        ensures { result ≡ positions_of self.entry.count self.entry.places }
+    {
+        let mut positions = [0u32; MOST_TASKS];
+        // tried: over `iter_mut().zip(..)` the proof didn't close; until the loop ends no array holds what is written
+        for i in 0..self.count {
+            positions[i] = self.places[i] + 1;
+        }
+        positions
     }
 }

@@ -11,7 +11,6 @@ use Rattle.priority_order.specs.Orders.{OrderIn, Permutation}
 use Rattle.priority_order.specs.Repair.{choice_of, just, kept_after, late_in, next_order, power_after, same, verdict_in}
 use Rattle.priority_order.specs.Tried.{is_accepted}
 use Rattle.priority_order.proofs.Choosing.{going-given, going-kept, going-none, going_on, going-spent}
-use Rattle.priority_order.proofs.Reordering.{tasks-few}
 use Rattle.priority_order.proofs.Repairing.{next-permutation}
 use native.Mathlib.Omega.{arith}
 use Prim.Native.Nat.{◌+◌, ◌*◌}
@@ -47,13 +46,6 @@ invariant_of-in_order c =
     let next = c.in-Some.order in
     let follows : next_order c.args.words.now c.loop-made.late.order ≡ just next = sym c.next_order.ensures ∙ ap choice_of c.in-Some.is in
     record { fits = ∣ order-in c.args.words.now c.args.count c.loop-made.late.order next c.loop-made.invariant.order follows ∣₁ }
-
-pub assigned-requires : goal.assigned-requires
-assigned-requires c =
-    let next = c.in-Some.order in
-    let follows : next_order c.args.words.now c.loop-made.late.order ≡ just next = sym c.next_order.ensures ∙ ap choice_of c.in-Some.is in
-    let x = order-in c.args.words.now c.args.count c.loop-made.late.order next c.loop-made.invariant.order follows in
-    (x.permutation, omega (arith, x.size, tasks-few _ x.passes))
 
 pub returns-in-Some-assigned : goal.returns-in-Some-assigned
 returns-in-Some-assigned c =

@@ -61,12 +61,6 @@ pub invariant_of-in_order : goal.invariant_of-in_order
 invariant_of-in_order c =
     record { fits = ∣ order-in c.args.words.now c.args.table c.requires.0 c.requires.1 c.sorted-order.result c.loop-number.number c.sorted-order.ensures ∣₁ }
 
-pub assigned-found-requires : goal.assigned-found-requires
-assigned-found-requires c = (
-  (order-in c.args.words.now c.args.table c.requires.0 c.requires.1 c.sorted-order.result c.loop-number.number c.sorted-order.ensures).permutation,
-  (fits c.args.words.now c.args.table c.requires.0 c.requires.1).few,
-)
-
 -- the assignment by the verdict on the table in this order
 by_order : (ws : List ℕ) (t : Loaded) → NoneApplies ws → LoadedAs ws t → (v : Verdict) (o : List ℕ) (r : Option Assignment) → v ≡ verdict_in ws o
     → AssignedBy v (positions_of t.count o) r → AssignedBy (verdict_in ws o) (positions_of (count ws) o) r
