@@ -10,7 +10,7 @@ use Rattle.plan_text.specs.declared.Check as code_type
 use Rattle.plan_text.specs.declared.Check.TheVariants as code
 use Rattle.plan_text.specs.declared.Fed as code_fed
 use Rattle.plan_text.specs.declared.PlanProgress.{PlanProgress}
-use Rattle.plan_text.specs.Checked.{PlanAnswer, More, said, rows_at, checked_of, answer_so_far, rows_answer, split_answer}
+use Rattle.plan_text.specs.Checked.{PlanAnswer, More, answered, rows_at, checked_of, answer_so_far, rows_answer, split_answer}
 
 -- what the next bytes are read as: the table, the plan, or nothing any more
 pub data Stage : Type 0 where
@@ -31,7 +31,7 @@ pub record Fed : Type 0 where
 abbrev pub check_in : code_type.Check → Check
 check_in code.Table = record { stage = Table; rows = rows_at empty_state 0 false; answer = More }
 check_in (code.Plan r) = record { stage = Plan; rows = r; answer = More }
-check_in (code.Over a) = record { stage = Over; rows = rows_at empty_state 0 false; answer = said a }
+check_in (code.Over a) = record { stage = Over; rows = rows_at empty_state 0 false; answer = answered a }
 
 abbrev pub fed_in : code_fed.Fed → Fed
 fed_in f = record { check = check_in f.check; taken = f.taken }

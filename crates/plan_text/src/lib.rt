@@ -55,11 +55,13 @@ pub struct PlanProgress {
 
 // The state of a check: what the next bytes are read as, the table or the plan; or its answer, after which nothing is read.
 // Not session's Stage, which has the run beside it.
+// A check that is over holds its answer. `Over(None)`, over before any answer, was a value of the old state, and `FedOf`
+// speaks of it too.
 #[derive(Clone, Copy)]
 pub enum Check {
     Table,
     Plan(PlanProgress),
-    Over(PlanAnswer),
+    Over(Option<PlanAnswer>),
 }
 
 // How many bytes were taken, and the check after them.
@@ -165,7 +167,7 @@ fn feed_plan(start: PlanProgress, bytes: &[u8], from: usize, ended: bool) -> Fed
             Ok(next) => rows = next,
             Err(answer) => {
                 return Fed {
-                    check: Check::Over(answer),
+                    check: Check::Over(Some(answer)),
                     taken: at + part.next,
                 };
             }
@@ -173,7 +175,7 @@ fn feed_plan(start: PlanProgress, bytes: &[u8], from: usize, ended: bool) -> Fed
         at += part.next;
     }
     let check = if ended {
-        Check::Over(end_rows(rows))
+        Check::Over(Some(end_rows(rows)))
     } else {
         Check::Plan(rows)
     };
@@ -208,7 +210,7 @@ fn feed_table(bytes: &[u8], ended: bool) -> Fed
         Ok(rows) => feed_plan(rows, bytes, part.next, ended),
         // not by From: the table's numbers are all below 24, which the type does not say
         Err(refusal) => Fed {
-            check: Check::Over(PlanAnswer::Refused(refusal.number(), refusal.position())),
+            check: Check::Over(Some(PlanAnswer::Refused(refusal.number(), refusal.position()))),
             taken: bytes.len(),
         },
     }
@@ -243,7 +245,7 @@ impl Check {
         ensures { answered result ≡ (check_in self).answer }
     {
         match self {
-            Check::Over(answer) => Some(answer),
+            Check::Over(answer) => answer,
             Check::Table | Check::Plan(_) => None,
         }
     }
