@@ -11,6 +11,7 @@ use judge::Verdict;
 
 // Writes a space and a number; returns where they end.
 // A line and a place, as in `decimal::put`.
+// By hand, as `decimal::put`.
 pub fn put_field(line: &mut [u8], at: usize, number: u32) -> usize
     requires { at + 11 ≤ length line.old }
     ensures { (Put line.old at (space ∷ decimal number) line.new result) × (result ≤ at + 11) }
@@ -34,6 +35,7 @@ pub fn put_line(line: &mut [u8], word: &[u8], numbers: &[u64]) -> usize
 
 // Writes a line of a word and two numbers; returns where it ends.
 // The room is a clause, and no array's type: callers lend longer buffers, too.
+// By hand, as `decimal::put`.
 pub fn put_pair(line: &mut [u8], word: &[u8], first: u32, second: u32) -> usize
     requires { (length word.now ≤ 7) × (longest_line ≤ length line.old) }
     ensures { (Put line.old 0 (line_of word.now (first ∷ second ∷ [])) line.new result) × (result ≤ longest_line) }
@@ -42,6 +44,7 @@ pub fn put_pair(line: &mut [u8], word: &[u8], first: u32, second: u32) -> usize
 }
 
 // Writes the first line, the verdict's; returns where it ends. The room as in `put_pair`.
+// By hand, as `decimal::put`.
 pub fn put_first(line: &mut [u8], verdict: Verdict) -> usize
     requires { longest_line ≤ length line.old }
     ensures { (Put line.old 0 (first_line (verdict_meaning verdict)) line.new result) × (result ≤ longest_line) }
