@@ -12,6 +12,7 @@ use buffers::answer_words::AnswerWords;
 use buffers::{answer_words, facts};
 
 // The sentence of a table's words at the front of a buffer, and its length in words.
+// By hand: a length is a usize, and `From<Result<u32, Refusal>>` takes a u32.
 fn sentence_in(words: &[u32], buffer: &mut [u8]) -> AnswerWords
     ensures left { buffer.new ≡ left_in (sentence_meaning (sentence_answer_of words.now (length buffer.old))) (facts_of words.now) buffer.old }
     ensures answer { result ≡ of_sentence (sentence_answer_of words.now (length buffer.old)) }

@@ -61,6 +61,7 @@ fn pass(whole: SubTable, count: u32) -> u32
 }
 
 // The set of the first `count` places.
+// No plainer by `places_where`: one expression.
 fn all(count: u32) -> u32
     requires { count ≤ most_tasks }
     ensures { result ≡ 2 ^ count - 1 }

@@ -18,7 +18,7 @@ mod cost; // cost.rt: which of the two is the faster one for a table
 pub mod fastest; // fastest.rt: the first miss, by the interference test or by the faster of the two
 
 // The judge's answer: Firm with S and P, Full with S and P, Miss with tick and position, or Refused with number and position.
-// No Result: the first line of an output is made of any of the four, with any two numbers in a refusal (`first_line`).
+// No Result: docs/SCOPE.md names this enum, whose cases carry S and P, tick and position, or number and position.
 #[derive(Clone, Copy)]
 pub enum Verdict {
     Firm(u32, u32),
@@ -69,8 +69,8 @@ fn parallelism_monotonic(tasks: &[Task]) -> bool
 }
 
 // Whether the rule and the widths of the tasks are firm, that is predictable for shorter jobs too: rules 2, 3 and 4, and any other where widths never fall.
-// The verdict tests it of a table, number 21 of a run. The rule is a number, since it answers for every number: an enum would be
-// made for one `match`.
+// The verdict tests it of a table, number 21 of a run. The rule is a number, since it answers for every number.
+// No plainer with an enum: the rule comes as the number that public functions take; it would be made for this test.
 pub fn is_firm(rule: u32, tasks: &[Task]) -> bool
     ensures { result ≡ firm (rule_of rule) (map task_of tasks.now) }
 {

@@ -9,7 +9,7 @@ use crate::{Phase, Task};
 
 impl Task {
     // Whether the task's phase is within its limits, and so is its parity.
-    // The rule is any number, tested in one arm: an enum would be made for this one test.
+    // The rule is any number (`rule_of`).
     fn phase_in(self, rule: u32) -> bool
         ensures { result ≡ phase_in (rule_of rule) (task_of self) self.even self.phase }
     {
@@ -30,7 +30,8 @@ impl Task {
     }
 
     // Whether the task breaks 7 or 8 on this number of unfenced cores, or its phase or its parity is outside the limits.
-    // What may not change: 0 is none in `task_number` of table/specs/Limits, of which `out_in` is made. The rule is any number.
+    // What may not change: 0 is none in `task_number` of table/specs/Limits, of which `task_out` is made.
+    // The rule is any number (`rule_of`).
     pub fn out(self, rule: u32, wide: u32) -> bool
         ensures { result ≡ out_in wide (rule_of rule) self }
     {

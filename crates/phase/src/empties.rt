@@ -14,7 +14,8 @@ impl Phase {
         matches!(self, Phase::Working(0, 0, _))
     }
 
-    // The phase as cores are chosen, by whether a job released in this tick is empty. The rule is any number, as `idles` takes it.
+    // The phase as cores are chosen, by whether a job released in this tick is empty.
+    // The rule is any number (`rule_of`).
     pub fn emptied(self, rule: u32, empty: bool) -> Phase
         ensures { result ≡ phase_emptied (rule_of rule) empty self }
     {

@@ -38,6 +38,7 @@ pub struct Task {
 
 // Whether a job that ended holds its cores: under rules 3 and 4.
 // A rule is a number here: a task answers under the rule of any run (`run_out`).
+// No plainer with an enum: the rule comes as the number that public functions take; it would be made for this test.
 fn idles(rule: u32) -> bool
     ensures { result ≡ idles (rule_of rule) }
 {

@@ -49,7 +49,8 @@ impl Task {
         }
     }
 
-    // The state of a task whose job has just ended. The rule is any number, as `idles` takes it.
+    // The state of a task whose job has just ended.
+    // The rule is any number (`rule_of`).
     fn ended(self, rule: u32, z: u32, reserved: u32) -> TaskState
         ensures { result ≡ ended (rule_of rule) (task_of self) self.even z reserved }
     {
@@ -60,7 +61,8 @@ impl Task {
         }
     }
 
-    // The state of a task after a tick of work, own or lent. The rule is any number, as `idles` takes it.
+    // The state of a task after a tick of work, own or lent.
+    // The rule is any number (`rule_of`).
     fn worked(self, rule: u32, reported: bool, z: u32, had: u32, reserved: u32) -> TaskState
         ensures { result ≡ worked (rule_of rule) (task_of self) reported self.even z had reserved }
     {
@@ -115,6 +117,7 @@ impl Task {
 
     // The task one tick on, by whether its job is empty if it is released in this tick, whether it is given cores, whether it borrows some and whether
     // it is reported.
+    // The rule is any number (`rule_of`).
     pub fn next(self, rule: u32, empty: bool, given: bool, lent: bool, reported: bool) -> Task
         requires { NoOverflow self.phase }
         ensures { result ≡ next_task (rule_of rule) empty given lent reported self }

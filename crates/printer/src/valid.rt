@@ -12,7 +12,7 @@ use table::limits::MOST_HORIZON;
 use text::row::{CELLS, LINE};
 
 // Whether a table's count, core count and tasks are in their limits.
-// What may not change: 0 is none in `task_number` of table/specs/Limits, of which `valid` is made.
+// What may not change: 0 is none in `task_number` of table/specs/Limits, of which `task_out` is made.
 fn table_valid(table: Loaded) -> bool
     ensures { result ≡ table_valid table }
 {

@@ -27,6 +27,7 @@ use model::{FENCED, MOST_TASKS, ROW};
 pub const PAIR: usize = 2 * MOST_TASKS;
 
 // Rule 1: a claimant that doesn't fit is skipped.
+// A number, since `grants` takes any.
 const GREEDY: u32 = 1;
 
 // The tick rule's answer to a claimant: it takes its cores, it is skipped, or it ends the tick's choosing.
@@ -65,6 +66,7 @@ pub fn width_at(even: u32, widths: &[u32; PAIR], place: u32) -> u32
 // The set of positions that are given cores, of the set that claims; bit 0 is for position 1. The free cores are counted once.
 // `even` is of the tick, and the widths are of the table: a struct of both would be made at each call, here and in
 // `grants`, `show` and `lend`.
+// The rule is any number (`rule_of`).
 pub fn choose(rule: u32, free: u64, claims: u32, even: u32, widths: &[u32; PAIR]) -> u32
     ensures { (p : ℕ) → bit result p ≡ granted (rule_of rule) (claimants (widths_in even widths.now) (bit claims)) (cores free) p }
 {
@@ -94,6 +96,7 @@ pub fn choose(rule: u32, free: u64, claims: u32, even: u32, widths: &[u32; PAIR]
 
 // The set of cores of each of the first `count` positions, 0 where it is given none; `claims` is the set that claims, bit 0 for position 1.
 // Not one with `choose`, which keeps a count of the free cores in place of their set.
+// The rule is any number (`rule_of`).
 // The count stands beside the widths: a slice of the first `count` would cut between their two halves.
 pub fn grants(
     rule: u32,
@@ -164,6 +167,7 @@ pub fn row_in(cores: u32, fence: u64, sets: &[u64]) -> [u8; ROW]
 // The row of a tick in which the places of a set claim the cores outside the fence.
 // Rule, cores and fence are fields of `Loaded` and of `Run`: a struct of the three would be made at each call. Both
 // callers know that there are at most 64 cores.
+// The rule is any number (`rule_of`).
 pub fn show(
     rule: u32,
     cores: u32,

@@ -25,7 +25,7 @@ pub struct Allocation {
 // The cores of the first `count` positions in a tick, from the sets of those that claim and of those that are Working. Those that claim are given
 // theirs; then, under rule 4, those of them that are not Working lend, and those that are Working and have none borrow: lent cores show the borrower,
 // and a holder keeps those that it has not lent.
-// The rule is the number of a run, tested once: an enum would be made for this one test.
+// No plainer with an enum: the rule comes as the number that public functions take; it would be made for this test.
 pub(crate) fn allocate(
     rule: u32,
     free: u64,

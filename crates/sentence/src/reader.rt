@@ -25,6 +25,7 @@ pub struct Head {
 }
 
 // Whether the bytes from `at` on begin with a word.
+// No call of ours is left: it stays since docs/PROOFS.md names it.
 pub fn begins_with(bytes: &[u8], at: usize, word: &[u8]) -> bool
     requires { at ≤ length bytes.now }
     ensures { result ≡ starts_with word.now (drop at bytes.now) }

@@ -1,5 +1,5 @@
 // A sentence written into a buffer.
-// By hand: the bytes go into the caller's slice from a place on. The library's text without a heap, `InlineText`, has its own buffer.
+// By hand: of a lent slice `write!` promises how many bytes it wrote, and not which; `InlineText` has its own buffer.
 ghost use Rattle.std.specs.Prelude.{[], ◌∷◌, ◌+◌, ◌≤◌, length};
 ghost use Rattle.text.specs.Written.{Put};
 ghost use Rattle.sentence.specs.Facts.{named, named_from, facts_by};
@@ -9,7 +9,8 @@ use crate::Facts;
 use model::MOST_TASKS;
 use text::{decimal, row};
 
-// Writes the part of the task at `place`, counted from 0, if it ran; returns where it ends. By hand, as text's `decimal::put`.
+// Writes the part of the task at `place`, counted from 0, if it ran; returns where it ends.
+// By hand, as `decimal::put`.
 fn put_part(line: &mut [u8], at: usize, place: usize, count: u64) -> usize
     requires { (place ≤ 31) × (at + length (parts (named_from place (count ∷ [])) []) ≤ length line.old) }
     ensures { Put line.old at (parts (named_from place (count ∷ [])) []) line.new result }
@@ -21,7 +22,8 @@ fn put_part(line: &mut [u8], at: usize, place: usize, count: u64) -> usize
     decimal::put_after(line, middle, b" ran ", count)
 }
 
-// Writes the parts from `from` on; returns where they end. By hand, as text's `decimal::put`.
+// Writes the parts from `from` on; returns where they end.
+// By hand, as `decimal::put`.
 fn put_parts(line: &mut [u8], from: usize, ran: [u64; MOST_TASKS]) -> usize
     requires { from + length (parts (named ran) []) ≤ length line.old }
     ensures { Put line.old from (parts (named ran) []) line.new result }
@@ -33,7 +35,8 @@ fn put_parts(line: &mut [u8], from: usize, ran: [u64; MOST_TASKS]) -> usize
     at
 }
 
-// Writes the sentence at the front of a buffer that it fits in; returns its length. By hand, as text's `decimal::put`.
+// Writes the sentence at the front of a buffer that it fits in; returns its length.
+// By hand, as `decimal::put`.
 pub fn put(facts: Facts, line: &mut [u8]) -> usize
     requires { length (sentence_text (facts_by facts)) ≤ length line.old }
     ensures { Put line.old 0 (sentence_text (facts_by facts)) line.new result }

@@ -68,6 +68,7 @@ fn shortest(granted: u32, most: u32, places: &[u32; TRIPLE]) -> u32
 // This number of ticks of the granted places; returns the set of those that still claim after them.
 // Claimants by value beside the places that are lent, for speed (docs/DECISIONS.md, 'The machine').
 // In the clause they are one value (`machine_of`).
+// Not one with `ticks::work`, which at an end moves the event too.
 fn elapse(ticks: u32, granted: u32, claiming: u32, places: &mut [u32; TRIPLE]) -> u32
     requires { GrantedOwe ticks (bit granted) (machine_of places.old claiming) }
     ensures { machine_of places.new result ≡ elapsed ticks (bit granted) (machine_of places.old claiming) }

@@ -30,7 +30,8 @@ fn misses_longer(table: Fitting, place: usize, growth: u32) -> bool
 }
 
 // Whether the rule and the widths are those that slack is given for.
-// The rule is a number, as the table has it: an enum would be made for this one test.
+// The rule is a number, as the table has it.
+// No plainer with an enum: the rule comes as the number that public functions take; it would be made for this test.
 fn is_ordered(table: Fitting) -> bool
     ensures { result ≡ ordered (loaded_table table.loaded).rule (loaded_table table.loaded).tasks }
 {

@@ -17,7 +17,7 @@ pub const MOST_HORIZON: u32 = 1_000_000_000;
 pub const HIGH: u64 = 4_294_967_296;
 
 // Whether the core count is not 1 to 64 (number 2).
-// No plainer as one with `rule_out`: a call that names both ends is longer than the expression, and each has its own clause.
+// No plainer as one with `rule_out`: a call that names both ends is longer than the expression.
 pub fn cores_out(cores: u32) -> bool
     ensures { result ≡ cores_out cores }
 {
@@ -25,7 +25,7 @@ pub fn cores_out(cores: u32) -> bool
 }
 
 // Whether the rule is not 1 to 4 (number 3).
-// Numbers, since this is the test of which numbers are a rule. Not one with `cores_out`, as it says.
+// Numbers, since this is the test of which numbers are a rule. No plainer as one with `cores_out`.
 pub fn rule_out(rule: u32) -> bool
     ensures { result ≡ rule_out rule }
 {
@@ -64,7 +64,7 @@ pub(crate) fn times_out(task: Task) -> bool
 }
 
 // The number that turns a task down on this number of unfenced cores: 7, else 8; 0 where neither does.
-// A number and 0 for none: what may not change, `task_number` of specs/Limits, over which `out_in` of phase and `valid` of printer stand.
+// A number and 0 for none: what may not change, `task_number` of specs/Limits, of which `task_out` there is made.
 pub fn task_number(wide: u32, task: Task) -> u32
     ensures { result ≡ task_number wide (task_of task) }
 {

@@ -13,7 +13,7 @@ fn digits(number: u64) -> usize
 }
 
 // Writes a number in decimal into the line from `at` on; returns where it ends.
-// By hand: the bytes go into the caller's slice from a place on. The library's text without a heap has its own buffer.
+// By hand: of a lent slice `write!` promises how many bytes it wrote, and not which; `InlineText` has its own buffer.
 // A line and a place are no struct: public functions take both, and each of their callers would build one anew.
 pub fn put(line: &mut [u8], at: usize, number: u64) -> usize
     requires { at + digit_count number ≤ length line.old }

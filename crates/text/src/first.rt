@@ -10,7 +10,8 @@ use crate::{decimal, row};
 use judge::Verdict;
 
 // Writes a space and a number; returns where they end.
-// By hand, and a line and a place, as in `decimal::put`.
+// A line and a place, as in `decimal::put`.
+// By hand, as `decimal::put`.
 pub fn put_field(line: &mut [u8], at: usize, number: u32) -> usize
     requires { at + 11 ≤ length line.old }
     ensures { (Put line.old at (space ∷ decimal number) line.new result) × (result ≤ at + 11) }
@@ -33,7 +34,8 @@ pub fn put_line(line: &mut [u8], word: &[u8], numbers: &[u64]) -> usize
 }
 
 // Writes a line of a word and two numbers; returns where it ends.
-// By hand, as `decimal::put`. The room is a clause, and no array's type: callers lend longer buffers, too.
+// The room is a clause, and no array's type: callers lend longer buffers, too.
+// By hand, as `decimal::put`.
 pub fn put_pair(line: &mut [u8], word: &[u8], first: u32, second: u32) -> usize
     requires { (length word.now ≤ 7) × (longest_line ≤ length line.old) }
     ensures { (Put line.old 0 (line_of word.now (first ∷ second ∷ [])) line.new result) × (result ≤ longest_line) }
@@ -41,7 +43,8 @@ pub fn put_pair(line: &mut [u8], word: &[u8], first: u32, second: u32) -> usize
     put_line(line, word, &[first as u64, second as u64])
 }
 
-// Writes the first line, the verdict's; returns where it ends. By hand, and the room, as in `put_pair`.
+// Writes the first line, the verdict's; returns where it ends. The room as in `put_pair`.
+// By hand, as `decimal::put`.
 pub fn put_first(line: &mut [u8], verdict: Verdict) -> usize
     requires { longest_line ≤ length line.old }
     ensures { (Put line.old 0 (first_line (verdict_meaning verdict)) line.new result) × (result ≤ longest_line) }

@@ -67,7 +67,8 @@ pub fn put_cells(row: [u8; ROW], cores: usize, text: &mut [u8]) -> usize
     at + 1
 }
 
-// Writes the line of a row: the tick, and the text of its cores; returns where it ends. By hand, and the room, as in `first::put_pair`.
+// Writes the line of a row: the tick, and the text of its cores; returns where it ends. The room as in `first::put_pair`.
+// By hand, as `decimal::put`.
 pub fn put_row(line: &mut [u8], tick: u32, text: &[u8]) -> usize
     requires { (length text.now ≤ longest_cells) × (longest_line ≤ length line.old) }
     ensures { (Put line.old 0 (decimal tick ++ text.now) line.new result) × (result ≤ longest_line) }
