@@ -13,10 +13,7 @@ use model::Refusal;
 pub(crate) fn encoded<T: Copy>(given: Result<T, Refusal>, beside: u32) -> AnswerWords
     ensures { result ≡ of_given (answer_in given) beside }
 {
-    match given {
-        Ok(_) => answer_words::given(beside),
-        Err(refusal) => AnswerWords::from(refusal),
-    }
+    AnswerWords::from(given.map(|_| beside))
 }
 
 // A call that writes to a lent slice, and is answered in three words: 0 where the slice has the `need` elements that the call writes, and `answer` space; else
