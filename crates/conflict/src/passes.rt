@@ -6,7 +6,7 @@ ghost use Rattle.table.specs.Words.{table_of};
 ghost use Rattle.conflict.specs.Conflict.{conflicts, dropped, pass, conflict_set};
 
 use judge::Verdict;
-use model::sets::has;
+use model::sets::{has, places_where};
 
 // The tasks of a set of places as a table of their own: the words of the whole table, which pass, and the set.
 #[derive(Clone, Copy)]
@@ -66,7 +66,7 @@ fn all(count: u32) -> u32
     requires { count ≤ most_tasks }
     ensures { result ≡ 2 ^ count - 1 }
 {
-    ((1u64 << count) - 1) as u32
+    places_where(count as usize, |_| true)
 }
 
 // What the passes leave of the whole table, of this number of tasks: passes until one drops nothing.

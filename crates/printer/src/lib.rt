@@ -11,11 +11,10 @@ mod cells; // cells.rt: the text of a row's cores
 mod valid; // valid.rt: whether a printer can be stepped
 
 use judge::Verdict;
-use model::MOST_TASKS;
 use simulation::TRIPLE;
 use simulation::columns::Columns;
 use simulation::machine::Registers;
-use table::{Loaded, Task};
+use table::Loaded;
 use text::row::{CELLS, LINE};
 use text::{first, row};
 
@@ -131,16 +130,7 @@ fn start(table: Loaded, end: u32, verdict: Verdict) -> Printer
 fn no_table() -> Loaded
     ensures { result ≡ no_table }
 {
-    Loaded {
-        count: 0,
-        cores: 0,
-        fence: 0,
-        rule: 0,
-        tasks: [Task::default(); MOST_TASKS],
-        start: 0,
-        period: 0,
-        horizon: 0,
-    }
+    Loaded::default()
 }
 
 // The printer of a table's words; of words that are refused, the verdict's line is all that is printed.

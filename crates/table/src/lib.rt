@@ -39,7 +39,8 @@ pub struct Task {
 // The rule is a number, since columns and printers take a table of any rule. An array with its count stands for a list, without a heap.
 // What public functions ask of it (`Fit`, an end within the horizon) stands in their clauses, since pages name them.
 // Private functions that run the table take a `Fitting`; those that need the count alone ask for it.
-#[derive(Clone, Copy)]
+// The default is zeros: a table without tasks.
+#[derive(Clone, Copy, Default)]
 pub struct Loaded {
     pub count: usize,
     pub cores: u32,
