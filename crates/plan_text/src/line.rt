@@ -12,6 +12,7 @@ pub const LONG: usize = text::DIGITS + CELLS * (1 + text::DIGITS) + 1;
 
 // A row that was read: its tick and its numbers, zeros past the count.
 // An array with its count stands for a list, without a heap.
+// Not `arrayvec`: an ArrayVec is not Copy, as this is, and `read_line` of specs/Line has `count`, and zeros past it.
 #[derive(Clone, Copy)]
 pub struct Line {
     pub tick: u32,

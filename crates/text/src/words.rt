@@ -6,6 +6,7 @@ use crate::NUMBERS;
 
 // The numbers of a table's text: the first `count` of these, with zeros past them.
 // An array with its count stands for a list, without a heap.
+// Not `arrayvec`: an ArrayVec is not Copy, as this is, and `read_in` of specs/Input has `count`, and all of `words`.
 #[derive(Clone, Copy)]
 pub struct Words {
     pub count: usize,
