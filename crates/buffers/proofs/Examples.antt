@@ -15,7 +15,7 @@ use Rattle.buffers.specs.Encoding.{places_words, encode_to, encode, are_places, 
 
 -- a task of six numbers, the parity of its job and a phase
 abbrev task : ℕ → ℕ → ℕ → ℕ → ℕ → ℕ → Bool → Phase → Task
-task o v c d t w e ph = record { offset = o; width = v; length = c; deadline = d; period = t; second = w; even = e; phase = ph }
+task o v c d t w e ph = record { parameters = record { offset = o; width = v; length = c; deadline = d; period = t; second = w }; even = e; phase = ph }
 
 -- a run of four tasks, one in each kind of phase, odd and even, no two numbers alike
 abbrev four : Run

@@ -9,9 +9,8 @@ use lib.Dec.{eqb}
 use borrow.Author.Tests.{eqb-true, eq-eqb, ne_eqb}
 use Rattle.model.specs.Sizes.{most_tasks}
 use Rattle.sentence.specs.declared.Facts as code
-use Rattle.sentence.specs.declared.ParsedFacts.{ParsedFacts}
 use Rattle.sentence.specs.Facts.{named_from, facts_by}
-use Rattle.sentence.specs.Parsed.{facts, none, parsed, parsed_by, FactsOf}
+use Rattle.sentence.specs.Parsed.{facts, none, parsed, ParsedFacts, parsed_by, FactsOf}
 use Rattle.buffers.specs.Facts.{count_of, counts_from, in_words, fact_words_of}
 use Rattle.buffers.specs.AnswerWords.{of_read_back, of_parsed}
 

@@ -59,12 +59,7 @@ places-are (suc n) (t ∷ ts) behind h =
 
 with_task_state : Task → Bool → Phase → Task
 with_task_state t e ph = record {
-  offset = t.offset;
-  width = t.width;
-  length = t.length;
-  deadline = t.deadline;
-  period = t.period;
-  second = t.second;
+  parameters = t.parameters;
   even = e;
   phase = ph;
 }

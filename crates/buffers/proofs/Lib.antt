@@ -1,5 +1,6 @@
 -- Laws of words in a lent buffer: encoding and decoding, by what a buffer holds; lists, number 14 and what is never read; computed examples.
 mod Places
+mod Reading
 pub mod Inverse
 mod Putting
 pub mod Keeping

@@ -118,12 +118,12 @@ one-note ns i ws vs l h e =
     ∙ (put_next notes_at (notes_words (take i ns)) ws (note_words (get_or ns i past_note)) (note_at i) at (omega (arith, a, b, h))
     ∙ ap (λ (l : List ℕ). put_at notes_at l ws) (sym more))
 
--- .. by the words of its phase
+-- .. as it is written
 pub next-note :
-    (ns : List Note) (i : ℕ) (ws vs : List ℕ) {ph : PhaseWords} {us : List ℕ} → i < length ns → note_at (i + 1) ≤ length ws
-    → vs ≡ put_at notes_at (notes_words (take i ns)) ws → ph ≡ of_phase (get_or ns i past_note).phase → us ≡ put_at (note_at i) (four_words ph) vs
+    (ns : List Note) (i : ℕ) (ws vs : List ℕ) {us : List ℕ} → i < length ns → note_at (i + 1) ≤ length ws
+    → vs ≡ put_at notes_at (notes_words (take i ns)) ws → us ≡ put_at (note_at i) (note_words (get_or ns i past_note)) vs
     → us ≡ put_at notes_at (notes_words (take (i + 1) ns)) ws
-next-note ns i ws vs l h e p q = q ∙ (ap (λ (t : PhaseWords). put_at (note_at i) (four_words t) vs) p ∙ one-note ns i ws vs l h e)
+next-note ns i ws vs l h e q = q ∙ one-note ns i ws vs l h e
 
 -- NOTES, READ
 

@@ -18,8 +18,8 @@ use Rattle.table.specs.Answer.{Passed}
 use Rattle.table.specs.Answer.{answer_of}
 use Rattle.table.specs.Load.{load_meaning}
 use Rattle.table.specs.Words.{rule, table_of}
-use Rattle.plan_check.specs.declared.Answer.{Answer}
-use Rattle.plan_check.specs.declared.Answer.TheVariants.{Taken, Accepted, Refused}
+use Rattle.plan_check.specs.RowAnswer.{Answer}
+use Rattle.plan_check.specs.RowAnswer.{Taken, Accepted, Refused}
 use Rattle.plan_check.specs.Begin.{Begun}
 use Rattle.plan_check.specs.declared.Note.{Note}
 use Rattle.plan_check.specs.declared.SuppliedPlan.{SuppliedPlan}
@@ -338,7 +338,7 @@ fits-begun ws = go (answer_of ws) refl
     go (table.Refused n p) e =
         subst (λ (b : Begun). FitsPlan b.plan) (sym (begin-refused ws n p e)) (record { fits = record { all = refl; few = omega arith; past = refl }; many = refl })
 
--- begin writes all words of the plan that it returns, whatever was there
+-- begin writes all words of the plan that it returns, whatever was there (cited by none: it states what `begun_in` promises)
 pub begin-whole : (ws buffer : List ℕ) → plan_words ≤ length buffer → take plan_words (begun_in ws buffer) ≡ encode_plan (begin_of ws).plan
 begin-whole ws buffer long =
     let w = (begin_of ws).plan in

@@ -1,21 +1,25 @@
 -- A supplied plan in a buffer: what is written, and a row taken, by what the buffer holds.
-use mathlib.Core.Path.{◌≡◌, sym, ap, ◌∙◌}
+use Rattle.std.specs.Prelude.{Err}
+use mathlib.Core.Path.{◌≡◌, refl, sym, ap, ◌∙◌}
 use mathlib.Core.Bool.{Bool, true, false, ◌&&◌, cond}
 use mathlib.Core.List.{List, [], ◌∷◌}
 use Prim.Native.Nat.{ℕ, ◌≤◌, ◌<◌}
+use Rattle.std.proofs.Common.{Some, None}
 use lib.ListN.{length, get_or, take, drop, set}
 use lib.Dec.{leb}
 use borrow.Author.Tests.{le-leb, lt-leb, leb-true}
 use Rattle.model.proofs.Bools.{and_left, and_right}
+use Rattle.model.specs.Refusal.{number_of, position_of}
+use Rattle.model.specs.declared.refusal.Refusal.{Refusal}
 use Rattle.run.specs.declared.Run.{Run}
-use Rattle.plan_check.specs.declared.Answer.TheVariants.{Refused}
-use Rattle.plan_check.specs.declared.Entered.{Entered}
+use Rattle.plan_check.specs.RowAnswer.{Refused}
+use Rattle.plan_check.specs.RowAnswer.{Entered}
 use Rattle.plan_check.specs.declared.Note.{Note}
 use Rattle.plan_check.specs.declared.SuppliedPlan.{SuppliedPlan}
-use Rattle.plan_check.specs.Extent.{first_number}
-use Rattle.plan_check.proofs.Cases.{take-refused}
+use Rattle.plan_check.specs.Extent.{ExtentOf, extent_in}
+use Rattle.plan_check.proofs.PlanExtent.{extent-turns-down}
 use Rattle.buffers.specs.Encoding.{places, overwritten, count_in, holds_run, run_in}
-use Rattle.buffers.specs.Supplied.{tick_at, notes_at, plan_words, notes_words, put_at, moved_in, plan_over, notes_in, holds_plan, plan_in, BufferPlan, plan, none, decode_plan}
+use Rattle.buffers.specs.Supplied.{tick_at, notes_at, plan_words, notes_words, put_at, moved_in, plan_over, notes_in, holds_plan, plan_in, BufferPlan, plan, none, decode_plan, plan_read}
 use Rattle.buffers.specs.CheckRow.{RowChecked, kept_plan, check_row_from}
 use Rattle.buffers.proofs.Places.{held-few}
 use Rattle.buffers.proofs.Noting.{word-put}
@@ -49,6 +53,20 @@ module _ (ws : List ℕ) where
   pub by-held-plan : {t : Bool} → holds_plan ws ≡ t → decode_plan ws ≡ cond t (plan (plan_in ws)) none
   by-held-plan e = ap (λ (t : Bool). cond t (plan (plan_in ws)) none) e
 
+  -- .. and read
+  pub plan-none : holds_plan ws ≡ false → None ≡ plan_read (decode_plan ws)
+  plan-none e = ap plan_read (sym (by-held-plan e))
+
+  pub plan-some : holds_plan ws ≡ true → Some (plan_in ws) ≡ plan_read (decode_plan ws)
+  plan-some e = ap plan_read (sym (by-held-plan e))
+
+  pub plan-held : (w : SuppliedPlan) → Some w ≡ plan_read (decode_plan ws) → (holds_plan ws ≡ true) × (w ≡ plan_in ws)
+  plan-held w e = go (holds_plan ws) refl
+    where
+      go : (t : Bool) → holds_plan ws ≡ t → (holds_plan ws ≡ true) × (w ≡ plan_in ws)
+      go true h = (h, let same : Some w ≡ Some (plan_in ws) = e ∙ sym (plan-some h) in cc)
+      go false h = let no : Some w ≡ None = e ∙ sym (plan-none h) in absurd (cc)
+
   -- what a buffer that holds a plan has
   module _ (e : holds_plan ws ≡ true) where
     pub plan-long : plan_words ≤ length ws
@@ -71,9 +89,8 @@ module _ (ws : List ℕ) where
   module _ (row : List ℕ) where
     -- 14 and 9, whatever the row is
     pub take-extent :
-        (w : SuppliedPlan) {n : ℕ} → holds_plan ws ≡ true → w ≡ plan_in ws → n ≡ first_number w.run → ¬ (n ≡ 0)
-        → ◌≡◌ {A = RowChecked} (record { answer = Refused n 0; buffer = ws }) (check_row_from (decode_plan ws) row ws)
-    take-extent w h e p q =
-        ap (λ (k : ℕ). kept_plan (Refused k 0) w ws) p
-        ∙ (ap (λ (t : Entered). kept_plan t.answer t.plan ws) (sym (take-refused w row (λ z. q (p ∙ z))))
-        ∙ ap (λ (v : BufferPlan). check_row_from v row ws) (ap plan e ∙ sym (by-held-plan h)))
+        (w : SuppliedPlan) (x : Refusal) → holds_plan ws ≡ true → w ≡ plan_in ws → ExtentOf w.run (extent_in (Err x))
+        → ◌≡◌ {A = RowChecked} (record { answer = Refused (number_of x) (position_of x); buffer = ws }) (check_row_from (decode_plan ws) row ws)
+    take-extent w x h e p =
+        ap (λ (t : Entered). kept_plan t.answer t.plan ws) (extent-turns-down w row x p)
+        ∙ ap (λ (v : BufferPlan). check_row_from v row ws) (ap plan e ∙ sym (by-held-plan h))

@@ -1,5 +1,7 @@
 -- An answer in three words: the case and its two numbers, 0 where it has none.
-use Rattle.std.specs.Prelude.{Bool, true, false, cond, ◌&&◌, List, ◌∷◌, ◌≡◌, ℕ, ◌≤◌, leb, length, drop}
+use Rattle.std.specs.Prelude.{Bool, true, false, cond, ◌&&◌, List, ◌∷◌, ◌≡◌, ℕ, ◌≤◌, leb, length, drop, Result}
+use Rattle.std.specs.Result.{result_unwrap_or}
+use Rattle.model.specs.declared.refusal.Refusal.{Refusal}
 use Rattle.model.specs.Sizes.{most_word}
 use Rattle.table.specs.Answer as table
 use Rattle.judge.specs.declared.Verdict.{Verdict}
@@ -10,8 +12,7 @@ use Rattle.run.specs.Answer.{Answer}
 use Rattle.run.specs.Answer as run
 use Rattle.sentence.specs.SentenceAnswer.{SentenceAnswer}
 use Rattle.sentence.specs.SentenceAnswer as sentence
-use Rattle.plan_check.specs.declared.Answer as checked
-use Rattle.plan_check.specs.declared.Answer.TheVariants as plan_check
+use Rattle.plan_check.specs.RowAnswer as plan_check
 use Rattle.refinement.specs.Replayed.{Replayed}
 use Rattle.refinement.specs.Replayed as refinement
 use Rattle.sentence.specs.Parsed as parsed
@@ -49,8 +50,12 @@ abbrev pub of_given : table.Answer → ℕ → AnswerWords
 of_given table.Passed x = answer_words 0 x 0
 of_given (table.Refused n p) x = answer_words 3 n p
 
+-- .. as code returns it: given with a number beside it, or refused
+abbrev pub of_result : Result ℕ Refusal → AnswerWords
+of_result r = of_given (table.answer_in r) (result_unwrap_or r 0)
+
 -- take's three cases: 0 taken, 6 accepted, 3 Refused number tick
-abbrev pub of_taken : checked.Answer → AnswerWords
+abbrev pub of_taken : plan_check.Answer → AnswerWords
 of_taken plan_check.Taken = answer_words 0 0 0
 of_taken plan_check.Accepted = answer_words 6 0 0
 of_taken (plan_check.Refused n t) = answer_words 3 n t

@@ -1,7 +1,7 @@
 -- A row taken by the plan that a buffer holds.
 use Rattle.std.specs.Prelude.{true, List, ℕ, eqb}
-use Rattle.plan_check.specs.declared.Answer.{Answer}
-use Rattle.plan_check.specs.declared.Answer.TheVariants.{Taken, Accepted, Refused}
+use Rattle.plan_check.specs.RowAnswer.{Answer}
+use Rattle.plan_check.specs.RowAnswer.{Taken, Accepted, Refused}
 use Rattle.plan_check.specs.declared.SuppliedPlan.{SuppliedPlan}
 use Rattle.plan_check.specs.Begin.{begin_of}
 use Rattle.plan_check.specs.State.{start_in}

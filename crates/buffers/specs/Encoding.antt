@@ -1,6 +1,6 @@
 -- A run in a lent buffer: rule, cores, count, the fence in two words and the withdrawn set, then eleven words for each of the 32 places. The words past
 -- the count are not read.
-use Rattle.std.specs.Prelude.{Bool, true, ◌&&◌, ◌||◌, cond, List, [], ◌∷◌, ◌++◌, ℕ, zero, suc, ◌+◌, ◌*◌, ◌-◌, ◌/◌, ◌%◌, ◌^◌, length, get_or, take, drop, replicate, leb, eqb}
+use Rattle.std.specs.Prelude.{Result, Ok, Err, Option, Some, None, Bool, true, ◌&&◌, ◌||◌, cond, List, [], ◌∷◌, ◌++◌, ℕ, zero, suc, ◌+◌, ◌*◌, ◌-◌, ◌/◌, ◌%◌, ◌^◌, length, get_or, take, drop, replicate, leb, eqb}
 use Rattle.phase.specs.declared.Phase.{Phase}
 use Rattle.phase.specs.declared.Phase.TheVariants.{Coming, Working, Holding, Resting}
 use Rattle.phase.specs.declared.Task.{Task}
@@ -73,7 +73,7 @@ parity_word even = cond even 1 0
 -- a task's six words, that of a parity, and the four of a phase
 abbrev pub place_with : Task → ℕ → PhaseWords → List ℕ
 place_with t n ph =
-    t.offset ∷ (t.width ∷ (t.length ∷ (t.deadline ∷ (t.period ∷ (t.second ∷ (n ∷ (ph.kind ∷ (ph.first ∷ (ph.second ∷ (ph.third ∷ []))))))))))
+    t.parameters.offset ∷ (t.parameters.width ∷ (t.parameters.length ∷ (t.parameters.deadline ∷ (t.parameters.period ∷ (t.parameters.second ∷ (n ∷ (ph.kind ∷ (ph.first ∷ (ph.second ∷ (ph.third ∷ []))))))))))
 
 -- a place: offset, width of odd jobs, length, deadline, period, width of even jobs, and the parity and the phase
 abbrev pub place_words : Task → List ℕ
@@ -126,6 +126,10 @@ even_of n = eqb n 1
 abbrev pub is_parity : ℕ → Bool
 is_parity n = leb n 1
 
+-- the phase of a kind and its numbers, where they have one
+abbrev pub phase_read : PhaseWords → Result Phase (Unit {0})
+phase_read w = cond (is_phase w.kind w.second w.third) (Ok (phase_of w.kind w.first w.second w.third)) (Err tt)
+
 -- a parity, and a phase
 abbrev pub is_task_state : ℕ → ℕ → ℕ → ℕ → Bool
 is_task_state n k b c = is_parity n && is_phase k b c
@@ -133,12 +137,14 @@ is_task_state n k b c = is_parity n && is_phase k b c
 -- the place whose words are in front
 abbrev pub place_in : List ℕ → Task
 place_in ws = record {
-  offset = get_or ws 0 0;
-  width = get_or ws 1 0;
-  length = get_or ws 2 0;
-  deadline = get_or ws 3 0;
-  period = get_or ws 4 0;
-  second = get_or ws 5 0;
+  parameters = record {
+    offset = get_or ws 0 0;
+    width = get_or ws 1 0;
+    length = get_or ws 2 0;
+    deadline = get_or ws 3 0;
+    period = get_or ws 4 0;
+    second = get_or ws 5 0;
+  };
   even = even_of (get_or ws parity_at 0);
   phase = phase_of (get_or ws kind_at 0) (get_or ws first_number_at 0) (get_or ws second_number_at 0) (get_or ws third_number_at 0);
 }
@@ -146,6 +152,10 @@ place_in ws = record {
 -- they are a place: they have a parity and a phase
 abbrev pub is_place : List ℕ → Bool
 is_place ws = is_task_state (get_or ws parity_at 0) (get_or ws kind_at 0) (get_or ws second_number_at 0) (get_or ws third_number_at 0)
+
+-- the place, where they are one
+abbrev pub place_read : List ℕ → Option Task
+place_read ws = cond (is_place ws) (Some (place_in ws)) None
 
 -- the first n places
 unfoldable pub places_in : ℕ → List ℕ → List Task
@@ -192,6 +202,11 @@ pub data BufferRun : Type 0 where
 -- the run where it holds one
 abbrev pub decode : List ℕ → BufferRun
 decode ws = cond (holds_run ws) (run (run_in ws)) none
+
+-- .. as code reads it
+abbrev pub run_read : BufferRun → Option Run
+run_read (run r) = Some r
+run_read none = None
 
 -- a run with its places past the count cleared: zeros and Resting(0), as start leaves them
 abbrev pub cleared : Run → Run

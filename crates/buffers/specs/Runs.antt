@@ -1,7 +1,10 @@
 -- Row, sets, the positions that work and entries on the run that a buffer holds.
-use Rattle.std.specs.Prelude.{List, ℕ}
+use Rattle.std.specs.Prelude.{◌≡◌, Result, Ok, Err, List, ℕ}
+use Rattle.model.specs.declared.refusal.Refusal.{Refusal}
+use Rattle.model.specs.declared.refusal.Refusal.TheVariants.{NotARun}
+use Rattle.model.specs.Refusal.{number_of, position_of}
 use Rattle.run.specs.Answer.{Answer}
-use Rattle.run.specs.Answer.{Refused}
+use Rattle.run.specs.Answer.{Taken, Refused}
 use Rattle.run.specs.Answer.{Row}
 use Rattle.run.specs.declared.Run.{Run}
 use Rattle.run.specs.Sets.{Sets}
@@ -47,3 +50,18 @@ kept_run a r ws = record { answer = a; buffer = by_answer a (overwritten r.count
 abbrev pub entry_from : BufferRun → Entry → List ℕ → Entered
 entry_from (run r) x ws = kept_run (entry_of r x).answer (entry_of r x).run ws
 entry_from none x ws = record { answer = Refused 14 0; buffer = ws }
+
+-- what a question answers of the run that a buffer holds; 14 where it holds none
+abbrev pub Asked : {T : Type 0} → (Run → Result T Refusal → Type 0) → BufferRun → Result T Refusal → Type 0
+Asked post (run r) answer = post r answer
+Asked post none answer = answer ≡ Err NotARun
+
+-- the next run, with the places below the count of the one held; a refusal leaves the buffer as found
+abbrev pub kept_next : Run → Result Run Refusal → List ℕ → Entered
+kept_next r (Ok next) ws = record { answer = Taken; buffer = overwritten r.count next ws }
+kept_next r (Err e) ws = record { answer = Refused (number_of e) (position_of e); buffer = ws }
+
+-- what an entry leaves of the run that a buffer holds, by the next run that it returns; 14 where it holds none
+abbrev pub EntryOn : (Run → Result Run Refusal → Type 0) → BufferRun → List ℕ → Entered → Type 0
+EntryOn post (run r) ws done = (next : Result Run Refusal) × post r next × (done ≡ kept_next r next ws)
+EntryOn post none ws done = done ≡ record { answer = Refused 14 0; buffer = ws }

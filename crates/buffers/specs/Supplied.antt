@@ -1,5 +1,5 @@
 -- A supplied plan in a lent buffer (request 112): the words of its run, its tick, and four words for each of the 32 notes.
-use Rattle.std.specs.Prelude.{Bool, true, ◌&&◌, cond, List, [], ◌∷◌, ◌++◌, ℕ, zero, suc, ◌+◌, ◌*◌, length, get_or, take, drop, leb}
+use Rattle.std.specs.Prelude.{Option, Some, None, Bool, true, ◌&&◌, cond, List, [], ◌∷◌, ◌++◌, ℕ, zero, suc, ◌+◌, ◌*◌, length, get_or, take, drop, leb}
 use Rattle.phase.specs.declared.Phase.{Phase}
 use Rattle.phase.specs.declared.Phase.TheVariants.{Resting}
 use Rattle.plan_check.specs.declared.Note.{Note}
@@ -101,6 +101,11 @@ pub data BufferPlan : Type 0 where
 -- the plan where it holds one
 abbrev pub decode_plan : List ℕ → BufferPlan
 decode_plan ws = cond (holds_plan ws) (plan (plan_in ws)) none
+
+-- .. as code reads it
+abbrev pub plan_read : BufferPlan → Option SuppliedPlan
+plan_read (plan w) = Some w
+plan_read none = None
 
 -- a plan with the places of its run past the count cleared
 abbrev pub cleared_plan : SuppliedPlan → SuppliedPlan

@@ -1,15 +1,16 @@
 // A supplied plan in a lent buffer of words: the words of its run, its tick, and four words for each note. A taken row leaves the places past the count
 // as found, and the notes but where it arrives at the last S; words of a note that are no phase are read as Resting(0), which no run has.
 ghost use Rattle.std.specs.Prelude.{◌≡◌, ◌+◌, ◌≤◌, length, take, drop};
-ghost use Rattle.plan_check.specs.State.{start_in};
-ghost use Rattle.buffers.specs.Encoding.{places, count_in};
-ghost use Rattle.buffers.specs.Supplied.{notes_at, note_size, plan_words, four_words, notes_words, put_at, plan_over, note_in, notes_in, holds_plan, plan_in, decode_plan};
-ghost use Rattle.buffers.specs.CheckRow.{kept_plan, check_row_from};
+ghost use Rattle.plan_check.specs.RowAnswer.{answer_in};
+ghost use Rattle.buffers.specs.Encoding.{places};
+ghost use Rattle.buffers.specs.Supplied.{notes_at, note_size, plan_words, note_words, notes_words, put_at, plan_over, note_in, notes_in, plan_read, decode_plan};
+ghost use Rattle.buffers.specs.CheckRow.{check_row_from};
 
 use crate::run_buffer;
 use crate::run_buffer::PhaseWords;
+use model::Refusal;
 use phase::Phase;
-use plan_check::{Answer, Entered, Note, SuppliedPlan};
+use plan_check::{Note, Progress, SuppliedPlan};
 
 // The index of the tick: right after the run.
 const TICK: usize = run_buffer::WORDS;
@@ -20,11 +21,12 @@ const EACH: usize = 4;
 // The words of a plan.
 pub const WORDS: usize = NOTES + EACH * run_buffer::PLACES;
 
-// Writes the four words of a note at `at`; the words before and after them stay.
-fn put_note(phase: PhaseWords, at: usize, words: &mut [u32])
+// Writes a note at `at`; the words before and after it stay.
+fn put_note(note: Note, at: usize, words: &mut [u32])
     requires { at + note_size ≤ length words.old }
-    ensures { words.new ≡ put_at at (four_words phase) words.old }
+    ensures { words.new ≡ put_at at (note_words note) words.old }
 {
+    let phase = PhaseWords::from(note.phase);
     words[at] = phase.kind;
     words[at + 1] = phase.first;
     words[at + 2] = phase.second;
@@ -36,9 +38,9 @@ fn put_notes(noted: [Note; run_buffer::PLACES], shown: usize, words: &mut [u32])
     requires { (shown ≤ places) × (plan_words ≤ length words.old) }
     ensures { words.new ≡ put_at notes_at (notes_words (take shown noted)) words.old }
 {
+    // By index: of a slice written through `chunks_exact_mut` std promises the length alone.
     for i in 0..shown {
-        let note = noted[i];
-        put_note(run_buffer::of_phase(note.phase), NOTES + EACH * i, words);
+        put_note(noted[i], NOTES + EACH * i, words);
     }
 }
 
@@ -47,30 +49,26 @@ pub fn put_plan(plan: SuppliedPlan, shown: usize, noting: bool, words: &mut [u32
     requires { (shown ≤ places) × (plan_words ≤ length words.old) }
     ensures { words.new ≡ plan_over noting shown plan words.old }
 {
-    let run = plan.run;
-    run_buffer::put_run(run, shown, words);
+    run_buffer::put_run(plan.run, shown, words);
     words[TICK] = plan.tick;
     if noting {
-        let noted = plan.noted;
-        put_notes(noted, shown, words);
+        put_notes(plan.noted, shown, words);
     }
 }
 
-// The note whose words begin at `at`.
-fn note_in(words: &[u32], at: usize) -> Note
-    requires { at + note_size ≤ length words.now }
-    ensures { result ≡ note_in (drop at words.now) }
+// The note in these words.
+// No TryFrom, since words that are no phase are a note too.
+fn note_in(words: &[u32; EACH]) -> Note
+    ensures { result ≡ note_in words.now }
 {
-    let kind = words[at];
-    let first = words[at + 1];
-    let second = words[at + 2];
-    let third = words[at + 3];
-    if run_buffer::is_task_state(0, kind, second, third) {
-        let phase = run_buffer::phase_of(kind, first, second, third);
-        return Note { phase: phase };
-    }
+    let phase = Phase::try_from(PhaseWords {
+        kind: words[0],
+        first: words[1],
+        second: words[2],
+        third: words[3],
+    });
     Note {
-        phase: Phase::Resting(0),
+        phase: phase.unwrap_or(Phase::Resting(0)),
     }
 }
 
@@ -79,74 +77,43 @@ fn notes_in(words: &[u32]) -> [Note; run_buffer::PLACES]
     requires { plan_words ≤ length words.now }
     ensures { result ≡ notes_in places (drop notes_at words.now) }
 {
+    // any note will do here: each place is written below
     let nothing = Note {
         phase: Phase::Resting(0),
     };
+    let (notes, _) = words[NOTES..].as_chunks::<EACH>();
     let mut noted = [nothing; run_buffer::PLACES];
-    for i in 0..run_buffer::PLACES {
-        noted[i] = note_in(words, NOTES + EACH * i);
+    for (i, note) in notes[..run_buffer::PLACES].iter().enumerate() {
+        noted[i] = note_in(note);
     }
     noted
 }
 
-// The plan at the front of the buffer.
-fn plan_in(words: &[u32]) -> SuppliedPlan
-    requires { (plan_words ≤ length words.now) × (count_in words.now ≤ places) }
-    ensures { result ≡ plan_in words.now }
-{
-    let run = run_buffer::run_in(words);
-    let noted = notes_in(words);
-    SuppliedPlan {
-        run: run,
-        tick: words[TICK],
-        noted: noted,
-    }
-}
-
-// Whether the buffer holds a plan: any words are a tick, and any are notes.
-fn holds(words: &[u32]) -> bool
-    ensures { result ≡ holds_plan words.now }
+// The plan at the front of the buffer, or none: any words are a tick, and any are notes. No `TryFrom`, like `run_in`.
+fn plan_in(words: &[u32]) -> Option<SuppliedPlan>
+    ensures { result ≡ plan_read (decode_plan words.now) }
 {
     if words.len() < WORDS {
-        return false;
+        return None;
     }
-    run_buffer::holds(words)
+    let run = run_buffer::run_in(words)?;
+    Some(SuppliedPlan {
+        run,
+        tick: words[TICK],
+        noted: notes_in(words),
+    })
 }
 
-// Writes the plan after a row, up to its count, where the row is taken; a refusal leaves the words as found. Returns the answer.
-fn keep(entered: Entered, start: u32, words: &mut [u32]) -> Answer
-    requires { (entered.plan.run.count ≤ places) × ((start ≡ start_in entered.plan.run) × (plan_words ≤ length words.old)) }
-    ensures { record { answer = result; buffer = words.new } ≡ kept_plan entered.answer entered.plan words.old }
+// The row taken by the plan that the buffer holds, and the plan after it written up to its count; 14 where it holds none. A refusal leaves the words as
+// found.
+pub fn take(words: &mut [u32], row: &[u8]) -> Result<Progress, Refusal>
+    ensures { record { answer = answer_in result; buffer = words.new } ≡ check_row_from (decode_plan words.old) row.now words.old }
 {
-    let answer = entered.answer;
-    let next = entered.plan;
-    let run = next.run;
-    match answer {
-        Answer::Taken => {
-            put_plan(next, run.count, next.tick == start, words);
-            Answer::Taken
-        }
-        Answer::Accepted => {
-            put_plan(next, run.count, next.tick == start, words);
-            Answer::Accepted
-        }
-        Answer::Refused(number, tick) => Answer::Refused(number, tick),
-    }
-}
-
-// The row taken by the plan that the buffer holds; 14 where it holds none.
-pub fn take(words: &mut [u32], row: &[u8]) -> Answer
-    ensures { record { answer = result; buffer = words.new } ≡ check_row_from (decode_plan words.old) row.now words.old }
-{
-    if !holds(words) {
-        return Answer::Refused(14, 0);
-    }
-    let plan = plan_in(words);
-    match plan.extent() {
-        Ok(extent) => {
-            let entered = plan.enter(extent.start, extent.horizon, row);
-            keep(entered, extent.start, words)
-        }
-        Err(refusal) => Answer::Refused(refusal.number(), 0),
-    }
+    let Some(plan) = plan_in(words) else {
+        return Err(Refusal::NotARun);
+    };
+    let extent = plan.extent()?;
+    let (progress, next) = plan.enter(extent, row)?;
+    put_plan(next, next.run.count, next.tick == extent.start, words);
+    Ok(progress)
 }

@@ -18,7 +18,7 @@ abbrev found : ℕ → List ℕ
 found n = replicate n 77
 
 abbrev task : ℕ → Phase → Task
-task v ph = record { offset = 0; width = v; length = 2; deadline = 4; period = 4; second = v; even = false; phase = ph }
+task v ph = record { parameters = record { offset = 0; width = v; length = 2; deadline = 4; period = 4; second = v }; even = false; phase = ph }
 
 -- the run in words, under this rule, its tasks in these phases, and anything past the count
 abbrev words : ℕ → Phase → Phase → List ℕ

@@ -20,7 +20,7 @@ lent n = replicate n 77
 abbrev words : ℕ → Bool → Phase → List ℕ
 words x e ph =
     1 ∷ 2 ∷ 1 ∷ 0 ∷ 0 ∷ x
-    ∷ (place_words (record { offset = 0; width = 1; length = 3; deadline = 3; period = 4; second = 2; even = e; phase = ph }) ++ lent 341)
+    ∷ (place_words (record { parameters = record { offset = 0; width = 1; length = 3; deadline = 3; period = 4; second = 2 }; even = e; phase = ph }) ++ lent 341)
 
 -- at an odd job, with this set withdrawn
 abbrev without : ℕ → Phase → List ℕ

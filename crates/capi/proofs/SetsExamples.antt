@@ -38,7 +38,7 @@ abbrev pub lent : ℕ → List ℕ
 lent n = replicate n 77
 
 abbrev task : ℕ → Phase → Task
-task v ph = record { offset = 0; width = v; length = 2; deadline = 4; period = 4; second = v; even = false; phase = ph }
+task v ph = record { parameters = record { offset = 0; width = v; length = 2; deadline = 4; period = 4; second = v }; even = false; phase = ph }
 
 -- the run in words, with these six words in front, its tasks in these phases, and anything past the count
 abbrev pub words : List ℕ → Phase → Phase → List ℕ

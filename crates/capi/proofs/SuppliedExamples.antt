@@ -22,9 +22,7 @@ use Rattle.plan_check.specs.Numbers.{after_row, differs, missed, state_out}
 use Rattle.plan_check.specs.Plan.{cell_count}
 use Rattle.plan_check.specs.Row.{faulty, any_unknown_byte, worked_row}
 use Rattle.plan_check.specs.State.{horizon_in}
-use Rattle.plan_check.specs.RowAnswer.{state_by_answer}
-use Rattle.plan_check.specs.declared.Answer.{Answer}
-use Rattle.plan_check.specs.declared.Answer.TheVariants.{Refused}
+use Rattle.plan_check.specs.RowAnswer.{Answer, Refused, state_by_answer}
 use Rattle.plan_check.specs.declared.SuppliedPlan.{SuppliedPlan}
 use Rattle.plan_check.specs.CheckRow.{answer_at, final_answer, check_row_answer, check_row_of}
 use Rattle.capi.specs.Calls.{CallResult, call_result, by_room}
@@ -91,7 +89,7 @@ one o = 1 ∷ 1 ∷ 1 ∷ 0 ∷ 0 ∷ 0 ∷ o ∷ 1 ∷ 1 ∷ 1 ∷ 2 ∷ 1 ∷ 
 
 -- its place at an odd or an even job in this phase
 abbrev placed : ℕ → Bool → Phase → List ℕ
-placed o e ph = place_words (record { offset = o; width = 1; length = 1; deadline = 1; period = 2; second = 1; even = e; phase = ph })
+placed o e ph = place_words (record { parameters = record { offset = o; width = 1; length = 1; deadline = 1; period = 2; second = 1 }; even = e; phase = ph })
 
 -- a plan of the task with O 1, whose last S is 1 and horizon 3, at this tick, with these words of a note; anything past the count, and a word after the plan
 abbrev plan : Bool → Phase → ℕ → List ℕ → List ℕ

@@ -31,7 +31,7 @@ abbrev lent : ℕ → List ℕ
 lent n = replicate n 77
 
 abbrev task : ℕ → Phase → Task
-task v ph = record { offset = 0; width = v; length = 2; deadline = 4; period = 4; second = v; even = false; phase = ph }
+task v ph = record { parameters = record { offset = 0; width = v; length = 2; deadline = 4; period = 4; second = v }; even = false; phase = ph }
 
 -- the run in words, under this rule and with this set withdrawn, the second task released a tick ago, and anything past the count
 abbrev words : ℕ → ℕ → List ℕ

@@ -3,7 +3,7 @@ ghost use Rattle.std.specs.Prelude.{◌≡◌, [], ◌∷◌};
 ghost use Rattle.capi.specs.Figures.{bounds_call, response_times_call, slack_call};
 
 use crate::results;
-use buffers::answer_words;
+use buffers::figures::put_figures;
 use model::MOST_TASKS;
 
 // The worst-case response time of each task of a table's words into the first 32 words of `figures`, 0 past the last task: case 0, or 3 Refused number
@@ -16,15 +16,12 @@ pub extern "C" fn sivorandra_response_times(
 ) -> u32
     ensures { record { value = result; lent = figures.new ∷ (answer.new ∷ []) } ≡ response_times_call words.now figures.old answer.old }
 {
-    if answer_words::fit(figures.len(), MOST_TASKS, answer) {
+    results::answered(figures, MOST_TASKS, answer, |figures| {
         let found = response_time::response_times(words);
-        let responses = found.unwrap_or([0; MOST_TASKS]);
-        buffers::figures::put_figures(responses, figures);
-        let encoded = results::encoded(found, 0);
-        answer_words::put(encoded, answer);
-        return 0;
-    }
-    1
+        // zeros beside a refusal, as C is promised
+        put_figures(found.unwrap_or([0; MOST_TASKS]), figures);
+        results::encoded(found, 0)
+    })
 }
 
 // The slack of each task of a table's words into the first 32 words of `figures`, 0 past the last task: case 0, or 3 Refused number position and
@@ -33,15 +30,12 @@ pub extern "C" fn sivorandra_response_times(
 pub extern "C" fn sivorandra_slack(words: &[u32], figures: &mut [u32], answer: &mut [u32]) -> u32
     ensures { record { value = result; lent = figures.new ∷ (answer.new ∷ []) } ≡ slack_call words.now figures.old answer.old }
 {
-    if answer_words::fit(figures.len(), MOST_TASKS, answer) {
+    results::answered(figures, MOST_TASKS, answer, |figures| {
         let found = slack::slack(words);
-        let slack = found.unwrap_or([0; MOST_TASKS]);
-        buffers::figures::put_figures(slack, figures);
-        let encoded = results::encoded(found, 0);
-        answer_words::put(encoded, answer);
-        return 0;
-    }
-    1
+        // zeros beside a refusal, as C is promised
+        put_figures(found.unwrap_or([0; MOST_TASKS]), figures);
+        results::encoded(found, 0)
+    })
 }
 
 // The response-time bound of each task of a table's words into the first 32 words of `figures`, 0 past the last task: case 0 and 1 where the table passes
@@ -50,15 +44,11 @@ pub extern "C" fn sivorandra_slack(words: &[u32], figures: &mut [u32], answer: &
 pub extern "C" fn sivorandra_bounds(words: &[u32], figures: &mut [u32], answer: &mut [u32]) -> u32
     ensures { record { value = result; lent = figures.new ∷ (answer.new ∷ []) } ≡ bounds_call words.now figures.old answer.old }
 {
-    if answer_words::fit(figures.len(), MOST_TASKS, answer) {
+    results::answered(figures, MOST_TASKS, answer, |figures| {
         let found = interference::response_bounds(words);
-        let tested = found.unwrap_or(None);
-        let bounds = tested.unwrap_or([0; MOST_TASKS]);
-        buffers::figures::put_figures(bounds, figures);
-        let met = answer_words::met_word(tested.is_some());
-        let encoded = results::encoded(found, met);
-        answer_words::put(encoded, answer);
-        return 0;
-    }
-    1
+        let bounds = found.unwrap_or(None);
+        // zeros beside a refusal, as C is promised
+        put_figures(bounds.unwrap_or([0; MOST_TASKS]), figures);
+        results::encoded(found, u32::from(bounds.is_some()))
+    })
 }

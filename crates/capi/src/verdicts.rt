@@ -1,18 +1,26 @@
 // The calls for a verdict, and for the tasks in conflict.
-ghost use Rattle.std.specs.Prelude.{◌≡◌, ◌≤◌, [], ◌∷◌, length};
-ghost use Rattle.buffers.specs.AnswerWords.{answer_size, answer_written, of_verdict};
+ghost use Rattle.std.specs.Prelude.{◌≡◌, true, false, [], ◌∷◌};
+ghost use Rattle.std.specs.Fn.{FnOnceReturnsAt};
+ghost use Rattle.buffers.specs.declared.answer_words.AnswerWords.{AnswerWords};
+ghost use Rattle.buffers.specs.AnswerWords.{answer_fits, answer_written};
 ghost use Rattle.capi.specs.Calls.{judge_call, conflict_call};
 
-use crate::results;
 use buffers::answer_words;
-use judge::Verdict;
+use buffers::answer_words::AnswerWords;
 
-// Writes a verdict in three words, for which there is space; returns 0.
-fn put_verdict(verdict: Verdict, answer: &mut [u32]) -> u32
-    requires { answer_size ≤ length answer.old }
-    ensures { (result ≡ 0) × (answer.new ≡ answer_written (of_verdict verdict) answer.old) }
+// A call that writes to no other slice, by the words of a table: 0 where `answer` has space; else 1, and it is as found.
+// No plainer by `results::answered`: each call would lend an empty slice and take one that it does not use.
+// 0 or 1, and no Result, since C reads it as the status of its call (include/sivorandra.h).
+fn answered<F: FnOnce(&[u32]) -> AnswerWords>(words: &[u32], answer: &mut [u32], call: F) -> u32
+    requires { F.IsAlwaysCallable call }
+    ensures fits { answer_fits answer.old ≡ true
+        → (given : AnswerWords) × FnOnceReturnsAt F.FnOnce call words.now given × (result ≡ 0) × (answer.new ≡ answer_written given answer.old) }
+    ensures short { answer_fits answer.old ≡ false → (result ≡ 1) × (answer.new ≡ answer.old) }
 {
-    answer_words::put(answer_words::of_verdict(verdict), answer);
+    if !answer_words::fit(0, 0, answer) {
+        return 1;
+    }
+    answer_words::put(call(words), answer);
     0
 }
 
@@ -21,10 +29,11 @@ fn put_verdict(verdict: Verdict, answer: &mut [u32]) -> u32
 pub extern "C" fn sivorandra_judge(words: &[u32], answer: &mut [u32]) -> u32
     ensures { record { value = result; lent = answer.new ∷ [] } ≡ judge_call words.now answer.old }
 {
-    if !answer_words::fit(0, 0, answer) {
-        return 1;
-    }
-    put_verdict(judge::judge(words), answer)
+    answered(
+        words,
+        answer,
+        |words| AnswerWords::from(judge::judge(words)),
+    )
 }
 
 // The same verdict, tick by tick.
@@ -32,10 +41,11 @@ pub extern "C" fn sivorandra_judge(words: &[u32], answer: &mut [u32]) -> u32
 pub extern "C" fn sivorandra_judge_ticks(words: &[u32], answer: &mut [u32]) -> u32
     ensures { record { value = result; lent = answer.new ∷ [] } ≡ judge_call words.now answer.old }
 {
-    if !answer_words::fit(0, 0, answer) {
-        return 1;
-    }
-    put_verdict(judge::by_ticks::judge(words), answer)
+    answered(
+        words,
+        answer,
+        |words| AnswerWords::from(judge::by_ticks::judge(words)),
+    )
 }
 
 // The same verdict, event by event.
@@ -43,10 +53,11 @@ pub extern "C" fn sivorandra_judge_ticks(words: &[u32], answer: &mut [u32]) -> u
 pub extern "C" fn sivorandra_judge_events(words: &[u32], answer: &mut [u32]) -> u32
     ensures { record { value = result; lent = answer.new ∷ [] } ≡ judge_call words.now answer.old }
 {
-    if !answer_words::fit(0, 0, answer) {
-        return 1;
-    }
-    put_verdict(judge::by_events::judge(words), answer)
+    answered(
+        words,
+        answer,
+        |words| AnswerWords::from(judge::by_events::judge(words)),
+    )
 }
 
 // The tasks in conflict of a table's words, of which none can be dropped: case 0 and the set of their positions, bit p for position p + 1, or 3 Refused
@@ -55,11 +66,9 @@ pub extern "C" fn sivorandra_judge_events(words: &[u32], answer: &mut [u32]) -> 
 pub extern "C" fn sivorandra_conflict(words: &[u32], answer: &mut [u32]) -> u32
     ensures { record { value = result; lent = answer.new ∷ [] } ≡ conflict_call words.now answer.old }
 {
-    if answer_words::fit(0, 0, answer) {
-        let found = conflict::conflict(words);
-        let encoded = results::encoded(found, found.unwrap_or(0));
-        answer_words::put(encoded, answer);
-        return 0;
-    }
-    1
+    answered(
+        words,
+        answer,
+        |words| AnswerWords::from(conflict::conflict(words)),
+    )
 }

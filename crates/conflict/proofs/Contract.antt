@@ -30,6 +30,7 @@ use Rattle.judge.specs.declared.Verdict.{Verdict}
 use Rattle.judge.specs.declared.Verdict.TheVariants.{Firm, Full, Miss, Refused}
 use Rattle.judge.specs.Judged.{Judged, verdict_of, accepted_of}
 use Rattle.judge.specs.JudgeAnswer.{verdict_meaning}
+use Rattle.model.proofs.Refusals.{taken_refused}
 use Rattle.conflict.specs.Answer.{ConflictAnswer}
 use Rattle.conflict.specs.Answer.{ConflictOf, answered, conflict_by, conflict_of, given_conflict, no_conflict}
 use Rattle.conflict.specs.Conflict.{conflict_set}
@@ -37,9 +38,6 @@ use Rattle.conflict.specs.Numbers.{Applies, First, NoneApplies, seventeen, words
 use Rattle.conflict.proofs.Dropping.{conflict-past}
 use Rattle.conflict.proofs.Minimal.{conflict-minimal}
 use Rattle.conflict.proofs.Relinked.{every-part}
-
-taken_refused : {n p : ℕ} → book.taken ≡ book.refused n p → ⊥
-taken_refused e = let z : ◌≡◌ {A = ℕ} 0 1 = cc in omega arith
 
 module _ (ws : List ℕ) where
   abbrev s : Table

@@ -2,17 +2,18 @@
 use mathlib.Core.Bool.{Bool, cond, false, false≢true, true, ◌&&◌}
 use mathlib.Core.Logic.{⊎_elim}
 use mathlib.Core.Path.{ap, refl, subst, sym, ◌∙◌, ◌≡◌}
-use Prim.Native.Nat.{ℕ, suc, zero, ◌%◌, ◌-◌, ◌<◌, ◌^◌, ◌≤◌}
-use native.Mathlib.Nat.{eq-or-lt_of_le, le_refl, le_trans, not-suc-le-zero, pow-suc}
+use Prim.Native.Nat.{ℕ, suc, zero, ◌-◌, ◌<◌, ◌^◌, ◌≤◌}
+use native.Mathlib.Nat.{eq-or-lt_of_le, le_refl, le_trans, not-suc-le-zero}
 use native.Mathlib.Omega.{arith}
 use lib.Dec.{eqb}
 use lib.ListN.{length}
 use lib.Pow.{pow_pos}
 use borrow.Author.Tests.{eq-eqb, eqb-false, eqb-true}
-use Rattle.model.proofs.Digits.{BitCleared, bit_past, bit-suc, bit-zero, odd-half}
+use Rattle.model.proofs.Digits.{BitCleared, bit_past}
 use Rattle.model.proofs.Digits as digits
 use Rattle.model.specs.Search.{bit}
 use Rattle.model.specs.Task.{Table}
+use Rattle.table.proofs.Tests.{there-all}
 use Rattle.conflict.specs.Conflict.{all_places, conflict_set, conflicts, dropped, pass, passes}
 use Rattle.conflict.specs.SubTable.{sub_table, without_place}
 use Rattle.conflict.proofs.Chosen.{chosen_less, chosen-whole}
@@ -174,18 +175,8 @@ module _ (s : Table) where
 
   -- ---- the whole table
 
-  -- all digits below a count are there
-  all_there : (m p : ℕ) → p < m → bit (2 ^ m - 1) p ≡ true
-  all_there zero p l = absurd (not-suc-le-zero l)
-  all_there (suc m) zero l =
-      let odd = (odd-half (2 ^ suc m - 1) (2 ^ m - 1) (omega (arith, pow-suc 2 m, pow_pos m))).0 in
-      bit-zero (2 ^ suc m - 1) ∙ eq-eqb ((2 ^ suc m - 1) % 2) 1 odd
-  all_there (suc m) (suc p) l =
-      let half = (odd-half (2 ^ suc m - 1) (2 ^ m - 1) (omega (arith, pow-suc 2 m, pow_pos m))).1 in
-      bit-suc (2 ^ suc m - 1) p ∙ (ap (λ (x : ℕ). bit x p) half ∙ all_there m p (omega arith))
-
   whole-tasks : (sub_table s (all_places s)).tasks ≡ s.tasks
-  whole-tasks = chosen-whole (bit (all_places s)) s.tasks (λ q l. all_there n q l)
+  whole-tasks = chosen-whole (bit (all_places s)) s.tasks (λ q l. there-all n q l)
 
   pub whole_part : sub_table s (all_places s) ≡ s
   whole_part = λ i. record { tasks = whole-tasks i; cores = s.cores; fence = s.fence; rule = s.rule }

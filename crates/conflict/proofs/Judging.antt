@@ -5,7 +5,7 @@ use mathlib.Core.Path.{ap, refl, sym, ◌∙◌, ◌≡◌}
 use Prim.Native.Nat.{ℕ, ◌<◌}
 use native.Mathlib.Omega.{arith}
 use lib.ListN.{length}
-use Rattle.model.proofs.Bools.{not-true-false}
+use Rattle.std.proofs.lemmas.Bool.{false_from_ne_true}
 use Rattle.model.specs.Lists.{Missed}
 use Rattle.model.specs.Search.{bit}
 use Rattle.model.specs.Task.{Table, Task}
@@ -84,6 +84,6 @@ conflict-judged ws none p t m = (by (conflict_set s) ∙ still, λ q e. by (with
 
     without-one : (q : ℕ) → bit (conflict_set s) q ≡ true → conflicts s (without_place (conflict_set s) q) ≡ false
     without-one q e =
-        not-true-false (conflicts s (without_place (conflict_set s) q))
+        false_from_ne_true (conflicts s (without_place (conflict_set s) q))
         (λ c. let x = conflicts-some s (passed-valid ws none) (without_place (conflict_set s) q) c in
         (conflict-minimal s (passed-valid ws none) p t m).needed q e x.0 x.1 x.2)

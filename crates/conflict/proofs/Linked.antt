@@ -9,7 +9,7 @@ use native.Mathlib.Omega.{arith}
 use lib.Dec.{eqb}
 use lib.ListN.{get_or, length, length-set, set}
 use lib.Seq.{get_or-set_other, get_or-set_same}
-use Rattle.model.proofs.Bools.{not-true-false}
+use Rattle.std.proofs.lemmas.Bool.{false_from_ne_true}
 use Rattle.table.proofs.Decide.{decides_eq, stable}
 use Rattle.table.proofs.HeaderPasses.{words-few, words_long}
 use Rattle.table.proofs.Tasks.{chain-at, chain_length}
@@ -112,10 +112,10 @@ next-inside ws n a b = omega arith
 
 module _ (ws : List ℕ) (none : NoneApplies ws) where
   no-past : out_of_range_at ws (last_step ws) ≡ false
-  no-past = not-true-false (out_of_range_at ws (last_step ws)) (λ e. none 5 0 ((five-decides ws).0 e))
+  no-past = false_from_ne_true (out_of_range_at ws (last_step ws)) (λ e. none 5 0 ((five-decides ws).0 e))
 
   no-again : repeated_at ws (last_step ws) ≡ false
-  no-again = not-true-false (repeated_at ws (last_step ws)) (λ e. none 6 0 ((six-decides ws).0 e))
+  no-again = false_from_ne_true (repeated_at ws (last_step ws)) (λ e. none 6 0 ((six-decides ws).0 e))
 
   -- the walk meets a new record at every place of the chain, and then the zero
   pub chain-ends : EndAt ws (count ws)

@@ -1,6 +1,6 @@
 -- Ascending lists of numbers: take, drop and membership in them, the numbers from i up, and those of a list that pass a test.
 use mathlib.Core.Path.{◌≡◌, refl, sym, ap, ap₂, ◌∙◌}
-use mathlib.Core.Logic.{◌⊎◌, inl, inr, ⊎_elim}
+use mathlib.Core.Logic.{⊎_elim}
 use mathlib.Core.Bool.{Bool, true, false, ◌&&◌, ◌||◌, not, or-true, false≢true}
 use mathlib.Core.List.{List, [], ◌∷◌, map}
 use Prim.Native.Nat.{ℕ, zero, suc, ◌+◌, ◌≤◌, ◌<◌}
@@ -10,6 +10,7 @@ use lib.ListN.{length, get_or, take, drop}
 use lib.Dec.{eqb, ltb}
 use borrow.Author.Tests.{eqb-true, eq-eqb, ne_eqb, ltb-true, ltb-false}
 use Rattle.model.specs.Search.{filtered, cons_if, member, up_from}
+use Rattle.std.proofs.lemmas.Bool.{or_cases}
 use Rattle.model.proofs.Lists.{up-length, up_at, map_at}
 
 -- an ascending list whose entries are at least lo and below hi
@@ -58,10 +59,6 @@ unfolding member
 memb-below c lo hi [] h r = refl
 memb-below c lo hi (x ∷ l) h r = rw (ne_eqb c x (λ e. omega arith)) (memb-below c (suc x) hi l (omega arith) r.2)
 
-either : (a b : Bool) → (a || b) ≡ true → (a ≡ true) ⊎ (b ≡ true)
-either true b h = inl refl
-either false b h = inr h
-
 pub in-drop : (c w : ℕ) (l : List ℕ) → In c (drop w l) → In c l
 unfolding member
 in-drop c zero l h = h
@@ -72,7 +69,7 @@ pub in_take : (c w : ℕ) (l : List ℕ) → In c (take w l) → In c l
 unfolding member
 in_take c zero l h = absurd (false≢true h)
 in_take c (suc w) [] h = h
-in_take c (suc w) (x ∷ l) h = ⊎_elim (λ e. rw e) (λ e. rw (in_take c w l e) (or-true (eqb c x))) (either (eqb c x) (member c (take w l)) h)
+in_take c (suc w) (x ∷ l) h = ⊎_elim (λ e. rw e) (λ e. rw (in_take c w l e) (or-true (eqb c x))) (or_cases (eqb c x) (member c (take w l)) h)
 
 -- no number is both in the front and in the back
 pub split-apart : (c w lo hi : ℕ) (l : List ℕ) → Range lo hi l → In c (take w l) → In c (drop w l) → ⊥
@@ -84,7 +81,7 @@ split-apart c (suc w) lo hi (x ∷ l) r h k =
     (λ e. let q : c ≡ x = eqb-true c x e in
     false≢true (sym (memb-below c (suc x) hi (drop w l) (omega arith) (range-drop w (suc x) hi l r.2)) ∙ k))
     (λ e. split-apart c w (suc x) hi l r.2 e k)
-    (either (eqb c x) (member c (take w l)) h)
+    (or_cases (eqb c x) (member c (take w l)) h)
 
 -- every number of the range is there, and no other
 pub memb-up : (c i n : ℕ) → i ≤ c → c < i + n → member c (up_from i n) ≡ true
@@ -103,13 +100,6 @@ memb-first c n = go (ltb c n) refl
     go : (t : Bool) → ltb c n ≡ t → member c (up_from 0 n) ≡ t
     go true e = memb-up c 0 n (omega arith) (omega (arith, ltb-true c n e))
     go false e = memb-past c 0 n (up_from 0 n) (range-up 0 n n (omega arith)) (ltb-false c n e)
-
-pub in-below : (c lo hi : ℕ) (l : List ℕ) → Range lo hi l → In c l → c < hi
-in-below c lo hi l r h = go (ltb c hi) refl
-  where
-    go : (t : Bool) → ltb c hi ≡ t → c < hi
-    go true e = ltb-true c hi e
-    go false e = absurd (false≢true (sym (memb-past c lo hi l r (ltb-false c hi e)) ∙ h))
 
 -- ---- the numbers of a list that pass a test
 

@@ -27,6 +27,7 @@ pub fn lowest(free: u64, width: u32) -> u64
 {
     let mut rest = free;
     let mut wanted = width;
+    // No plainer over `Members`: that gives one core a step, and here a whole run of adjacent cores is taken in one.
     while 0 < wanted && 0 < rest {
         let first = u64::trailing_zeros(rest);
         let run = u64::trailing_zeros(!(rest >> first));

@@ -5,20 +5,13 @@ use judge::Verdict;
 use std::io::{Result, Write};
 
 // A line: the example's name, the verdict's word and its two numbers.
-fn line<W: Write>(out: &mut W, name: &[u8], word: &[u8], first: u32, second: u32) -> Result<()> {
-    out.write_all(name)?;
-    out.write_all(b" ")?;
-    out.write_all(word)?;
-    writeln!(out, " {first} {second}")
-}
-
-fn show<W: Write>(out: &mut W, name: &[u8], words: &[u32]) -> Result<()> {
-    let verdict = judge::by_ticks::judge(words);
-    match verdict {
-        Verdict::Firm(s, p) => line(out, name, b"firm", s, p),
-        Verdict::Full(s, p) => line(out, name, b"full", s, p),
-        Verdict::Miss(tick, position) => line(out, name, b"miss", tick, position),
-        Verdict::Refused(number, position) => line(out, name, b"refused", number, position),
+// No `Display` of `Verdict`: `text::first` writes these bytes for the programs, by its contract, and judge lies below it.
+fn show<W: Write>(out: &mut W, name: &str, words: &[u32]) -> Result<()> {
+    match judge::by_ticks::judge(words) {
+        Verdict::Firm(start, period) => writeln!(out, "{name} firm {start} {period}"),
+        Verdict::Full(start, period) => writeln!(out, "{name} full {start} {period}"),
+        Verdict::Miss(tick, position) => writeln!(out, "{name} miss {tick} {position}"),
+        Verdict::Refused(number, position) => writeln!(out, "{name} refused {number} {position}"),
     }
 }
 
@@ -26,80 +19,80 @@ fn show<W: Write>(out: &mut W, name: &[u8], words: &[u32]) -> Result<()> {
 fn marked<W: Write>(out: &mut W) -> Result<()> {
     show(
         out,
-        b"A",
+        "A",
         &[
             1u32, 3, 1, 0, 0, 2, 0, 2, 2, 5, 5, 2, 3, 0, 2, 3, 5, 5, 2, 0, 0, 1, 4, 5, 5, 1,
         ],
     )?;
     show(
         out,
-        b"A2",
+        "A2",
         &[
             1u32, 3, 2, 0, 0, 2, 0, 2, 2, 5, 5, 2, 3, 0, 2, 3, 5, 5, 2, 0, 0, 1, 4, 5, 5, 1,
         ],
     )?;
     show(
         out,
-        b"A3",
+        "A3",
         &[
             1u32, 3, 3, 0, 0, 2, 0, 2, 2, 5, 5, 2, 3, 0, 2, 3, 5, 5, 2, 0, 0, 1, 4, 5, 5, 1,
         ],
     )?;
     show(
         out,
-        b"A4",
+        "A4",
         &[
             1u32, 3, 4, 0, 0, 2, 0, 2, 2, 5, 5, 2, 3, 0, 2, 3, 5, 5, 2, 0, 0, 1, 4, 5, 5, 1,
         ],
     )?;
     show(
         out,
-        b"B",
+        "B",
         &[
             1u32, 2, 1, 0, 0, 2, 0, 1, 3, 3, 4, 1, 3, 0, 2, 1, 4, 4, 2, 0, 0, 1, 2, 2, 4, 1,
         ],
     )?;
     show(
         out,
-        b"B2",
+        "B2",
         &[
             1u32, 2, 2, 0, 0, 2, 0, 1, 3, 3, 4, 1, 3, 0, 2, 1, 4, 4, 2, 0, 0, 1, 2, 2, 4, 1,
         ],
     )?;
     show(
         out,
-        b"B3",
+        "B3",
         &[
             1u32, 2, 3, 0, 0, 2, 0, 1, 3, 3, 4, 1, 3, 0, 2, 1, 4, 4, 2, 0, 0, 1, 2, 2, 4, 1,
         ],
     )?;
     show(
         out,
-        b"B4",
+        "B4",
         &[
             1u32, 2, 4, 0, 0, 2, 0, 1, 3, 3, 4, 1, 3, 0, 2, 1, 4, 4, 2, 0, 0, 1, 2, 2, 4, 1,
         ],
     )?;
     show(
         out,
-        b"C",
+        "C",
         &[
             1u32, 2, 1, 0, 0, 2, 0, 1, 2, 4, 4, 1, 3, 0, 2, 2, 4, 4, 2, 0, 0, 1, 1, 4, 4, 1,
         ],
     )?;
     show(
         out,
-        b"C2",
+        "C2",
         &[
             1u32, 2, 1, 0, 0, 3, 0, 1, 2, 4, 4, 1, 0, 0, 2, 2, 4, 4, 2, 2, 0, 1, 1, 4, 4, 1,
         ],
     )?;
     show(
         out,
-        b"E",
+        "E",
         &[1u32, 1, 2, 0, 0, 2, 1, 1, 1, 1, 2, 1, 0, 0, 1, 1, 2, 3, 1],
     )?;
-    show(out, b"F", &[1u32, 1, 1, 0, 0, 0, 0, 1, 2, 1, 2, 1])?;
+    show(out, "F", &[1u32, 1, 1, 0, 0, 0, 0, 1, 2, 1, 2, 1])?;
     Ok(())
 }
 
@@ -107,21 +100,21 @@ fn marked<W: Write>(out: &mut W) -> Result<()> {
 fn fenced<W: Write>(out: &mut W) -> Result<()> {
     show(
         out,
-        b"A-fenced",
+        "A-fenced",
         &[
             1u32, 5, 1, 9, 0, 2, 0, 2, 2, 5, 5, 2, 3, 0, 2, 3, 5, 5, 2, 0, 0, 1, 4, 5, 5, 1,
         ],
     )?;
     show(
         out,
-        b"A2-fenced",
+        "A2-fenced",
         &[
             1u32, 5, 2, 9, 0, 2, 0, 2, 2, 5, 5, 2, 3, 0, 2, 3, 5, 5, 2, 0, 0, 1, 4, 5, 5, 1,
         ],
     )?;
     show(
         out,
-        b"A3-fenced-64",
+        "A3-fenced-64",
         &[
             1u32, 64, 3, 2147483647, 2147483646, 2, 0, 2, 2, 5, 5, 2, 3, 0, 2, 3, 5, 5, 2, 0, 0, 1,
             4, 5, 5, 1,
@@ -129,7 +122,7 @@ fn fenced<W: Write>(out: &mut W) -> Result<()> {
     )?;
     show(
         out,
-        b"one-core-left",
+        "one-core-left",
         &[1u32, 64, 2, 4294967295, 2147483647, 0, 0, 1, 1, 1, 1, 1],
     )?;
     Ok(())
@@ -140,32 +133,32 @@ fn fenced<W: Write>(out: &mut W) -> Result<()> {
 fn paired<W: Write>(out: &mut W) -> Result<()> {
     show(
         out,
-        b"odd-and-even",
+        "odd-and-even",
         &[1u32, 4, 1, 0, 0, 2, 0, 4, 1, 2, 2, 2, 0, 0, 2, 1, 2, 2, 2],
     )?;
     show(
         out,
-        b"even-rises",
+        "even-rises",
         &[1u32, 4, 1, 0, 0, 2, 0, 1, 1, 2, 2, 2, 0, 0, 2, 1, 2, 2, 4],
     )?;
     show(
         out,
-        b"even-falls",
+        "even-falls",
         &[1u32, 4, 1, 0, 0, 2, 0, 1, 1, 2, 2, 3, 0, 0, 2, 1, 2, 2, 4],
     )?;
     show(
         out,
-        b"miss-on-the-even-job",
+        "miss-on-the-even-job",
         &[1u32, 2, 1, 0, 0, 2, 0, 1, 1, 1, 1, 1, 0, 0, 1, 1, 1, 1, 2],
     )?;
     show(
         out,
-        b"7-on-even-jobs",
+        "7-on-even-jobs",
         &[1u32, 2, 1, 0, 0, 0, 0, 2, 1, 1, 1, 3],
     )?;
     show(
         out,
-        b"9-by-2T",
+        "9-by-2T",
         &[
             1u32, 2, 1, 0, 0, 2, 0, 1, 1, 1000, 1000, 2, 0, 0, 1, 1, 999999, 999999, 1,
         ],
@@ -177,94 +170,82 @@ fn paired<W: Write>(out: &mut W) -> Result<()> {
 fn others<W: Write>(out: &mut W) -> Result<()> {
     show(
         out,
-        b"D",
+        "D",
         &[
             1u32, 2, 1, 0, 0, 2, 0, 1, 3, 4, 4, 1, 3, 0, 2, 1, 4, 4, 2, 0, 0, 1, 2, 4, 4, 1,
         ],
     )?;
     show(
         out,
-        b"G",
+        "G",
         &[
             1u32, 1, 1, 0, 0, 2, 0, 1, 1, 128, 128, 1, 0, 0, 1, 1, 78125, 78125, 1,
         ],
     )?;
     show(
         out,
-        b"G-offset",
+        "G-offset",
         &[
             1u32, 1, 1, 0, 0, 2, 1, 1, 1, 128, 128, 1, 0, 0, 1, 1, 78125, 78125, 1,
         ],
     )?;
-    show(out, b"H-two-words", &[1u32, 1])?;
-    show(out, b"H-229-words", &[0u32; 229])?;
-    show(out, b"H-236-words", &[0u32; 236])?;
+    show(out, "H-two-words", &[1u32, 1])?;
+    show(out, "H-229-words", &[0u32; 229])?;
+    show(out, "H-236-words", &[0u32; 236])?;
     show(
         out,
-        b"H-cores-and-rule",
+        "H-cores-and-rule",
         &[1u32, 0, 9, 0, 0, 0, 0, 1, 1, 1, 1, 1],
     )?;
     show(
         out,
-        b"H-past-the-last",
+        "H-past-the-last",
         &[2u32, 1, 1, 0, 0, 0, 0, 1, 1, 1, 1, 1],
     )?;
-    show(
-        out,
-        b"H-met-again",
-        &[1u32, 1, 1, 0, 0, 1, 0, 1, 1, 1, 1, 1],
-    )?;
+    show(out, "H-met-again", &[1u32, 1, 1, 0, 0, 1, 0, 1, 1, 1, 1, 1])?;
     Ok(())
 }
 
 // Each number once more, and a position that is not the record's number.
 fn numbers<W: Write>(out: &mut W) -> Result<()> {
-    show(out, b"1-half-a-record", &[1u32, 1, 1, 0, 0, 0, 0, 1])?;
+    show(out, "1-half-a-record", &[1u32, 1, 1, 0, 0, 0, 0, 1])?;
+    show(out, "2-65-cores", &[1u32, 65, 1, 0, 0, 0, 0, 1, 1, 1, 1, 1])?;
+    show(out, "3-rule-5", &[1u32, 1, 5, 0, 0, 0, 0, 1, 1, 1, 1, 1])?;
     show(
         out,
-        b"2-65-cores",
-        &[1u32, 65, 1, 0, 0, 0, 0, 1, 1, 1, 1, 1],
-    )?;
-    show(out, b"3-rule-5", &[1u32, 1, 5, 0, 0, 0, 0, 1, 1, 1, 1, 1])?;
-    show(
-        out,
-        b"19-all-cores",
+        "19-all-cores",
         &[1u32, 5, 1, 31, 0, 0, 0, 1, 1, 1, 1, 1],
     )?;
     show(
         out,
-        b"19-past-the-count",
+        "19-past-the-count",
         &[1u32, 5, 1, 32, 0, 0, 0, 1, 1, 1, 1, 1],
     )?;
     show(
         out,
-        b"19-second-word",
+        "19-second-word",
         &[1u32, 33, 1, 0, 2, 0, 0, 1, 1, 1, 1, 1],
     )?;
+    show(out, "19-before-4", &[0u32, 1, 1, 1, 0, 0, 0, 1, 1, 1, 1, 1])?;
+    show(out, "4-no-head", &[0u32, 1, 1, 0, 0, 0, 0, 1, 1, 1, 1, 1])?;
     show(
         out,
-        b"19-before-4",
-        &[0u32, 1, 1, 1, 0, 0, 0, 1, 1, 1, 1, 1],
-    )?;
-    show(out, b"4-no-head", &[0u32, 1, 1, 0, 0, 0, 0, 1, 1, 1, 1, 1])?;
-    show(
-        out,
-        b"7-at-2",
+        "7-at-2",
         &[2u32, 2, 1, 0, 0, 0, 0, 3, 0, 1, 1, 3, 1, 0, 1, 1, 1, 1, 1],
     )?;
     show(
         out,
-        b"7-by-the-fence",
+        "7-by-the-fence",
         &[1u32, 5, 1, 25, 0, 0, 0, 3, 1, 1, 1, 3],
     )?;
     show(
         out,
-        b"8-at-1",
+        "8-at-1",
         &[2u32, 2, 1, 0, 0, 0, 0, 0, 1, 1, 1, 0, 1, 0, 1, 0, 1, 1, 1],
     )?;
     show(
         out,
-        b"miss-at-2",
+        "miss-at-2",
         &[2u32, 1, 1, 0, 0, 0, 0, 1, 2, 2, 2, 1, 1, 0, 1, 1, 2, 2, 1],
     )?;
     Ok(())

@@ -2,7 +2,7 @@
 use mathlib.Core.List.{List}
 use mathlib.Core.Path.{◌≡◌, ap, refl, subst, sym, ◌∙◌}
 use Prim.Native.Nat.{ℕ}
-use native.Mathlib.Omega.{arith}
+use Rattle.model.proofs.Refusals.{taken_refused}
 use Rattle.model.specs.Refusals as book
 use Rattle.model.specs.Task.{Table}
 use Rattle.table.proofs.Exact.{passed-exact, refusal-exact}
@@ -25,9 +25,6 @@ use Rattle.interference.specs.Bounds.{Bounds}
 use Rattle.interference.specs.Bounds.{Tested}
 use Rattle.interference.specs.Bounds.{BoundsOf, answered, bounds_by, bounds_of, tested_in, tested_of}
 use Rattle.interference.proofs.Passing.{tested-promise}
-
-taken_refused : {n p : ℕ} → book.taken ≡ book.refused n p → ⊥
-taken_refused e = let z : ◌≡◌ {A = ℕ} 0 1 = cc in omega arith
 
 module _ (ws : List ℕ) where
   abbrev s : Table

@@ -10,7 +10,7 @@ use lib.ListN.{get_or}
 use borrow.Author.Tests.{le-leb, le-ltb, lt-ltb}
 use Rattle.model.specs.Interference.{bound_from, first_window, interference_in, most_halvings, most_tries, need, next_window, shortened_window, suffices, waits_in}
 use Rattle.model.specs.Task.{Table, task}
-use Rattle.model.proofs.Bools.{not-true-false}
+use Rattle.std.proofs.lemmas.Bool.{false_from_ne_true}
 use Rattle.model.proofs.Interference.{suffices-short}
 use Rattle.model.proofs.Tries.{Between, between_first, between-longer, between-shorter, first-most, met}
 
@@ -99,7 +99,7 @@ module _ (s : Table) (ends : List ℕ) (p : ℕ) where
   pub too_long : D < C → D + 1 ≡ first_window s e p most_tries C
   too_long past =
       add-one D
-      ∙ sym (one-try 20 C ∙ rw (not-true-false (suffices s e p C) (λ q. omega (arith, suffices-short s e p C q)), le-ltb C D (omega arith)) refl)
+      ∙ sym (one-try 20 C ∙ rw (false_from_ne_true (suffices s e p C) (λ q. omega (arith, suffices-short s e p C q)), le-ltb C D (omega arith)) refl)
 
   -- HALVINGS: the bound sought is what the halvings that are left find between these two
   pub record Halving (tries low high : ℕ) : Type 0 where

@@ -8,7 +8,7 @@ ghost use Rattle.interference.specs.Bounds.{BoundsOf, TestedOf, answered, tested
 
 use model::{MOST_TASKS, Refusal};
 use search::Search;
-use table::Loaded;
+use table::{Fitting, Loaded};
 
 mod search; // search.rt: the window of a place
 mod workload; // workload.rt: the interference on a place
@@ -62,6 +62,6 @@ pub fn test(table: Loaded) -> Option<[u32; MOST_TASKS]>
 pub fn response_bounds(words: &[u32]) -> Result<Option<[u32; MOST_TASKS]>, Refusal>
     ensures { BoundsOf words.now (answered result) }
 {
-    let table = table::load(words)?;
-    Ok(test(table))
+    let fitting = Fitting::load(words)?;
+    Ok(test(fitting.loaded))
 }

@@ -6,7 +6,6 @@ ghost use Rattle.table.specs.Limits.{most_time};
 ghost use Rattle.table.specs.Fit.{loaded_table, Fit};
 ghost use Rattle.interference.specs.Bounds.{Above, Sought};
 
-use crate::workload;
 use model::MOST_TASKS;
 use table::Loaded;
 
@@ -41,7 +40,7 @@ impl Search {
         ensures { result ≡ suffices (loaded_table self.now.table) (λ i. get_or self.now.ends i 0) self.now.place window }
     {
         let waits = window + 1 - self.table.tasks[self.place].length;
-        let given = workload::interference_in(self.table, self.ends, self.place, window, waits);
+        let given = self.interference_in(window, waits);
         given < waits as u64 * self.wanted as u64
     }
 
@@ -85,6 +84,8 @@ impl Search {
     }
 
     // The window of the place: one that passes, or one more than its deadline where none is found.
+    // No Option: `bound_from` of model/specs/Interference gives that number, and `test` asks only if it is too large.
+    // Not one bisection with slack's: this range has its lower end, as `bound_from` says, and slack's has not.
     pub(crate) fn bound(&self) -> u32
         ensures { result ≡ bound_from (loaded_table self.now.table) (λ i. get_or self.now.ends i 0) self.now.place }
     {

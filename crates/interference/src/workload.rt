@@ -3,11 +3,11 @@ ghost use Rattle.std.specs.Prelude.{◌≡◌, ◌+◌, ◌*◌, ◌≤◌, min,
 ghost use Rattle.model.specs.Interference.{cores_in, interference_in};
 ghost use Rattle.table.specs.Limits.{most_time};
 ghost use Rattle.table.specs.Task.{task_of};
-ghost use Rattle.table.specs.Fit.{loaded_table, Fit};
-ghost use Rattle.interference.specs.Bounds.{Above, most_cores_in, most_interference, most_span};
+ghost use Rattle.table.specs.Fit.{loaded_table};
+ghost use Rattle.interference.specs.Bounds.{most_cores_in, most_interference, most_span};
 
-use model::MOST_TASKS;
-use table::{Loaded, Task};
+use crate::search::Search;
+use table::Task;
 
 // In how many ticks jobs of this length are given cores at most, where `whole` jobs are in the window and `rest` ticks of one more.
 fn ticks_of(length: u32, whole: u32, rest: u32) -> u32
@@ -38,21 +38,17 @@ fn cores_in(task: Task, end: u32, window: u32, waits: u32) -> u64
     sum + (wide - narrow) as u64 * second as u64
 }
 
-// How many cores the places above one are given at most in `waits` ticks of a window, summed over the ticks.
-// By one index, since the bounds above are found one after another.
-pub(crate) fn interference_in(
-    table: Loaded,
-    ends: [u32; MOST_TASKS],
-    place: usize,
-    window: u32,
-    waits: u32,
-) -> u64
-    requires { Fit table × (place ≤ table.count) × Above table ends place × (window ≤ most_time) × (waits ≤ most_time) }
-    ensures { (result ≡ interference_in (loaded_table table) (λ i. get_or ends i 0) place window waits) × (result ≤ most_interference) }
-{
-    let mut sum: u64 = 0;
-    for i in 0..place {
-        sum += cores_in(table.tasks[i], ends[i], window, waits);
+impl Search {
+    // How many cores the places above its own are given at most in `waits` ticks of a window, summed over the ticks.
+    // By one index, since the bounds above are found one after another.
+    pub(crate) fn interference_in(&self, window: u32, waits: u32) -> u64
+        requires { (window ≤ most_time) × (waits ≤ most_time) }
+        ensures { (result ≡ interference_in (loaded_table self.now.table) (λ i. get_or self.now.ends i 0) self.now.place window waits) × (result ≤ most_interference) }
+    {
+        let mut sum: u64 = 0;
+        for i in 0..self.place {
+            sum += cores_in(self.table.tasks[i], self.ends[i], window, waits);
+        }
+        sum
     }
-    sum
 }

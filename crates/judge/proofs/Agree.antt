@@ -7,7 +7,7 @@ use Prim.Native.Nat.{ℕ}
 use Rattle.model.specs.Refusals as book
 use Rattle.model.specs.Task.{Table}
 use Rattle.model.specs.Verdict as model
-use Rattle.model.proofs.Bools.{not-true-false}
+use Rattle.std.proofs.lemmas.Bool.{false_from_ne_true}
 use Rattle.table.specs.Load.{load_meaning}
 use Rattle.judge.specs.declared.Verdict.{Verdict}
 use Rattle.judge.specs.FirstMiss.{Missed}
@@ -46,4 +46,4 @@ pub miss-fails :
     → verdict_meaning v ≡ judged (model.Miss t p) → r.tested.met ≡ false
 miss-fails ws r b passed v j t p e =
     let first = ((j.miss t p).0 e).1 in
-    not-true-false r.tested.met (λ met. (b.tested passed).meets met first.place.0 t first.missed)
+    false_from_ne_true r.tested.met (λ met. (b.tested passed).meets met first.place.0 t first.missed)

@@ -23,7 +23,7 @@ use Rattle.std.specs.Prelude.{Result, Ok, Err}
 use Rattle.model.specs.declared.refusal.Refusal.{Refusal}
 use Rattle.model.specs.Refusal.{number_of, position_of}
 use Rattle.table.proofs.Exact.{refusal-exact, passed-exact}
-use Rattle.table.proofs.Passed.{passed-rule, passed-valid}
+use Rattle.table.proofs.Passed.{passed-rule, passed-valid, rule-of}
 use Rattle.table.proofs.Fit.{fit, same-table}
 use Rattle.judge.specs.declared.Verdict.{Verdict}
 use Rattle.judge.specs.declared.Verdict.TheVariants.{Firm, Full, Miss, Refused}
@@ -43,6 +43,7 @@ meaning-case (judged (model.Full a b)) = refl
 meaning-case (judged (model.Miss a b)) = refl
 meaning-case (meaning.refused n p) = refl
 
+-- (a law of the two definitions alone, which JudgeAnswer states: nothing else cites it)
 pub case-meaning : (v : Verdict) → verdict_case (verdict_meaning v) ≡ v
 case-meaning (Firm a b) = refl
 case-meaning (Full a b) = refl
@@ -57,10 +58,6 @@ not-refused : {v : model.Verdict} {n p : ℕ} → judged v ≡ meaning.refused n
 not-refused e = let z : ◌≡◌ {A = ℕ} 0 1 = cc in omega arith
 
 -- THE CONDITION FOR FIRM, by the rule's number
-
-rule-of : (ws : List ℕ) (n : ℕ) → rule ws ≡ n → (table_of ws).rule ≡ rule_of n
-unfolding table_of
-rule-of ws n e = ap rule_of e
 
 pub firm-words : (ws : List ℕ) → NoneApplies ws → FirmRule (table_of ws) ↔ FirmWords ws
 firm-words ws none = (says, found)

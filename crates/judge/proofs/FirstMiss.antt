@@ -11,7 +11,7 @@ use Rattle.model.specs.Horizon.{last_s, hyperperiod, horizon}
 use Rattle.model.specs.Firm.{firm}
 use Rattle.model.specs.Verdict.{FirstMiss, missed_at, missed_in, first_miss, verdict}
 use Rattle.model.specs.Verdict as model
-use Rattle.model.proofs.Bools.{not-true-false}
+use Rattle.std.proofs.lemmas.Bool.{false_from_ne_true}
 use Rattle.model.proofs.Search.{any_of, none_any, least-is}
 use Rattle.model.proofs.Faithful.{missed-exact, missed-in-exact}
 use Rattle.table.specs.declared.Loaded.{Loaded}
@@ -30,7 +30,7 @@ module _ (s : Table) (ok : AllValid s) where
 
   -- where it is not missed, the test is false
   met-in : (t : ℕ) → ((p : ℕ) → ¬ Missed s p t) → missed_in s t ≡ false
-  met-in t met = not-true-false (missed_in s t) (λ e. let x = (missed-in-exact s ok t).0 e in met x.0 x.1)
+  met-in t met = false_from_ne_true (missed_in s t) (λ e. let x = (missed-in-exact s ok t).0 e in met x.0 x.1)
 
   -- where every deadline before b is met, none is found
   pub none-missed : (b : ℕ) → ((p t : ℕ) → t < b → ¬ Missed s p t) → any b (missed_in s) ≡ false
@@ -52,7 +52,7 @@ module _ (s : Table) (ok : AllValid s) where
       least-is b (missed_in s) t h ((missed-in-exact s ok t).1 (q, f.missed)) (λ u l. met-in u (λ x. f.no-earlier x u l)) in
       let place : least (length s.tasks) (missed_at s t) ≡ q =
       least-is (length s.tasks) (missed_at s t) q below ((missed-exact s ok t q below).1 f.missed)
-      (λ x l. not-true-false (missed_at s t x) (λ e. f.no-higher x l ((missed-exact s ok t x (omega arith)).0 e))) in
+      (λ x l. false_from_ne_true (missed_at s t x) (λ e. f.no-higher x l ((missed-exact s ok t x (omega arith)).0 e))) in
       rw (some, tick, place, f.place.1)
 
   -- what is found meets its contract

@@ -2,17 +2,17 @@
 use native.Mathlib.Numerals.{add-one}
 use native.Mathlib.Omega.{arith}
 use mathlib.Core.Path.{◌≡◌, refl, sym, ap, ◌∙◌, subst₂}
-use mathlib.Core.Bool.{Bool, true, false, ◌&&◌, false≢true}
+use mathlib.Core.Bool.{Bool, true}
+use mathlib.Core.Logic.{◌⊎◌, inl, inr}
 use mathlib.Core.List.{List, map}
 use Rattle.std.specs.Prelude.{◌↔◌}
 use Prim.Native.Nat.{ℕ, zero, suc, ◌+◌, ◌≤◌, ◌<◌, max, min}
-use lib.Dec.{leb}
 use lib.ListN.{length, get_or, get_or-map, length-map}
 use Rattle.model.specs.Task.{narrowest, absent_task, rule_of, widest}
 use Rattle.model.specs.Task as model
 use Rattle.model.specs.Firm.{ParallelismMonotonic, parallelism_monotonic, firm}
-use borrow.Author.Tests.{leb-true, ne_eqb}
-use Rattle.model.proofs.Bools.{and_left, and_right, same_test}
+use borrow.Author.Tests.{ne_eqb}
+use Rattle.std.specs.Cmp.{both_ways}
 use Rattle.model.proofs.Verdict.{monotonic-exact}
 use Rattle.table.specs.declared.Task.{Task}
 use Rattle.table.specs.Task.{no_task, task_of}
@@ -28,7 +28,7 @@ narrowest_at tasks p = min (get_or tasks p no_task).width (get_or tasks p no_tas
 pub monotonic-known :
     (tasks : List Task) (r : Bool) → (r ≡ true) ↔ ((p : ℕ) → p + 1 < length tasks → widest_at tasks p ≤ narrowest_at tasks (p + 1))
     → r ≡ parallelism_monotonic (map task_of tasks)
-monotonic-known tasks r h = same_test r (parallelism_monotonic τs) (λ e. exact.1 (rises (h.0 e))) (λ e. h.1 (risen (exact.0 e)))
+monotonic-known tasks r h = both_ways r (parallelism_monotonic τs) (λ e. exact.1 (rises (h.0 e))) (λ e. h.1 (risen (exact.0 e)))
   where
     τs : List model.Task
     τs = map task_of tasks
@@ -54,21 +54,16 @@ monotonic-known tasks r h = same_test r (parallelism_monotonic τs) (λ e. exact
         subst₂ (λ (a b : ℕ). a ≤ b) (wide p) (narrow (suc p) ∙ ap (narrowest_at tasks) (sym (add-one p))) (g p inside)
 
 -- FIRM by the rule's number: 2, 3 and 4 are, any other where widths never fall
-pub firm-numbers : (n : ℕ) (τs : List model.Task) → leb 2 n && leb n 4 ≡ true → firm (rule_of n) τs ≡ true
+pub firm-numbers : (n : ℕ) (τs : List model.Task) → 2 ≤ n → n < 5 → firm (rule_of n) τs ≡ true
 unfolding firm
-firm-numbers n τs e = go n (leb-true 2 n (and_left (leb 2 n) (leb n 4) e)) (leb-true n 4 (and_right (leb 2 n) (leb n 4) e))
-  where
-    go : (n : ℕ) → 2 ≤ n → n ≤ 4 → firm (rule_of n) τs ≡ true
-    go zero a b = absurd (omega arith)
-    go (suc zero) a b = absurd (omega arith)
-    go (suc (suc zero)) a b = refl
-    go (suc (suc (suc zero))) a b = refl
-    go (suc (suc (suc (suc zero)))) a b = refl
-    go (suc (suc (suc (suc (suc n))))) a b = absurd (omega arith)
+firm-numbers zero τs a b = absurd (omega arith)
+firm-numbers (suc zero) τs a b = absurd (omega arith)
+firm-numbers (suc (suc zero)) τs a b = refl
+firm-numbers (suc (suc (suc zero))) τs a b = refl
+firm-numbers (suc (suc (suc (suc zero)))) τs a b = refl
+firm-numbers (suc (suc (suc (suc (suc n))))) τs a b = absurd (omega arith)
 
-pub firm-others : (n : ℕ) (τs : List model.Task) → leb 2 n && leb n 4 ≡ false → firm (rule_of n) τs ≡ parallelism_monotonic τs
+pub firm-others : (n : ℕ) (τs : List model.Task) → (n < 2) ⊎ (5 ≤ n) → firm (rule_of n) τs ≡ parallelism_monotonic τs
 unfolding firm
-firm-others n τs e = rw (ne_eqb n 2 (λ q. none 2 q refl), ne_eqb n 3 (λ q. none 3 q refl), ne_eqb n 4 (λ q. none 4 q refl))
-  where
-    none : (k : ℕ) → n ≡ k → leb 2 k && leb k 4 ≡ true → ⊥
-    none k q t = false≢true (sym e ∙ (ap (λ (i : ℕ). leb 2 i && leb i 4) q ∙ t))
+firm-others n τs (inl l) = rw (ne_eqb n 2 (λ q. omega arith), ne_eqb n 3 (λ q. omega arith), ne_eqb n 4 (λ q. omega arith))
+firm-others n τs (inr l) = rw (ne_eqb n 2 (λ q. omega arith), ne_eqb n 3 (λ q. omega arith), ne_eqb n 4 (λ q. omega arith))

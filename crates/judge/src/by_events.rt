@@ -2,53 +2,44 @@
 ghost use Rattle.std.specs.Prelude.{◌+◌, ◌≤◌};
 ghost use Rattle.table.specs.declared.Loaded.{Loaded};
 ghost use Rattle.table.specs.Fit.{Fit};
-ghost use Rattle.simulation.specs.TickState.{numbers_by};
+ghost use Rattle.simulation.specs.TickState.{numbers_of};
 ghost use Rattle.simulation.specs.EventState.{event_state_of};
 ghost use Rattle.judge.specs.FirstMiss.{MissedByJumps, miss_of};
 ghost use Rattle.judge.specs.Judged.{Judged};
 ghost use Rattle.judge.specs.RunOn.{JumpsBegin, JumpsRun};
 
-use crate::{Miss, Verdict};
+use crate::{Miss, Ran, Verdict};
 use model::sets::Members;
-use rule::PAIR;
 use simulation::TRIPLE;
-use simulation::columns::Setting;
+use simulation::columns::Columns;
 use simulation::events::Registers;
 use table::Loaded;
 
-// The run where it has stopped, and the first deadline missed, or none.
-#[derive(Clone, Copy)]
-pub struct Ran {
-    pub registers: Registers,
-    pub missed: Option<Miss>,
-}
-
 // The full-length run from an event on, to the first event at tick `end` or later, or to the first deadline that it misses before `end`. All that goes from
 // event to event in a program goes through this loop: it is the only one that calls `jump`, which is then compiled into it.
+// Not one function with that of ticks: by_ticks.rt says why.
+// It asks for some table whose run reaches the state: a struct with a ghost table would ask more of callers.
 pub fn run_on(
-    setting: Setting,
-    widths: &[u32; PAIR],
-    times: &[u32; TRIPLE],
+    columns: &Columns,
     start: Registers,
     places: &mut [u32; TRIPLE],
     end: u32,
-) -> Ran
-    requires { (t : Loaded) × JumpsBegin t (numbers_by setting widths.now times.now) (event_state_of start places.old) end }
-    ensures { JumpsRun (numbers_by setting widths.now times.now) (event_state_of start places.old) end
-        (miss_of result.missed) (event_state_of result.registers places.new) }
+) -> Ran<Registers>
+    requires { (t : Loaded) × JumpsBegin t (numbers_of columns.now) (event_state_of start places.old) end }
+    ensures { JumpsRun (numbers_of columns.now) (event_state_of start places.old) end (miss_of result.missed) (event_state_of result.registers places.new) }
 {
     let mut registers = start;
     'jumps: loop {
         if end <= registers.tick {
             break 'jumps Ran {
-                registers: registers,
+                registers,
                 missed: None,
             };
         }
         for place in Members::from(registers.claiming & registers.due) {
             if 0 < places[place] {
                 break 'jumps Ran {
-                    registers: registers,
+                    registers,
                     missed: Some(Miss {
                         tick: registers.tick,
                         position: place as u32 + 1,
@@ -56,30 +47,21 @@ pub fn run_on(
                 };
             }
         }
-        registers = simulation::events::jump(setting, widths, times, registers, places);
+        registers = simulation::events::jump(columns, registers, places);
     }
 }
 
 // The first deadline that the full-length run misses before tick `end`, at equal ticks the first in priority.
+// Four calls, of the events' own start and loop, which tests/outside/event-judge reads here.
+// Table and end apart: the function is public, and `judge_by` takes it as it is.
 pub fn first_miss(table: Loaded, end: u32) -> Option<Miss>
     requires { Fit table × (end ≤ table.horizon + 1) }
     ensures { MissedByJumps table end (miss_of result) }
 {
     let columns = simulation::columns::columns_of(table);
-    let setting = columns.setting;
-    let widths = columns.widths;
-    let times = columns.times;
     let machine = simulation::events::start(table);
     let mut places = machine.places;
-    let ran = run_on(
-        setting,
-        &widths,
-        &times,
-        machine.registers,
-        &mut places,
-        end,
-    );
-    ran.missed
+    run_on(&columns, machine.registers, &mut places, end).missed
 }
 
 // The verdict on a table's words, by this way.

@@ -7,9 +7,6 @@ use table::{Loaded, Task};
 // The sample of ticks in which events and work are counted.
 const SAMPLE: u32 = 1_000_000;
 
-// The same in 64 bits.
-const TICKS: u64 = SAMPLE as u64;
-
 // The cost of a job for the event judge, in ticks of one job's work, as measured: where its deadline is the next release (implicit deadline) ..
 const IMPLICIT_DEADLINE: u32 = 16;
 
@@ -58,5 +55,5 @@ pub(crate) fn ticks_cheaper(table: Loaded) -> bool
         work += tick_cost(*task);
         events += event_cost(*task) as u64;
     }
-    TICKS + work <= events
+    u64::from(SAMPLE) + work <= events
 }

@@ -9,6 +9,7 @@ use crate::Miss;
 use table::Loaded;
 
 // The first deadline that the full-length run misses before tick `end`, at equal ticks the first in priority.
+// Table and end apart: the function is public, and `judge_by` takes it as it is.
 pub fn first_miss(table: Loaded, end: u32) -> Option<Miss>
     requires { Fit table × (end ≤ table.horizon + 1) }
     ensures { MissedOf (loaded_table table) end (miss_of result) }

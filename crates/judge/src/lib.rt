@@ -1,16 +1,15 @@
 // The verdict on a table's words, from its full-length run: tick by tick, event by event, or by the fastest way.
 #![tactic(auto)]
 
-ghost use Rattle.std.specs.Prelude.{◌≡◌, ◌+◌, suc, ◌≤◌, max, min};
+ghost use Rattle.std.specs.Prelude.{◌≡◌, ◌+◌, suc, ◌≤◌, map, max, min};
 ghost use Rattle.model.specs.Task.{rule_of};
 ghost use Rattle.model.specs.Firm.{parallelism_monotonic, firm};
 ghost use Rattle.model.specs.Sizes.{most_tasks};
-ghost use Rattle.table.specs.Task.{tasks_of};
+ghost use Rattle.table.specs.Task.{task_of};
 ghost use Rattle.table.specs.Fit.{loaded_table, Fit};
 ghost use Rattle.judge.specs.FirstMiss.{FindsFirstMiss, missed_before, miss_of, by_miss};
 ghost use Rattle.judge.specs.Judged.{Judged, accepted_of};
 
-use model::MOST_TASKS;
 use table::{Loaded, Task};
 
 pub mod by_events; // by_events.rt: the first miss, from event to event
@@ -19,7 +18,7 @@ mod cost; // cost.rt: which of the two is the faster one for a table
 pub mod fastest; // fastest.rt: the first miss, by the interference test or by the faster of the two
 
 // The judge's answer: Firm with S and P, Full with S and P, Miss with tick and position, or Refused with number and position.
-// No Result: the first line of an output is made of any of the four, with any two numbers in a refusal (`first_line`).
+// No Result: docs/SCOPE.md names this enum, whose cases carry S and P, tick and position, or number and position.
 #[derive(Clone, Copy)]
 pub enum Verdict {
     Firm(u32, u32),
@@ -35,7 +34,15 @@ pub struct Miss {
     pub position: u32,
 }
 
+// A run where it has stopped, by ticks or by events, and the first deadline missed, or none.
+#[derive(Clone, Copy)]
+pub struct Ran<R> {
+    pub registers: R,
+    pub missed: Option<Miss>,
+}
+
 // The larger of a task's two widths.
+// Stays over the library's max: a public function of a crate that docs/ names as something to use (docs/PROOFS.md).
 pub fn wider(a: u32, b: u32) -> u32
     ensures { result ≡ max a b }
 {
@@ -43,43 +50,43 @@ pub fn wider(a: u32, b: u32) -> u32
 }
 
 // The smaller of a task's two widths.
+// Stays over the library's min, as `wider` does.
 pub fn narrower(a: u32, b: u32) -> u32
     ensures { result ≡ min a b }
 {
     a.min(b)
 }
 
-// Whether widths never fall along the first `count` tasks: the larger of each is at most the smaller of the next.
-fn parallelism_monotonic(tasks: [Task; MOST_TASKS], count: usize) -> bool
-    requires { count ≤ most_tasks }
-    ensures { result ≡ parallelism_monotonic (tasks_of tasks count) }
+// Whether widths never fall along the tasks: the larger of each is at most the smaller of the next.
+fn parallelism_monotonic(tasks: &[Task]) -> bool
+    ensures { result ≡ parallelism_monotonic (map task_of tasks.now) }
 {
-    tasks[..count].windows(2).all(|pair| {
+    tasks.windows(2).all(|pair| {
         let above = &pair[0];
         let here = &pair[1];
         wider(above.width, above.second) <= narrower(here.width, here.second)
     })
 }
 
-// Whether the rule and the widths of the first `count` tasks are firm, that is predictable for shorter jobs too: rules 2, 3 and 4, and any other where widths
-// never fall. The verdict tests it of a table, number 21 of a run.
-pub fn is_firm(rule: u32, tasks: [Task; MOST_TASKS], count: usize) -> bool
-    requires { count ≤ most_tasks }
-    ensures { result ≡ firm (rule_of rule) (tasks_of tasks count) }
+// Whether the rule and the widths of the tasks are firm, that is predictable for shorter jobs too: rules 2, 3 and 4, and any other where widths never fall.
+// The verdict tests it of a table, number 21 of a run. The rule is a number, since it answers for every number.
+// No plainer with an enum: the rule comes as the number that public functions take; it would be made for this test.
+pub fn is_firm(rule: u32, tasks: &[Task]) -> bool
+    ensures { result ≡ firm (rule_of rule) (map task_of tasks.now) }
 {
-    if (2 <= rule) & (rule <= 4) {
-        return true;
+    match rule {
+        2..=4 => true,
+        _ => parallelism_monotonic(tasks),
     }
-    parallelism_monotonic(tasks, count)
 }
 
 // The verdict on a table that misses no deadline.
+// The count has a clause, here and in verdict_by: a `Fitting` would ask more of callers, who judge any 32 tasks.
 pub fn accepted(table: Loaded) -> Verdict
     requires { table.count ≤ most_tasks }
     ensures { result ≡ accepted_of table }
 {
-    let tasks = table.tasks;
-    if is_firm(table.rule, tasks, table.count) {
+    if is_firm(table.rule, &table.tasks[..table.count]) {
         return Verdict::Firm(table.start, table.period);
     }
     Verdict::Full(table.start, table.period)

@@ -9,7 +9,8 @@ use native.Mathlib.Omega.{arith}
 use lib.Dec.{eqb, leb, ltb}
 use lib.ListN.{length, replicate}
 use borrow.Author.Tests.{eq-eqb, eqb-true, le-leb, le-ltb, leb-false, leb-true, lt-ltb, ltb-false, ltb-true, not-true}
-use Rattle.model.proofs.Bools.{and_both, and_left, and_right, not-true-false}
+use Rattle.model.proofs.Bools.{and_both, and_left, and_right}
+use Rattle.std.proofs.lemmas.Bool.{false_from_ne_true}
 use Rattle.model.proofs.Digits.{bit_high}
 use Rattle.model.proofs.FullLength.{late-job}
 use Rattle.model.proofs.Jobs.{after-release, before-due, mk, newest-is}
@@ -56,16 +57,16 @@ claims-exact s ok b p l = (
 
 -- a job does not claim at its deadline or later, whatever its line
 pub no-claim-when-due : (r : Rule) (τ : Task) (k t : ℕ) (j : Job) → due τ k ≤ t → claims r τ k t j ≡ false
-no-claim-when-due r τ k t j h = not-true-false (claims r τ k t j) (λ e. let l = before-due r τ k t j e in omega arith)
+no-claim-when-due r τ k t j h = false_from_ne_true (claims r τ k t j) (λ e. let l = before-due r τ k t j e in omega arith)
 
 -- nor before its release
 pub no-claim-before : (r : Rule) (τ : Task) (k t : ℕ) (j : Job) → t < release τ k → claims r τ k t j ≡ false
-no-claim-before r τ k t j h = not-true-false (claims r τ k t j) (λ e. let l = after-release r τ k t j e in omega arith)
+no-claim-before r τ k t j h = false_from_ne_true (claims r τ k t j) (λ e. let l = after-release r τ k t j e in omega arith)
 
 -- SEARCHES
 
 -- the number of a job is at most the tick that it is due
-job-number : (τ : Task) (k t : ℕ) → ValidTask τ → due τ k ≤ t → k < suc t
+pub job-number : (τ : Task) (k t : ℕ) → ValidTask τ → due τ k ≤ t → k < suc t
 job-number τ k t ok h = omega (arith, mul-le-mul_left k (le_trans ok.deadline-pos ok.constrained), mul-one k)
 
 -- a place is late exactly if some job of it, of any number, has r + D at or before t and has not ended

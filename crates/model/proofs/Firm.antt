@@ -8,7 +8,7 @@ use native.Mathlib.Omega.{arith}
 use lib.Dec.{ltb}
 use lib.ListN.{length, replicate}
 use borrow.Author.Tests.{ltb-true}
-use Rattle.model.proofs.Bools.{not-false-true, not-true-false}
+use Rattle.std.proofs.lemmas.Bool.{false_from_ne_true, true_from_ne_false}
 use Rattle.model.proofs.FullLength.{full-length, late-job}
 use Rattle.model.proofs.Lending.{not-lending}
 use Rattle.model.proofs.Runs.{full-stays, missed-at}
@@ -36,13 +36,13 @@ module _ (s : Table) (ok : AllValid s) (firmly : FirmRule s) (accepted : NeverMi
   met-due xs p k l h =
       let d = le_dest h in
       let met : ((full s (due (task s p) k)).job p k).ended ≡ true =
-      not-false-true ((full s (due (task s p) k)).job p k).ended (λ o. accepted p (due (task s p) k) (missed-at s p (due (task s p) k) k l refl o)) in
+      true_from_ne_false ((full s (due (task s p) k)).job p k).ended (λ o. accepted p (due (task s p) k) (missed-at s p (due (task s p) k) k l refl o)) in
       finished s ok firmly xs p k l
       (subst (λ (n : ℕ). ((full s n).job p k).ended ≡ true) d.1 (full-stays s (due (task s p) k) d.0 p k met))
 
   -- so no task is late
   none-late : (xs : List Entry) → ltb (first_late s (book s xs)) (length s.tasks) ≡ false
-  none-late xs = not-true-false (ltb (first_late s (book s xs)) (length s.tasks)) (λ e.
+  none-late xs = false_from_ne_true (ltb (first_late s (book s xs)) (length s.tasks)) (λ e.
       let l = ltb-true (first_late s (book s xs)) (length s.tasks) e in
       let x = late-job s (book s xs) (first_late s (book s xs)) (least-found (length s.tasks) (late s (book s xs)) l) in
       true≢false (sym (met-due xs (first_late s (book s xs)) x.0 l x.1) ∙ x.2))

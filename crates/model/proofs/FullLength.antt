@@ -8,7 +8,8 @@ use native.Mathlib.Omega.{arith}
 use lib.Dec.{leb, ltb}
 use lib.ListN.{length, replicate}
 use borrow.Author.Tests.{le-ltb, leb-true, not-true}
-use Rattle.model.proofs.Bools.{and_left, and_right, not-true-false}
+use Rattle.model.proofs.Bools.{and_left, and_right}
+use Rattle.std.proofs.lemmas.Bool.{false_from_ne_true}
 use Rattle.model.proofs.Jobs.{mk, next}
 use Rattle.model.proofs.Runs.{full-fresh, full-next, full-stays, full-tick, full-whole, full-withdrawn, missed-at, still-advance}
 use Rattle.model.proofs.Search.{any_some, least-none, none_any}
@@ -67,7 +68,7 @@ late-missed s t p l h =
       due (task s p) x.0,
       d,
       missed-at s p (due (task s p) x.0) x.0 l refl
-          (not-true-false ((full s (due (task s p) x.0)).job p x.0).ended (λ e.
+          (false_from_ne_true ((full s (due (task s p) x.0)).job p x.0).ended (λ e.
           true≢false (sym (full-stays s (due (task s p) x.0) y.0 p x.0 e)
           ∙ subst (λ (n : ℕ). ((full s n).job p x.0).ended ≡ false) (sym y.1) x.2))),
     )
@@ -80,7 +81,7 @@ unfolding full
 full-length s n h = go_on s n 0 (λ t p g l. no_places t p (omega arith) l) ∙ ap (full s) (zero-add n)
   where
     no_places : (t p : ℕ) → t < n → p < length s.tasks → late s (full s t) p ≡ false
-    no_places t p g l = not-true-false (late s (full s t) p) (λ e. let x = late-missed s t p l e in h p x.0 (omega arith) x.2)
+    no_places t p g l = false_from_ne_true (late s (full s t) p) (λ e. let x = late-missed s t p l e in h p x.0 (omega arith) x.2)
 
 -- PAST A MISS the book of empty sets stays: it is always the full-length run at its own tick
 
@@ -160,7 +161,7 @@ pub long-misses :
     (s : Table) (p : ℕ) → p < length s.tasks → (task s p).deadline < (task s p).length → (k : ℕ) → Missed s p (due (task s p) k)
 long-misses s p l h k =
     missed-at s p (due (task s p) k) k l refl
-    (not-true-false ((full s (due (task s p) k)).job p k).ended (λ e.
+    (false_from_ne_true ((full s (due (task s p) k)).job p k).ended (λ e.
     let whole = full-whole s (due (task s p) k) p k e in
     let most = had-most s p k (task s p).deadline in
     omega arith))

@@ -10,7 +10,9 @@ use lib.Dec.{leb}
 use lib.ListN.{get_or, length, take}
 use lib.Seq.{get_or-take}
 use borrow.Author.Tests.{leb-false, leb-true}
-use Rattle.model.proofs.Bools.{not-false-true, same-and, same_test}
+use Rattle.model.proofs.Bools.{same-and}
+use Rattle.std.proofs.lemmas.Bool.{true_from_ne_false}
+use Rattle.std.specs.Cmp.{both_ways}
 use Rattle.model.proofs.Grants.{claimants-cut, grants-take}
 use Rattle.model.proofs.Jobs.{after-release, before-due, claims-if, newest-is, still}
 use Rattle.model.proofs.Lists.{map_first}
@@ -27,7 +29,7 @@ use Rattle.model.specs.Task.{AllValid, Rule, Table, Task, due, newest, absent_ta
 -- claims at a tick and P later are the same
 claims-shift :
     (r : Rule) (τ : Task) (k m t P : ℕ) (j : Job) → P ≡ m * τ.period → claims r τ k t j ≡ claims r τ (k + m) (t + P) j
-claims-shift r τ k m t P j e = same_test (claims r τ k t j) (claims r τ (k + m) (t + P) j) later sooner
+claims-shift r τ k m t P j e = both_ways (claims r τ k t j) (claims r τ (k + m) (t + P) j) later sooner
   where
     later : claims r τ k t j ≡ true → claims r τ (k + m) (t + P) j ≡ true
     later c =
@@ -57,7 +59,7 @@ covers : (s : Table) → Periods s.tasks → (p : ℕ) → p < length s.tasks �
 unfolding horizon
 covers s h p l = omega (arith, S-last s.tasks p h l)
 
-factor : (m n : ℕ) → 0 < m * n → 0 < m
+pub factor : (m n : ℕ) → 0 < m * n → 0 < m
 factor zero n h = omega arith
 factor (suc m) n h = omega arith
 
@@ -226,7 +228,7 @@ module _ (s : Table) (ok : AllValid s) where
 
       go : (t : Bool) → leb (due τ k) (horizon s) ≡ t
           → ((i : ℕ) → i < n → ((full s (due τ i)).job p i).ended ≡ true) → ((full s (due τ k)).job p k).ended ≡ true
-      go true q ih = not-false-true ((full s (due τ k)).job p k).ended (λ o. hyp p (due τ k) (leb-true (due τ k) (horizon s) q) (missed-at s p (due τ k) k l refl o))
+      go true q ih = true_from_ne_false ((full s (due τ k)).job p k).ended (λ o. hyp p (due τ k) (leb-true (due τ k) (horizon s) q) (missed-at s p (due τ k) k l refl o))
       go false q ih =
           let past : horizon s < due τ k = leb-false (due τ k) (horizon s) q in
           let cover : S s.tasks p + P ≤ horizon s = covers s periods p l in

@@ -9,7 +9,8 @@ use native.Mathlib.Omega.{arith}
 use lib.Dec.{leb, ltb}
 use lib.ListN.{length}
 use borrow.Author.Tests.{leb-false, leb-true, ltb-true}
-use Rattle.model.proofs.Bools.{and_left, and_right, not-false-true, not-true-false}
+use Rattle.model.proofs.Bools.{and_left, and_right}
+use Rattle.std.proofs.lemmas.Bool.{false_from_ne_true, true_from_ne_false}
 use Rattle.model.proofs.Jobs.{before-due, claims-if, mk, newest-is, next, next-ended}
 use Rattle.model.proofs.Runs.{full-next, full-stays, full-tick, bounds-full}
 use Rattle.model.proofs.Waiting.{is_wider, kept-waiting, once, sum-add, sum-le, wider_parity}
@@ -95,7 +96,7 @@ module _ (s : Table) (ok : AllValid s) (p : ℕ) (l : p < length s.tasks) (k : �
       spread v w a b c d h g = omega (arith, mul-le-mul_left v h, mul-le-mul_left w g)
 
   open-before : (t : ℕ) → ((full s (suc t)).job p k).ended ≡ false → ((full s t).job p k).ended ≡ false
-  open-before t o = not-true-false ((full s t).job p k).ended (λ e. true≢false (sym (stays e) ∙ o))
+  open-before t o = false_from_ne_true ((full s t).job p k).ended (λ e. true≢false (sym (stays e) ∙ o))
     where
       stays : ((full s t).job p k).ended ≡ true → ((full s (suc t)).job p k).ended ≡ true
       stays e = ap (λ (j : Job). j.ended) (full-next s t p k) ∙ (next-ended σ.length false (served s (full s t) p k) ((full s t).job p k) e).0
@@ -168,7 +169,7 @@ pub place-ends :
     (s : Table) → AllValid s → (e : ℕ → ℕ) (p : ℕ) → p < length s.tasks
     → ((q : ℕ) → q < p → ((task s q).length ≤ e q) × (e q ≤ (task s q).deadline) × ServedWithin s q (e q))
     → (L : ℕ) → suffices s e p L ≡ true → EndsWithin s p L
-place-ends s ok e p l above L ok-L k = not-false-true ((full s (release σ k + L)).job p k).ended waiting
+place-ends s ok e p l above L ok-L k = true_from_ne_false ((full s (release σ k + L)).job p k).ended waiting
   where
     σ : Task
     σ = task s p

@@ -3,16 +3,24 @@ use mathlib.Core.Bool.{◌&&◌, Bool, cond, false, false≢true, not, true, tru
 use mathlib.Core.Logic.{inl, inr, ◌⊎◌, ⊎_elim}
 use mathlib.Core.Path.{ap, refl, sym, ◌∙◌, ◌≡◌}
 use Prim.Native.Nat.{◌<◌, suc, ℕ, ◌≤◌}
-use native.Mathlib.Nat.{div-lt_iff_lt-mul, eq-or-lt_of_le, le_antisymm, le-div_iff_mul-le, le_of_suc-le-suc}
+use native.Mathlib.Nat.{div-lt_iff_lt-mul, eq-or-lt_of_le, le_antisymm, le-div_iff_mul-le, le_of_suc-le-suc, mul-le-mul_right}
 use native.Mathlib.Omega.{arith}
 use lib.Dec.{leb, ltb}
 use borrow.Author.Tests.{le-leb, leb-false, leb-true, lt-ltb, ltb-true, not-true}
-use Rattle.model.proofs.Bools.{and_left, and_right, not-true-false, or-left-true, or_right_false}
+use Rattle.model.proofs.Bools.{and_left, and_right, or-left-true, or_right_false}
+use Rattle.std.proofs.lemmas.Bool.{false_from_ne_true}
 use Rattle.model.specs.Jobs.{Job, ended_with}
 use Rattle.model.specs.Claims.{claims, holds}
 use Rattle.model.specs.Advance.{work, work_lent}
 use Rattle.model.specs.Compare.{Behind, Longer}
-use Rattle.model.specs.Task.{Rule, Task, due, greedy, idling, lending, limited, newest, release}
+use Rattle.model.specs.Task.{Rule, ValidTask, Task, due, greedy, idling, lending, limited, newest, release}
+
+-- jobs released at one tick have one number
+pub release-one : (τ : Task) → ValidTask τ → (i k : ℕ) → release τ i ≡ release τ k → i ≡ k
+release-one τ ok i k e = omega (arith, not-before i k e, not-before k i (sym e))
+  where
+    not-before : (i k : ℕ) → release τ i ≡ release τ k → ¬ (i < k)
+    not-before i k e h = omega (arith, mul-le-mul_right τ.period h, ok.deadline-pos, ok.constrained)
 
 -- a claiming job is inside its window
 pub after-release : (r : Rule) (τ : Task) (k t : ℕ) (j : Job) → claims r τ k t j ≡ true → release τ k ≤ t
@@ -61,7 +69,7 @@ next-ended C f false j e = (e, refl)
 abbrev pub mk : ℕ → ℕ → Bool → Job
 mk h c e = record { had = h; claimed = c; ended = e }
 
--- ticks had never fall
+-- ticks had never fall: a law of the definition, though nothing cites it
 pub next_grows : (C : ℕ) (f s : Bool) (h c : ℕ) (e : Bool) → h ≤ (next C f s (mk h c e)).had
 unfolding work
 next_grows C f true h c true = omega arith
@@ -221,11 +229,6 @@ pub start-even : (x : Bool) (j : Job) → (j.ended ≡ false → j.claimed ≡ j
 start-even true j g o = absurd (true≢false o)
 start-even false j g o = g o
 
--- an empty job is behind nothing
-pub start-not-behind : (x : Bool) (a b : Job) → ¬ Behind a b → ¬ Behind (start x a) b
-start-not-behind true a b nb h = true≢false h.0
-start-not-behind false a b nb h = nb h
-
 -- of two jobs just released, of which the first is not longer, the first is not behind
 pub fresh-not-behind : (x y : Bool) → ¬ Longer (start x (mk 0 0 false)) (start y (mk 0 0 false)) → ¬ Behind (start x (mk 0 0 false)) (start y (mk 0 0 false))
 fresh-not-behind true y nl h = true≢false h.0
@@ -259,16 +262,16 @@ pub claims-less :
     → claims r τ k t a ≡ true → claims r τ k t b ≡ true
 claims-less r τ k t a b q nb e =
     let o : a.ended ≡ false = not-true a.ended (or-left-true (not a.ended) (holds r τ a) (still r τ k t a e) (q τ a)) in
-    claims-open r τ k t b a e (not-true-false b.ended (λ d. nb (o, inl d)))
+    claims-open r τ k t b a e (false_from_ne_true b.ended (λ d. nb (o, inl d)))
 
 -- where k is the newest, no other job claims
 pub others : (r : Rule) (τ : Task) (k t i : ℕ) (j : Job) → τ.deadline ≤ τ.period → newest τ t ≡ k → (i ≡ k → ⊥) → claims r τ i t j ≡ false
 others r τ k t i j c new ne =
-    not-true-false (claims r τ i t j) (λ e. ne (sym (newest-is τ i t c (after-release r τ i t j e) (before-due r τ i t j e)) ∙ new))
+    false_from_ne_true (claims r τ i t j) (λ e. ne (sym (newest-is τ i t c (after-release r τ i t j e) (before-due r τ i t j e)) ∙ new))
 
 -- a job that has ended and has claimed C ticks claims no more, under any rule
 pub done-off : (r : Rule) (τ : Task) (k t : ℕ) (j : Job) → j.ended ≡ true → τ.length ≤ j.claimed → claims r τ k t j ≡ false
-done-off r τ k t j e l = not-true-false (claims r τ k t j) (λ c. go j.ended e r (still r τ k t j c))
+done-off r τ k t j e l = false_from_ne_true (claims r τ k t j) (λ c. go j.ended e r (still r τ k t j c))
   where
     go : (b : Bool) → b ≡ true → (r : Rule) → not b || holds r τ j ≡ true → ⊥
     go true q greedy h = false≢true h

@@ -10,7 +10,8 @@ use lib.Dec.{leb, ltb}
 use lib.ListN.{get_or, length, length-map, take}
 use lib.Seq.{get_or-take}
 use borrow.Author.Tests.{le-ltb, leb-false, leb-true, not-true}
-use Rattle.model.proofs.Bools.{and_left, and_right, not-false-true}
+use Rattle.model.proofs.Bools.{and_left, and_right}
+use Rattle.std.proofs.lemmas.Bool.{true_from_ne_false}
 use Rattle.model.proofs.Grants.{claimants-cut, given_nothing, grants-length, grants-none, grants-take, left-nothing}
 use Rattle.model.proofs.Jobs.{done-off}
 use Rattle.model.proofs.Lists.{take-map}
@@ -33,7 +34,7 @@ not-lending lending h = absurd (h refl)
 -- WHERE NOTHING IS OFFERED
 
 -- of no free cores no place is given any
-grants-nothing : (r : Rule) (bs : List Claimant) (q : ℕ) → get_or (grants r bs []) q [] ≡ []
+pub grants-nothing : (r : Rule) (bs : List Claimant) (q : ℕ) → get_or (grants r bs []) q [] ≡ []
 unfolding grants
 grants-nothing r [] q = refl
 grants-nothing r (b ∷ bs) zero = given_nothing b
@@ -55,7 +56,8 @@ beside_at (g ∷ gs) [] q e = refl
 beside_at (g ∷ gs) (h ∷ hs) zero e = ap (λ (x : List ℕ). g ++ x) e ∙ append-nil g
 beside_at (g ∷ gs) (h ∷ hs) (suc q) e = beside_at gs hs q e
 
-map-nil : (ws : List ℕ) (q : ℕ) → get_or (map {B = List ℕ} (λ w. []) ws) q [] ≡ []
+-- the list that is empty at each place
+pub map-nil : (ws : List ℕ) (q : ℕ) → get_or (map {B = List ℕ} (λ w. []) ws) q [] ≡ []
 map-nil [] q = refl
 map-nil (w ∷ ws) zero = refl
 map-nil (w ∷ ws) (suc q) = map-nil ws q
@@ -139,10 +141,10 @@ lent-seeks ws sk o (suc n) q e = go (lent-seeks ws sk o n q) (beside-some (lent 
     go : (some (get_or (lent ws sk o n) q []) ≡ true → sk q ≡ true)
         → (some (get_or (lent ws sk o n) q []) ≡ true) ⊎ (some (get_or (grants greedy (claimants ws tried) (o n)) q []) ≡ true) → sk q ≡ true
     go ih (inl h) = ih h
-    go ih (inr h) = not-false-true (sk q) (λ f. false≢true (sym (ap some (grants-none greedy ws tried (o n) q (rw (f, and-false (ltb n q))))) ∙ h))
+    go ih (inr h) = true_from_ne_false (sk q) (λ f. false≢true (sym (ap some (grants-none greedy ws tried (o n) q (rw (f, and-false (ltb n q))))) ∙ h))
 
 -- a list of cores for each place, however many have lent
-beside-length : (gs hs : List (List ℕ)) → length (merged gs hs) ≡ length gs
+pub beside-length : (gs hs : List (List ℕ)) → length (merged gs hs) ≡ length gs
 unfolding merged
 beside-length [] hs = refl
 beside-length (g ∷ gs) [] = refl

@@ -10,9 +10,11 @@ pub mod LendExamples
 pub mod SetsExamples
 pub mod WorkingExamples
 pub mod Bools
+pub mod Refusals
 pub mod Search
 pub mod Lists
 pub mod Digits
+pub mod Gathered
 pub mod Members
 pub mod Jobs
 pub mod Grants

@@ -77,7 +77,8 @@ first-widths n t s s' e =
 
 -- WHAT THE FIRST PLACES SHOW IN A ROW
 
-owner-from : (c p : ℕ) (gs : List (List ℕ)) → (owner c p gs ≡ 0) ⊎ (p ≤ owner c p gs)
+-- the owner of a core is none, or at the first place or behind it
+pub owner-from : (c p : ℕ) (gs : List (List ℕ)) → (owner c p gs ≡ 0) ⊎ (p ≤ owner c p gs)
 unfolding owner
 owner-from c p [] = inl refl
 owner-from c p (g ∷ gs) = go (member c g) (owner-from c (suc p) gs)

@@ -6,7 +6,7 @@ use Prim.Native.Nat.{suc, zero, ℕ}
 use lib.Dec.{eqb}
 use lib.ListN.{get_or-map, drop, get_or, length-map, take}
 use borrow.Author.Tests.{eq-eqb, eqb-true}
-use Rattle.model.proofs.Bools.{same_test}
+use Rattle.std.specs.Cmp.{both_ways}
 use Rattle.model.proofs.Grants.{claimants-same}
 use Rattle.model.proofs.Lists.{take-map}
 use Rattle.model.specs.Grants.{Claimant, claimants, ends_choosing, fits, given, grants, left, some}
@@ -89,7 +89,7 @@ module _ (f : ℕ → ℕ) where
   module _ (apart : (i j : ℕ) → f i ≡ f j → i ≡ j) where
     eqb-map : (i j : ℕ) → eqb (f i) (f j) ≡ eqb i j
     eqb-map i j =
-        same_test (eqb (f i) (f j)) (eqb i j)
+        both_ways (eqb (f i) (f j)) (eqb i j)
         (λ e. eq-eqb i j (apart i j (eqb-true (f i) (f j) e)))
         (λ e. eq-eqb (f i) (f j) (ap f (eqb-true i j e)))
 

@@ -8,7 +8,7 @@ use native.Mathlib.Nat.{add-suc, add-zero, le_trans, zero-add}
 use native.Mathlib.Omega.{arith}
 use lib.ListN.{length, replicate}
 use borrow.Author.Tests.{ne_eqb}
-use Rattle.model.proofs.Bools.{not-true-false}
+use Rattle.std.proofs.lemmas.Bool.{false_from_ne_true}
 use Rattle.model.proofs.Digits.{bit-none}
 use Rattle.model.proofs.Jobs.{LineBounds, after-release, bounds-fresh, mk, next, start-bounds, step-ended, step-bounds, step-whole}
 use Rattle.model.proofs.Lending.{not-borrowing, offer-whole, shown-given}
@@ -79,7 +79,7 @@ unfolding step served borrowing
 before-release s f b p k h = rw off
   where
     off : job_claims s b p k ≡ false
-    off = not-true-false (job_claims s b p k) (λ e. let r = after-release s.rule (task s p) k b.tick (b.job p k) e in omega arith)
+    off = false_from_ne_true (job_claims s b p k) (λ e. let r = after-release s.rule (task s p) k b.tick (b.job p k) e in omega arith)
 
 -- so it is fresh until then
 pub full-fresh : (s : Table) (n p k : ℕ) → n ≤ release (task s p) k → (full s n).job p k ≡ fresh

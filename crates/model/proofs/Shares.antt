@@ -9,7 +9,8 @@ use native.Mathlib.Omega.{arith}
 use lib.Dec.{eqb, leb}
 use lib.ListN.{length}
 use borrow.Author.Tests.{eqb-true, leb-false, leb-true}
-use Rattle.model.proofs.Bools.{and_both, and_left, and_right, not-false-true, not-true-false}
+use Rattle.model.proofs.Bools.{and_both, and_left, and_right}
+use Rattle.std.proofs.lemmas.Bool.{false_from_ne_true, true_from_ne_false}
 use Rattle.model.proofs.Grants.{grants-none}
 use Rattle.model.proofs.Jobs.{after-release, before-due, done-off, next-claimed}
 use Rattle.model.proofs.Runs.{full-claimed, full-next, full-tick, bounds-full}
@@ -96,7 +97,7 @@ module _ (s : Table) (ok : AllValid s) (i : ℕ) (l : i < length s.tasks) where
   -- who is given cores has a job that claims, the newest
   in-row-served : (t : ℕ) → in_row s (full s t) i ≡ true → served s (full s t) i (newest τ (full s t).tick) ≡ true
   unfolding served
-  in-row-served t e = and_both (task_claims s (full s t) i) (in_row s (full s t) i) (not-false-true (task_claims s (full s t) i) off) e
+  in-row-served t e = and_both (task_claims s (full s t) i) (in_row s (full s t) i) (true_from_ne_false (task_claims s (full s t) i) off) e
     where
       off : task_claims s (full s t) i ≡ false → ⊥
       off c =
@@ -110,7 +111,7 @@ module _ (s : Table) (ok : AllValid s) (i : ℕ) (l : i < length s.tasks) where
   -- at full length a job that has ended is given none
   pub served-open : (t k : ℕ) → served s (full s t) i k ≡ true → ((full s t).job i k).ended ≡ false
   served-open t k e =
-      not-true-false ((full s t).job i k).ended (λ d.
+      false_from_ne_true ((full s t).job i k).ended (λ d.
       true≢false (sym (served-claims t k e) ∙ done-off s.rule τ k (full s t).tick ((full s t).job i k) d (full-claimed s t i k d)))
 
   -- so it is given cores in C ticks at most

@@ -10,7 +10,8 @@ use native.Mathlib.Omega.{arith}
 use lib.Dec.{eqb}
 use lib.ListN.{get_or, length, length-map, length-replicate, replicate}
 use borrow.Author.Tests.{eqb-true}
-use Rattle.model.proofs.Bools.{and_both, and_left, and_right, not-false-true}
+use Rattle.model.proofs.Bools.{and_both, and_left, and_right}
+use Rattle.std.proofs.lemmas.Bool.{true_from_ne_false}
 use Rattle.model.proofs.Compare.{none-longer}
 use Rattle.model.proofs.Grants.{MonotonicList, greedy-limited, limited-mono}
 use Rattle.model.proofs.Jobs.{Releasing, Reserving, sustained-line, after-release, before-due, claims-less, claims-open, fresh-not-behind, longer-left}
@@ -283,4 +284,4 @@ module _ (s : Table) (ok : AllValid s) (firmly : FirmRule s) where
 
   -- what the full-length run has finished is finished
   pub finished : (xs : List Entry) (p k : ℕ) → p < length s.tasks → ((full s (book s xs).tick).job p k).ended ≡ true → ((book s xs).job p k).ended ≡ true
-  finished xs p k l e = not-false-true ((book s xs).job p k).ended (λ o. none-behind xs p k l (o, inl e))
+  finished xs p k l e = true_from_ne_false ((book s xs).job p k).ended (λ o. none-behind xs p k l (o, inl e))

@@ -10,7 +10,7 @@ use lib.Dec.{leb, ltb}
 use lib.ListN.{get_or-append, get_or, length, length-append}
 use lib.Seq.{get_or_at}
 use borrow.Author.Tests.{ltb-false, not-true}
-use Rattle.model.proofs.Bools.{not-true-false}
+use Rattle.std.proofs.lemmas.Bool.{false_from_ne_true}
 use Rattle.model.proofs.Interference.{interference-ends, interference-meets}
 use Rattle.model.proofs.Search.{any_of}
 use Rattle.model.specs.Lists.{NeverMissed}
@@ -122,7 +122,7 @@ pub passes-within : (s : Table) → interference_test_passes s ≡ true → (p :
 unfolding interference_test_passes
 passes-within s e p l =
     ltb-false (task s p).deadline (response_bound s p)
-    (not-true-false (ltb (task s p).deadline (response_bound s p)) (λ q.
+    (false_from_ne_true (ltb (task s p).deadline (response_bound s p)) (λ q.
     true≢false
     (sym (any_of (length s.tasks) (λ p. ltb (task s p).deadline (response_bound s p)) p l q)
     ∙ not-true (any (length s.tasks) (λ p. ltb (task s p).deadline (response_bound s p))) e)))

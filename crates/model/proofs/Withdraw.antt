@@ -10,7 +10,8 @@ use lib.Bits.{bit_or}
 use lib.Dec.{eqb, ltb}
 use lib.ListN.{length}
 use borrow.Author.Tests.{eq-eqb, eqb-true, le-ltb, lt-ltb, ltb-false, ltb-true, ne_eqb}
-use Rattle.model.proofs.Bools.{not-true-false, or_cases, or_left, or_right}
+use Rattle.model.proofs.Bools.{or_cases, or_left, or_right}
+use Rattle.std.proofs.lemmas.Bool.{false_from_ne_true}
 use Rattle.model.proofs.Digits.{bit-power, or-bit, same_set}
 use Rattle.model.proofs.Faithful.{unknown-positions-exact}
 use Rattle.model.proofs.Verdict.{firm-exact}
@@ -71,7 +72,7 @@ pub withdraw-not-firm : (s : Table) (b : Book) (p : ℕ) → (answer s b (withdr
 unfolding answer chosen
 withdraw-not-firm s b p = (
   λ e f. true≢false (sym ((firm-exact s).1 f) ∙ by-21 (firm s.rule s.tasks) (unknown_position s p) e),
-  λ n. rw (not-true-false (firm s.rule s.tasks) (λ e. n ((firm-exact s).0 e))),
+  λ n. rw (false_from_ne_true (firm s.rule s.tasks) (λ e. n ((firm-exact s).0 e))),
 )
 
 -- .. 22 exactly where they are and the position is 0 or past the count ..
@@ -99,7 +100,7 @@ pub withdraw-all-not-firm : (s : Table) (b : Book) (x : ℕ) → (answer s b (wi
 unfolding answer chosen
 withdraw-all-not-firm s b x = (
   λ e f. true≢false (sym ((firm-exact s).1 f) ∙ by-21 (firm s.rule s.tasks) (unknown_positions s x) e),
-  λ n. rw (not-true-false (firm s.rule s.tasks) (λ e. n ((firm-exact s).0 e))),
+  λ n. rw (false_from_ne_true (firm s.rule s.tasks) (λ e. n ((firm-exact s).0 e))),
 )
 
 -- .. 22 exactly where it names a position past the count ..
@@ -116,7 +117,7 @@ withdraw-all-unknown s b x = (
 pub within-unknown : (s : Table) (x : ℕ) → (unknown_positions s x ≡ false) ↔ SetBelow (length s.tasks) x
 within-unknown s x = (
   λ e q h. go e q h (ltb q (length s.tasks)) refl,
-  λ h. not-true-false (unknown_positions s x) (λ e. let y = (unknown-positions-exact s x).0 e in omega (arith, h y.0 y.1, y.2)),
+  λ h. false_from_ne_true (unknown_positions s x) (λ e. let y = (unknown-positions-exact s x).0 e in omega (arith, h y.0 y.1, y.2)),
 )
   where
     go : unknown_positions s x ≡ false → (q : ℕ) → bit x q ≡ true → (t : Bool) → ltb q (length s.tasks) ≡ t → q < length s.tasks

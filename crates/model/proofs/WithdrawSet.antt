@@ -8,7 +8,8 @@ use lib.Bits.{bit_or, or_zero_r}
 use lib.Dec.{eqb}
 use lib.ListN.{length, replicate}
 use borrow.Author.Tests.{eq-eqb, le-ltb, ne_eqb}
-use Rattle.model.proofs.Bools.{not-false-true, or_right}
+use Rattle.model.proofs.Bools.{or_right}
+use Rattle.std.proofs.lemmas.Bool.{true_from_ne_false}
 use Rattle.model.proofs.Digits.{bit-none, bit-power, or-bit, same_set}
 use Rattle.model.proofs.Withdraw.{within-unknown}
 use Rattle.model.specs.Jobs.{Book}
@@ -131,7 +132,7 @@ withdraw-set s b x = record {
       ∙ sym (one_by_one_lem s qs (below-just (length s.tasks) x qs just h) b));
   each = λ h qs just.
       each-answer s qs (below-just (length s.tasks) x qs just h) b ∙ ap (replicate (length qs)) (sym (all-answer s b x h));
-  none = λ n. none_out s b x (not-false-true (unknown_positions s x) (λ e. n ((within-unknown s x).0 e)));
+  none = λ n. none_out s b x (true_from_ne_false (unknown_positions s x) (λ e. n ((within-unknown s x).0 e)));
 }
 
 -- of no position: 21 or taken, and the book stays

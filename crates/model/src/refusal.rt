@@ -72,12 +72,10 @@ impl Refusal {
         ensures { result ≡ position_of self }
     {
         match self {
-            Refusal::BadWidth(position) => position,
-            Refusal::BadTime(position) => position,
-            Refusal::Late(position) => position,
-            Refusal::BadRow(tick) => tick,
-            Refusal::DeadlineMissed(tick) => tick,
-            Refusal::PhasesDiffer(tick) => tick,
+            Refusal::BadWidth(position) | Refusal::BadTime(position) | Refusal::Late(position) =>
+                position,
+            Refusal::BadRow(tick) | Refusal::DeadlineMissed(tick) | Refusal::PhasesDiffer(tick) =>
+                tick,
             _ => 0,
         }
     }

@@ -1,7 +1,32 @@
 // The members of a set: one number, whose binary digits say which numbers are in it.
-ghost use Rattle.std.specs.Prelude.{◌≡◌};
+ghost use Rattle.std.specs.Prelude.{◌≡◌, Bool, ◌&&◌, ℕ, ◌<◌, ◌≤◌, ltb};
 ghost use Rattle.std.specs.Iterator.{YieldsFirst, item_count};
 ghost use Rattle.model.specs.Members.{members};
+ghost use Rattle.model.specs.Search.{bit};
+ghost use Rattle.model.specs.Sizes.{most_tasks};
+
+// Whether a place is in a set of places, bit 0 for position 1.
+pub fn has(set: u32, place: usize) -> bool
+    requires { place < most_tasks }
+    ensures { result ≡ bit set place }
+{
+    (set >> place) % 2 == 1
+}
+
+// The set of those of the first `count` places at which a test holds. What the test says is a function `f`, of the clause alone.
+pub fn places_where<F: Fn(usize) -> bool>(count: usize, holds: F) -> u32
+    requires few { count ≤ most_tasks }
+    requires tested { (p : ℕ) → p < count → F.pre holds p }
+    ensures { (f : ℕ → Bool) → ((p : ℕ) (r : Bool) → p < count → F.post holds p r → r ≡ f p) → (p : ℕ) → bit result p ≡ ltb p count && f p }
+{
+    let mut set: u32 = 0;
+    for i in 0..count {
+        if holds(i) {
+            set |= 1u32 << i;
+        }
+    }
+    set
+}
 
 // The members of a set that are left, in ascending order; a set of places or of cores.
 #[derive(Clone, Copy)]

@@ -80,7 +80,7 @@ phase-decides r τ even (Resting z) = (
     deciding : Decides (phase_in r τ even (Resting z)) ((1 ≤ z) × (z < τ.period))
     deciding = decides_and _ _ _ _ (decides-le 1 z) (decides-lt z τ.period)
 
--- a hold ends at z = D, whatever was reserved
+-- a hold ends at z = D, whatever was reserved: a law of the definition, though nothing cites it
 pub hold-ends : (τ : Task) (even : Bool) (u : ℕ) → holding τ even τ.deadline u ≡ resting τ even τ.deadline
 hold-ends τ even u = rw (eq-eqb τ.deadline τ.deadline refl) (go (eqb u τ.length))
   where

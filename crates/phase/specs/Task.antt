@@ -2,31 +2,32 @@
 use Rattle.std.specs.Prelude.{Bool, false, ◌||◌, not, cond, ℕ}
 use Rattle.model.specs.Task as model
 use Rattle.table.specs.Limits.{task_out}
+use Rattle.table.specs.declared.Task as table
+use Rattle.table.specs.Task as tasks
 use Rattle.phase.specs.declared.Phase.TheVariants.{Coming, Resting}
 use Rattle.phase.specs.declared.TaskState.{TaskState}
 use Rattle.phase.specs.declared.Task.{Task}
 use Rattle.phase.specs.Phase.{phase_in, task_state, start_state, phase_emptied, next_state}
 
--- the task of the table that a task with its phase is; as in table/specs/Task: the model's task of a task in code
+-- the model's task of a task with its phase
 abbrev pub task_of : Task → model.Task
-task_of t = record {
-  offset = t.offset;
-  odd_width = t.width;
-  length = t.length;
-  deadline = t.deadline;
-  period = t.period;
-  even_width = t.second;
-}
+task_of t = tasks.task_of t.parameters
 
--- a task of the table in this state
-abbrev pub with_state : TaskState → model.Task → Task
-with_state w τ = record {
+-- .. and the task in code of a task of the model
+abbrev pub parameters_of : model.Task → table.Task
+parameters_of τ = record {
   offset = τ.offset;
   width = τ.odd_width;
   length = τ.length;
   deadline = τ.deadline;
   period = τ.period;
   second = τ.even_width;
+}
+
+-- a task of the table in this state
+abbrev pub with_state : TaskState → model.Task → Task
+with_state w τ = record {
+  parameters = parameters_of τ;
   even = w.even;
   phase = w.phase;
 }
@@ -41,7 +42,7 @@ past_end = with_state (task_state false (Coming 0)) model.absent_task
 
 -- the width of the task's job
 abbrev pub width_now : Task → ℕ
-width_now t = cond t.even t.second t.width
+width_now t = cond t.even t.parameters.second t.parameters.width
 
 -- the task breaks 7 or 8 on this number of unfenced cores, or its phase or its parity is outside the limits
 abbrev pub out_in : ℕ → model.Rule → Task → Bool

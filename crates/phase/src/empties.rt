@@ -15,6 +15,7 @@ impl Phase {
     }
 
     // The phase as cores are chosen, by whether a job released in this tick is empty.
+    // The rule is any number (`rule_of`).
     pub fn emptied(self, rule: u32, empty: bool) -> Phase
         ensures { result ≡ phase_emptied (rule_of rule) empty self }
     {

@@ -28,22 +28,17 @@ pub struct TaskState {
     pub phase: Phase,
 }
 
-// A task of the run: offset O, width v of its odd jobs, length C, deadline D, period T, width w of its even jobs; whether its job is an
-// even one (odd until the second release, then changing at each), and its phase.
+// A task of the run: the task of the table that it is, whether its job is an even one (odd until the second release, then changing at each), and its phase.
 #[derive(Clone, Copy)]
 pub struct Task {
-    pub offset: u32,
-    pub width: u32,
-    pub length: u32,
-    pub deadline: u32,
-    pub period: u32,
-    pub second: u32,
+    pub parameters: table::Task,
     pub even: bool,
     pub phase: Phase,
 }
 
 // Whether a job that ended holds its cores: under rules 3 and 4.
 // A rule is a number here: a task answers under the rule of any run (`run_out`).
+// No plainer with an enum: the rule comes as the number that public functions take; it would be made for this test.
 fn idles(rule: u32) -> bool
     ensures { result ≡ idles (rule_of rule) }
 {

@@ -22,7 +22,7 @@ impl Task {
     fn rested(self, z: u32) -> TaskState
         ensures { result ≡ resting (task_of self) self.even z }
     {
-        if z == self.period {
+        if z == self.parameters.period {
             TaskState {
                 even: !self.even,
                 phase: Phase::Working(0, 0, 0),
@@ -39,7 +39,7 @@ impl Task {
     fn held(self, z: u32, reserved: u32) -> TaskState
         ensures { result ≡ holding (task_of self) self.even z reserved }
     {
-        if (reserved == self.length) | (z == self.deadline) {
+        if (reserved == self.parameters.length) | (z == self.parameters.deadline) {
             self.rested(z)
         } else {
             TaskState {
@@ -50,6 +50,7 @@ impl Task {
     }
 
     // The state of a task whose job has just ended.
+    // The rule is any number (`rule_of`).
     fn ended(self, rule: u32, z: u32, reserved: u32) -> TaskState
         ensures { result ≡ ended (rule_of rule) (task_of self) self.even z reserved }
     {
@@ -61,10 +62,11 @@ impl Task {
     }
 
     // The state of a task after a tick of work, own or lent.
+    // The rule is any number (`rule_of`).
     fn worked(self, rule: u32, reported: bool, z: u32, had: u32, reserved: u32) -> TaskState
         ensures { result ≡ worked (rule_of rule) (task_of self) reported self.even z had reserved }
     {
-        if reported | (had == self.length) {
+        if reported | (had == self.parameters.length) {
             self.ended(rule, z, reserved)
         } else {
             TaskState {
@@ -76,6 +78,8 @@ impl Task {
 
     // The state of the task one tick on from the seen phase, by whether it is given cores in this tick, whether it borrows some and whether
     // it is reported.
+    // `next`, which the pages name, is given each of these apart; a struct of them would be made for this one call.
+    // The rule is any number, as `idles` takes it.
     fn stepped(self, rule: u32, given: bool, lent: bool, reported: bool, seen: Phase) -> TaskState
         requires { NoOverflow seen }
         ensures { result ≡ next_state (rule_of rule) (task_of self) given lent reported self.even seen }
@@ -113,6 +117,7 @@ impl Task {
 
     // The task one tick on, by whether its job is empty if it is released in this tick, whether it is given cores, whether it borrows some and whether
     // it is reported.
+    // The rule is any number (`rule_of`).
     pub fn next(self, rule: u32, empty: bool, given: bool, lent: bool, reported: bool) -> Task
         requires { NoOverflow self.phase }
         ensures { result ≡ next_task (rule_of rule) empty given lent reported self }

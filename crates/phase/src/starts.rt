@@ -7,17 +7,13 @@ ghost use Rattle.phase.specs.Task.{unused, start_task};
 use crate::{Phase, Task};
 
 // A place past the count: zeros, odd and Resting(0).
-// No derived Default: the phase of zeros is Resting(0).
+// Not derived: the phase of zeros is Resting(0), which no derive gives. One impl for Phase and derives above it are no
+// plainer: clauses name this value by its definition.
 pub fn unused() -> Task
     ensures { result ≡ unused }
 {
     Task {
-        offset: 0,
-        width: 0,
-        length: 0,
-        deadline: 0,
-        period: 0,
-        second: 0,
+        parameters: table::Task::default(),
         even: false,
         phase: Phase::Resting(0),
     }
@@ -34,18 +30,15 @@ fn start_phase(offset: u32) -> Phase
     }
 }
 
-// A task of the table as it starts: its first job is an odd one.
-pub fn start_task(task: table::Task) -> Task
-    ensures { result ≡ start_task (table.task_of task) }
-{
-    Task {
-        offset: task.offset,
-        width: task.width,
-        length: task.length,
-        deadline: task.deadline,
-        period: task.period,
-        second: task.second,
-        even: false,
-        phase: start_phase(task.offset),
+impl From<table::Task> for Task {
+    ghost from_gives = { λ task started. started ≡ start_task (table.task_of task) };
+
+    // A task of the table as it starts: its first job is an odd one.
+    fn from(task: table::Task) -> Task {
+        Task {
+            parameters: task,
+            even: false,
+            phase: start_phase(task.offset),
+        }
     }
 }

@@ -1,21 +1,20 @@
 // The rows of the full-length run, into a lent buffer.
 #![tactic(auto)]
 
-ghost use Rattle.std.specs.Prelude.{◌≡◌, ◌≤◌, length};
-ghost use Rattle.table.specs.Fit.{loaded_table, Fit};
+ghost use Rattle.std.specs.Prelude.{◌≡◌, length};
+ghost use Rattle.table.specs.Fit.{loaded_table};
 ghost use Rattle.plan.specs.Plan.{planned, by_plan, plan_meaning, buffer_of, PlanOf};
-ghost use Rattle.model.specs.Sizes.{most_cores};
 
 use model::Refusal;
-use table::Loaded;
+use table::Fitting;
 
 mod rows; // rows.rt: rows into the buffer
 
 // The plan of a table that passed: number 10, 11 or 12, or the rows.
-fn by_table(table: Loaded, a: u32, b: u32, out: &mut [u8]) -> Result<(), Refusal>
-    requires { Fit table × (table.cores ≤ most_cores) }
-    ensures { (planned result ≡ by_plan (loaded_table table) a b (length out.old)) × (out.new ≡ buffer_of (plan_meaning (planned result)) (loaded_table table) a b out.old) }
+fn by_table(fitting: Fitting, a: u32, b: u32, out: &mut [u8]) -> Result<(), Refusal>
+    ensures { (planned result ≡ by_plan (loaded_table fitting.loaded) a b (length out.old)) × (out.new ≡ buffer_of (plan_meaning (planned result)) (loaded_table fitting.loaded) a b out.old) }
 {
+    let table = fitting.loaded;
     if b < a {
         return Err(Refusal::BadRange);
     }
@@ -28,7 +27,7 @@ fn by_table(table: Loaded, a: u32, b: u32, out: &mut [u8]) -> Result<(), Refusal
     }
     match judge::fastest::first_miss(table, b) {
         None => {
-            rows::write(table, a, b, out);
+            rows::write(fitting, a, b, out);
             Ok(())
         }
         Some(_) => Err(Refusal::PastMiss),
@@ -40,6 +39,6 @@ fn by_table(table: Loaded, a: u32, b: u32, out: &mut [u8]) -> Result<(), Refusal
 pub fn plan(words: &[u32], a: u32, b: u32, out: &mut [u8]) -> Result<(), Refusal>
     ensures { PlanOf words.now a b out.old out.new (planned result) }
 {
-    let table = table::load(words)?;
-    by_table(table, a, b, out)
+    let fitting = Fitting::load(words)?;
+    by_table(fitting, a, b, out)
 }

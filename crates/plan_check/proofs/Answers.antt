@@ -10,7 +10,7 @@ use lib.Dec.{eqb}
 use lib.ListN.{drop, drop_of_length-le, length}
 use lib.Seq.{drop-cons}
 use borrow.Author.Tests.{eq-eqb, eqb-false, eqb-true, lt-leb, ne_eqb}
-use Rattle.model.proofs.Bools.{not-false-true}
+use Rattle.std.proofs.lemmas.Bool.{true_from_ne_false}
 use Rattle.model.proofs.Starts.{hyperperiod-pos}
 use Rattle.model.specs.Horizon.{horizon}
 use Rattle.model.specs.Task.{AllValid, Table}
@@ -106,7 +106,7 @@ module _ (s : Table) (ok : AllValid s) (rows : List (List ℕ)) where
   outcome-check o (missed-deadline t h l b e x) = at_row t 25 t h l b (row-25 t h e x)
   outcome-check o (bad t h l b e n f) =
       at_row t 24 t h l b (row-24 t h e n
-      (not-false-true (faulty s t (owed_at s r t) (r t)) (λ q. f (right_valid s ok r t (none-upto t b n) e q))))
+      (true_from_ne_false (faulty s t (owed_at s r t) (r t)) (λ q. f (right_valid s ok r t (none-upto t b n) e q))))
   outcome-check o (late-end l b x) =
       ending (refuses 25 H) l b (λ h q. ap (λ a. on a h) (end-25 (suc h) q (subst (DeadlineMissed s r) (sym q) x)) ∙ ap (refuses 25) q)
   outcome-check o (phases l b n d) =
@@ -114,7 +114,7 @@ module _ (s : Table) (ok : AllValid s) (rows : List (List ℕ)) where
       ap (λ a. on a h)
       (end-26 (suc h) q (subst (λ (t : ℕ). ¬ DeadlineMissed s r t) (sym q) n)
       (subst (λ (t : ℕ). differs s (plan_book_at s r t) ≡ true) (sym q)
-      (not-false-true (differs s (plan_book_at s r H)) (λ e. d (differs-agree s ok r e)))))
+      (true_from_ne_false (differs s (plan_book_at s r H)) (λ e. d (differs-agree s ok r e)))))
       ∙ ap (refuses 26) q)
 
   -- AND THE ROWS HAVE ONE

@@ -12,8 +12,8 @@ use Rattle.plan_check.specs.Row.{faulty}
 use Rattle.plan_check.specs.RowAnswer.{state_by_answer}
 use Rattle.plan_check.specs.State.{horizon_in}
 use Rattle.plan_check.specs.CheckRow.{answer_at, check_row_answer, check_row_of}
-use Rattle.plan_check.specs.declared.Answer.TheVariants.{Refused}
-use Rattle.plan_check.specs.declared.Entered.{Entered}
+use Rattle.plan_check.specs.RowAnswer.{Refused}
+use Rattle.plan_check.specs.RowAnswer.{Entered}
 use Rattle.plan_check.specs.declared.SuppliedPlan.{SuppliedPlan}
 
 -- turned down, the state as given

@@ -7,29 +7,21 @@ use Prim.Native.Nat.{◌+◌, ◌<◌, suc, zero, ℕ, ◌≤◌}
 use native.Mathlib.Nat.{eq-or-lt_of_le, le_refl, zero-add}
 use native.Mathlib.Omega.{arith}
 use lib.Dec.{eqb, ltb}
-use lib.ListN.{get_or, length, take}
+use lib.ListN.{get_or, length}
 use borrow.Author.Tests.{eq-eqb, lt-ltb, ne_eqb}
-use Rattle.model.proofs.Bools.{and_right, not-true-false}
+use Rattle.model.proofs.Bools.{and_right}
+use Rattle.std.proofs.lemmas.Bool.{false_from_ne_true}
+use Rattle.model.proofs.Local.{owner-from}
 use Rattle.model.specs.Fence.{unfenced}
-use Rattle.model.specs.Grants.{Claimant, fits, given, grants, left, some}
+use Rattle.model.specs.Grants.{Claimant, grants, left, some}
 use Rattle.model.specs.Row.{byte_of, owner, row}
 use Rattle.model.specs.Search.{bit, member, up_from}
 use Rattle.model.specs.Sizes.{fenced_byte}
 use Rattle.model.specs.Task.{Rule, Table}
-use Rattle.cores.proofs.Ascending.{Range, get_d-up, memb-below, memb-kept, range-kept, range-take, range-up, range-weaken}
+use Rattle.cores.proofs.Ascending.{Range, get_d-up, memb-below, memb-kept, range-kept, range-up, range-weaken}
+use Rattle.rule.proofs.Tick.{given-range}
 use Rattle.rule.proofs.Granting.{Apart, apart, in-grants, range-left}
 use Rattle.plan_check.specs.Plan.{UnknownByte, cell_count}
-
--- a core has no owner or one of the places listed
-owner-low : (c p : ℕ) (gs : List (List ℕ)) → (owner c p gs ≡ 0) ⊎ (p ≤ owner c p gs)
-unfolding owner
-owner-low c p [] = inl refl
-owner-low c p (g ∷ gs) = go (member c g) (owner-low c (suc p) gs)
-  where
-    go : (b : Bool) → (owner c (suc p) gs ≡ 0) ⊎ (suc p ≤ owner c (suc p) gs) → (cond b p (owner c (suc p) gs) ≡ 0) ⊎ (p ≤ cond b p (owner c (suc p) gs))
-    go true x = inr (le_refl p)
-    go false (inl x) = inl x
-    go false (inr x) = inr (omega arith)
 
 pub owner-most : (c p : ℕ) (gs : List (List ℕ)) → owner c (suc p) gs ≤ p + length gs
 unfolding owner
@@ -44,7 +36,7 @@ owner-most c p (g ∷ gs) = go (member c g) (owner-most c (suc p) gs)
 pub owner-is : (c q : ℕ) (gs : List (List ℕ)) → Apart gs → (p : ℕ) → eqb (owner c (suc q) gs) (suc (q + p)) ≡ member c (get_or gs p [])
 unfolding owner member
 owner-is c q [] a p = ne_eqb 0 (suc (q + p)) (λ e. omega arith)
-owner-is c q (g ∷ gs) a zero = go (member c g) refl (owner-low c (suc (suc q)) gs)
+owner-is c q (g ∷ gs) a zero = go (member c g) refl (owner-from c (suc (suc q)) gs)
   where
     go : (b : Bool) → member c g ≡ b → (owner c (suc (suc q)) gs ≡ 0) ⊎ (suc (suc q) ≤ owner c (suc (suc q)) gs)
         → eqb (cond b (suc q) (owner c (suc (suc q)) gs)) (suc (q + 0)) ≡ b
@@ -57,7 +49,7 @@ owner-is c q (g ∷ gs) a (suc p) = go (member c g) refl (owner-is c (suc q) gs 
         → eqb (cond b (suc q) (owner c (suc (suc q)) gs)) (suc (q + suc p)) ≡ member c (get_or gs p [])
     go true e ih =
         ne_eqb (suc q) (suc (q + suc p)) (λ e. omega arith)
-        ∙ sym (not-true-false (member c (get_or gs p [])) (λ k. a c 0 (suc p) (omega arith) e k))
+        ∙ sym (false_from_ne_true (member c (get_or gs p [])) (λ k. a c 0 (suc p) (omega arith) e k))
     go false e ih = subst (λ (n : ℕ). eqb (owner c (suc (suc q)) gs) (suc n) ≡ member c (get_or gs p [])) (omega arith) ih
 
 -- counting the numbers from i up that are in an ascending list
@@ -96,14 +88,6 @@ count-list f b i (suc n) (x ∷ g) o h =
     past e ih = rw (h i (le_refl i) ∙ memb-below i x (i + suc n) (x ∷ g) e (le_refl x, o.1, o.2)) ih
 
 -- each list of grants is an ascending part of the free cores
-given-range : (b : Claimant) (hi : ℕ) (free : List ℕ) → Range 0 hi free → Range 0 hi (given b free)
-unfolding given
-given-range b hi free o = go (fits b free)
-  where
-    go : (t : Bool) → Range 0 hi (cond t (take b.width free) [])
-    go true = range-take b.width 0 hi free o
-    go false = tt
-
 pub grants-range : (r : Rule) (hi : ℕ) (bs : List Claimant) (free : List ℕ) → Range 0 hi free → (p : ℕ) → Range 0 hi (get_or (grants r bs free) p [])
 unfolding grants
 grants-range r hi [] free o p = tt
@@ -120,7 +104,7 @@ module _ (r : Rule) (bs : List Claimant) (fence m p : ℕ) (few : suc p < fenced
 
   -- a fenced core is given to no place
   fenced-none : (c : ℕ) → bit fence c ≡ true → member c (get_or gs p []) ≡ false
-  fenced-none c e = not-true-false (member c (get_or gs p [])) (λ h.
+  fenced-none c e = false_from_ne_true (member c (get_or gs p [])) (λ h.
       true≢false
       (sym (and_right (member c (up_from 0 m)) (not (bit fence c)) (sym (memb-kept (λ c. not (bit fence c)) c (up_from 0 m)) ∙ in-grants r c bs (unfenced fence m) p h))
       ∙ ap not e))

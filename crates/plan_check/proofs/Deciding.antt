@@ -13,7 +13,7 @@ use Rattle.phase.specs.Phase.{working}
 use Rattle.phase.specs.Task.{width_now}
 use Rattle.phase.specs.declared.Phase.{Phase}
 use Rattle.phase.specs.declared.Phase.TheVariants.{Coming, Holding, Resting, Working}
-use Rattle.run.proofs.Exact.{late-decides}
+use Rattle.run.proofs.Exact.{late-decides, works-decides}
 use Rattle.run.proofs.Limits.{run-decides}
 use Rattle.run.specs.Numbers.{PlaceLate, late_at}
 use Rattle.run.specs.Run.{phase_at, place_at}
@@ -66,13 +66,7 @@ unknown-decides r row c = go (bit r.fence c) refl
     )
 
 owed-decides : (r : Run) (p : ℕ) → Decides (working (phase_at r p)) (WorkOwed r p)
-owed-decides r p = (there (phase_at r p), λ x. ap working x.3)
-  where
-    there : (ph : Phase) → working ph ≡ true → (z had u : ℕ) × (ph ≡ Working z had u)
-    there (Coming left) e = absurd (false≢true e)
-    there (Working z had u) e = (z, had, u, refl)
-    there (Holding z u) e = absurd (false≢true e)
-    there (Resting z) e = absurd (false≢true e)
+owed-decides r p = works-decides (phase_at r p)
 
 -- not both: not the one, or not the other
 not-both : (a b : Bool) (P Q : Type 0) → Decides a P → Decides b Q → Decides (not (a && b)) ((¬ P) ⊎ (¬ Q))

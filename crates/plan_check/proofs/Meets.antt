@@ -8,7 +8,7 @@ use native.Mathlib.Omega.{arith}
 use lib.Dec.{eqb, leb, ltb}
 use lib.ListN.{length}
 use borrow.Author.Tests.{eq-eqb, eqb-false, eqb-true, leb-false, leb-true, ltb-false, ltb-true, not-false}
-use Rattle.model.proofs.Bools.{not-false-true, not-true-false}
+use Rattle.std.proofs.lemmas.Bool.{false_from_ne_true, true_from_ne_false}
 use Rattle.model.proofs.Search.{none_any, none-at}
 use Rattle.model.specs.Horizon.{horizon, hyperperiod, last_s}
 use Rattle.model.specs.Task.{AllValid, Table, due, newest, release, task}
@@ -41,10 +41,10 @@ module _ (s : Table) (ok : AllValid s) (r : ℕ → List ℕ) where
   late-not t e x = omega (arith, late-none s ok r t e x.0 x.1 x.2 x.3, x.4)
 
   pub not_late : (t : ℕ) → ¬ DeadlineMissed s r t → late_now s t (owed_at s r t) ≡ false
-  not_late t n = not-true-false (late_now s t (owed_at s r t)) (λ e. n (late-job s ok r t e))
+  not_late t n = false_from_ne_true (late_now s t (owed_at s r t)) (λ e. n (late-job s ok r t e))
 
   pub late-found : (t : ℕ) → DeadlineMissed s r t → late_now s t (owed_at s r t) ≡ true
-  late-found t x = not-false-true (late_now s t (owed_at s r t)) (λ e. late-not t e x)
+  late-found t x = true_from_ne_false (late_now s t (owed_at s r t)) (λ e. late-not t e x)
 
   -- where no deadline is missed up to t, a job due by t has had C ticks
   pub enough :

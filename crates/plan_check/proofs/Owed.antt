@@ -9,7 +9,8 @@ use native.Mathlib.Omega.{arith}
 use lib.Dec.{eqb, leb, ltb}
 use lib.ListN.{get_or, length}
 use borrow.Author.Tests.{eq-eqb, eqb-false, eqb-true, leb-false, leb-true, lt-ltb, ltb-false, ltb-true, ne_eqb, not-true}
-use Rattle.model.proofs.Bools.{and_left, and_right, not-true-false, or_left_false, or_right_false}
+use Rattle.model.proofs.Bools.{and_left, and_right, or_left_false, or_right_false}
+use Rattle.std.proofs.lemmas.Bool.{false_from_ne_true}
 use Rattle.model.proofs.Jobs.{newest-is}
 use Rattle.model.proofs.Search.{any_some, none_any, none-at}
 use Rattle.model.specs.Search.{any, bit}
@@ -205,7 +206,7 @@ pub right-faulty : (s : Table) (t : ℕ) (o : ℕ → ℕ) (row : List ℕ) → 
 unfolding faulty
 right-faulty s t o row x =
     rw (
-      none_any (length row) (unknown_byte_in s row) (λ c l. not-true-false (unknown_byte_in s row c) (λ q. x.known c l ((unknown-decides s row c).0 q))),
+      none_any (length row) (unknown_byte_in s row) (λ c l. false_from_ne_true (unknown_byte_in s row c) (λ q. x.known c l ((unknown-decides s row c).0 q))),
       none_any (length s.tasks) (wrong_at s t o row) (λ p l. unfold wrong_at in fine p l (ltb 0 (cell_count (suc p) row)) refl),
     )
   where

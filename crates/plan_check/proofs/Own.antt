@@ -1,6 +1,6 @@
 -- THE TOOL'S OWN PLANS ARE ACCEPTED: the rows of the full-length run of a table that never misses.
 use mathlib.Core.Bool.{◌&&◌, Bool, cond, false, false≢true, true, true≢false}
-use mathlib.Core.List.{List, [], map, ◌∷◌}
+use mathlib.Core.List.{List, [], map}
 use mathlib.Core.Logic.{◌⊎◌, inl, inr}
 use mathlib.Core.Path.{ap, ap₂, refl, subst, sym, ◌∙◌, ◌≡◌}
 use Prim.Native.Nat.{◌*◌, ◌+◌, ◌<◌, suc, zero, ℕ, ◌≤◌}
@@ -9,7 +9,8 @@ use native.Mathlib.Omega.{arith}
 use lib.Dec.{leb, ltb}
 use lib.ListN.{get_or, length, length-map}
 use borrow.Author.Tests.{leb-false, leb-true}
-use Rattle.model.proofs.Bools.{and_both, and_left, and_right, not-false-true, not-true-false}
+use Rattle.model.proofs.Bools.{and_both, and_left, and_right}
+use Rattle.std.proofs.lemmas.Bool.{false_from_ne_true, true_from_ne_false}
 use Rattle.model.proofs.Grants.{grants-length, grants-none}
 use Rattle.model.proofs.Horizon.{repeat-all}
 use Rattle.model.proofs.Jobs.{after-release, before-due, done-off, next}
@@ -27,6 +28,7 @@ use Rattle.model.specs.Horizon.{S, horizon, hyperperiod, last_s}
 use Rattle.model.specs.Search.{up_from}
 use Rattle.model.specs.Sizes.{fenced_byte}
 use Rattle.model.specs.Task.{AllValid, Table, Task, due, newest, absent_task, release, task, width_of}
+use Rattle.rule.proofs.Borrowed as borrowed
 use Rattle.rule.proofs.Granting.{idle, width-or-none}
 use Rattle.plan_check.specs.Answers.{accepts}
 use Rattle.plan_check.proofs.PlanBook.{check}
@@ -43,13 +45,6 @@ own_row s t = book_row s (full s t)
 
 abbrev pub own_rows : Table → List (List ℕ)
 own_rows s = map (own_row s) (up_from 0 (horizon s))
-
--- the width of a claimant
-claimant-width : (ws : List ℕ) (c : ℕ → Bool) (p : ℕ) → (get_or (claimants ws c) p idle).width ≡ get_or ws p 0
-unfolding claimants
-claimant-width [] c p = refl
-claimant-width (w ∷ ws) c zero = refl
-claimant-width (w ∷ ws) c (suc p) = claimant-width ws (λ q. c (suc q)) p
 
 -- the width of a place in a tick is that of its newest job
 width-newest : (s : Table) (p t : ℕ) → p < length s.tasks → get_or (widths s t) p 0 ≡ width_of (task s p) (newest (task s p) t)
@@ -75,7 +70,7 @@ module _ (s : Table) (ok : AllValid s) (few : length s.tasks < fenced_byte) wher
       go : (length g ≡ (get_or (bs t) p idle).width) ⊎ (g ≡ []) → length g ≡ width_of (task s p) (newest (task s p) t)
       go (inl q) =
           q
-          ∙ (claimant-width (widths s (full s t).tick) (task_claims s (full s t)) p
+          ∙ (borrowed.width_of (widths s (full s t).tick) (task_claims s (full s t)) p
           ∙ (width-newest s p (full s t).tick l ∙ ap (λ (n : ℕ). width_of (task s p) (newest (task s p) n)) (full-tick s t)))
       go (inr q) = absurd (false≢true (sym (ap some q) ∙ (sym (own_runs p t l) ∙ e)))
 
@@ -88,12 +83,12 @@ module _ (s : Table) (ok : AllValid s) (few : length s.tasks < fenced_byte) wher
   serves p t e =
       let k : ℕ = newest (task s p) t in
       let c : task_claims s (full s t) p ≡ true =
-      not-false-true (task_claims s (full s t) p) (λ o.
+      true_from_ne_false (task_claims s (full s t) p) (λ o.
       false≢true (sym (ap some (grants-none s.rule (widths s (full s t).tick) (task_claims s (full s t)) (unfenced_cores s) p o)) ∙ e)) in
       let c' : job_claims s (full s t) p k ≡ true = subst (λ (n : ℕ). job_claims s (full s t) p (newest (task s p) n) ≡ true) (full-tick s t) c in
       record {
         claiming = c';
-        unended = not-true-false ((full s t).job p k).ended (λ d.
+        unended = false_from_ne_true ((full s t).job p k).ended (λ d.
             true≢false (sym c' ∙ done-off s.rule (task s p) k (full s t).tick ((full s t).job p k) d (full-claimed s t p k d)));
       }
 
@@ -133,14 +128,14 @@ module _ (s : Table) (ok : AllValid s) (few : length s.tasks < fenced_byte) wher
         go false e c f ih =
             let early : t < a = leb-false a t e in
             let off : served s (full s t) p k ≡ false = unfold served in
-            not-true-false (job_claims s (full s t) p k && in_row s (full s t) p) (λ q.
+            false_from_ne_true (job_claims s (full s t) p k && in_row s (full s t) p) (λ q.
             let x = after-release s.rule τ k (full s t).tick ((full s t).job p k) (and_left (job_claims s (full s t) p k) (in_row s (full s t) p) q) in
             omega (arith, full-tick s t)) in
             ticks-none (own_row s) p a (suc t) early
             ∙ (sym (ticks-none (own_row s) p a t (omega arith)) ∙ (ih ∙ sym (unserved t k off)))
         go true e false f ih =
             let off : served s (full s t) p k ≡ false = unfold served in
-            not-true-false (job_claims s (full s t) p k && in_row s (full s t) p) (λ q.
+            false_from_ne_true (job_claims s (full s t) p k && in_row s (full s t) p) (λ q.
             true≢false (sym (and_right (job_claims s (full s t) p k) (in_row s (full s t) p) q) ∙ f)) in
             ticks-on (own_row s) p a t (leb-true a t e)
             ∙ (ap (λ (b : Bool). cond b (suc (had_in_rows s (own_row s) p k t)) (had_in_rows s (own_row s) p k t)) (own_runs p t l ∙ f) ∙ (ih ∙ sym (unserved t k off)))
@@ -173,7 +168,7 @@ module _ (s : Table) (ok : AllValid s) (few : length s.tasks < fenced_byte) wher
     own-done : NeverMissed s → (k : ℕ) → InTime s (own_row s) p k
     own-done nm k =
         let e : ((full s (due τ k)).job p k).ended ≡ true =
-        not-false-true ((full s (due τ k)).job p k).ended (λ o. nm p (due τ k) (missed-at s p (due τ k) k l refl o)) in
+        true_from_ne_false ((full s (due τ k)).job p k).ended (λ o. nm p (due τ k) (missed-at s p (due τ k) k l refl o)) in
         had-full k (due τ k) (omega (arith, (ok p l).constrained))
         ∙ le_antisymm (bounds-full s ok (due τ k) p k l).within (full-whole s (due τ k) p k e)
 

@@ -8,6 +8,7 @@ use native.Mathlib.Omega.{arith}
 use lib.Dec.{eqb, leb, ltb}
 use lib.ListN.{length}
 use borrow.Author.Tests.{eqb-false, eqb-true, le-ltb, leb-false, leb-true, lt-ltb, ltb-false, ltb-true}
+use Rattle.model.proofs.Horizon.{factor}
 use Rattle.model.proofs.Jobs.{newest-is}
 use Rattle.model.proofs.Starts.{Periods, hyperperiod-divides, hyperperiod-pos, width-shift}
 use Rattle.model.specs.Horizon.{horizon, hyperperiod, last_s}
@@ -20,10 +21,6 @@ use Rattle.plan_check.proofs.Ticks.{done-same, valid_same, valid-works, had-most
 -- equal had, with rows that are equal, is equal had a tick later
 on_same : (b b' : Bool) (m n : ℕ) → b ≡ b' → m ≡ n → cond b (suc m) m ≡ cond b' (suc n) n
 on_same b b' m n e q = rw (e, q)
-
-factor : (m n : ℕ) → 0 < m * n → 0 < m
-factor zero n h = omega arith
-factor (suc m) n h = omega arith
 
 -- what is owed agrees, and what is had is at most C: what is had agrees
 owes-had : (C a b : ℕ) → a ≤ C → b ≤ C → C - a ≡ C - b → a ≡ b

@@ -1,5 +1,5 @@
 -- The beginning: the run of a table as it starts is of that table, and the contract of a beginning.
-use mathlib.Core.List.{List, [], map, ◌∷◌}
+use mathlib.Core.List.{List, map}
 use mathlib.Core.Path.{ap, refl, subst, sym, ◌∙◌, ◌≡◌}
 use Prim.Native.Nat.{◌-◌, ℕ, ◌≤◌}
 use native.Mathlib.Omega.{arith}
@@ -20,6 +20,7 @@ use Rattle.table.specs.Words.{rule, table_of}
 use Rattle.table.specs.Answer.{Answer}
 use Rattle.table.specs.Answer.{Passed, Refused}
 use Rattle.table.specs.declared.Loaded.{Loaded}
+use Rattle.phase.proofs.Started as started
 use Rattle.phase.specs.Task.{start_task, task_of, unused}
 use Rattle.run.proofs.ByVerdict.{loaded-table}
 use Rattle.run.proofs.StartExact.{empty-run-out}
@@ -37,16 +38,12 @@ use Rattle.plan_check.proofs.StateTests.{out-run}
 
 -- A RUN AS IT STARTS
 
-started-back : (τs : List model.Task) → map task_of (map start_task τs) ≡ τs
-started-back [] = refl
-started-back (τ ∷ τs) = ap {B = List model.Task} (λ ts. τ ∷ ts) (started-back τs)
-
 -- is of the table that it starts from
 pub started-tasks : (n : ℕ) (s : model.Table) → tasks_in (started_run n s) ≡ s.tasks
 unfolding started_run
 started-tasks n s =
     ap (map task_of) (take_at (map start_task s.tasks) (replicate (most_tasks - length s.tasks) unused) (length s.tasks) (length-map s.tasks start_task))
-    ∙ started-back s.tasks
+    ∙ started.started-tasks s.tasks
 
 pub started-count : (n : ℕ) (s : model.Table) → (started_run n s).count ≡ length s.tasks
 unfolding started_run

@@ -9,7 +9,7 @@ use native.Mathlib.Omega.{arith}
 use lib.Dec.{eqb, leb, ltb}
 use lib.ListN.{length}
 use borrow.Author.Tests.{eq-eqb, eqb-false, eqb-true, le-ltb, leb-false, leb-true, lt-ltb, ltb-true, ne_eqb}
-use Rattle.model.proofs.Bools.{same_test}
+use Rattle.std.specs.Cmp.{both_ways}
 use Rattle.model.proofs.Jobs.{newest-is}
 use Rattle.model.specs.Task.{AllValid, Table, Task, due, newest, release, task}
 use Rattle.phase.specs.Phase.{late_in, next_state, resting, task_state, start_state, working}
@@ -270,7 +270,7 @@ module _ (s : Table) (ok : AllValid s) (r : ℕ → List ℕ) (p : ℕ) (l : p <
 
       -- the job that is due is the newest
       due-same : τ.offset ≤ t → 0 < owed_at s r (suc t) p → eqb (z + 1) τ.deadline ≡ due_at τ (suc t)
-      due-same h some-owed = same_test (eqb (z + 1) τ.deadline) (due_at τ (suc t)) there back
+      due-same h some-owed = both_ways (eqb (z + 1) τ.deadline) (due_at τ (suc t)) there back
         where
           begun : release τ (newest τ t) ≤ t
           begun = newest-begun τ pos t h

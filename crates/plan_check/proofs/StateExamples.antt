@@ -35,7 +35,7 @@ use Rattle.plan_check.specs.CheckRow.{answer_at, final_answer, check_row_answer,
 
 -- a task in its state: O, v, C, D, T, w, whether its job is an even one, and its phase
 abbrev at₂ : ℕ → ℕ → ℕ → ℕ → ℕ → ℕ → Bool → Phase → Task
-at₂ o v c d p w e ph = record { offset = o; width = v; length = c; deadline = d; period = p; second = w; even = e; phase = ph }
+at₂ o v c d p w e ph = record { parameters = record { offset = o; width = v; length = c; deadline = d; period = p; second = w }; even = e; phase = ph }
 
 -- .. one of one core, at an odd job
 abbrev at : ℕ → ℕ → ℕ → ℕ → Phase → Task

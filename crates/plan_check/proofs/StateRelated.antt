@@ -10,7 +10,8 @@ use lib.Dec.{eqb, ltb}
 use lib.ListN.{get_or-append, drop, get_or, length, length-map, replicate, take}
 use lib.Seq.{get_or-take}
 use borrow.Author.Tests.{eqb-false, eqb-true, le-ltb, ltb-false, ltb-true, ne_eqb, not-false}
-use Rattle.model.proofs.Bools.{not-false-true, same_test}
+use Rattle.std.proofs.lemmas.Bool.{true_from_ne_false}
+use Rattle.std.specs.Cmp.{both_ways}
 use Rattle.model.proofs.Lists.{map_at}
 use Rattle.model.proofs.Search.{any_same, none_any, none-at}
 use Rattle.model.specs.Horizon.{horizon, last_s}
@@ -163,7 +164,7 @@ module _ (s : Table) (ok : AllValid s) (r : ℕ → List ℕ) where
     missed-same =
         ap (λ (n : ℕ). any n (late_at w.run)) x.count
         ∙ any_same (length s.tasks) (late_at w.run) (λ p. due_at (task s p) t && ltb 0 (owed_at s r t p)) (λ p l.
-        ap (λ (y : declared.Task). late_in y.deadline y.phase) (x.places p l) ∙ late-place t refl p l)
+        ap (λ (y : declared.Task). late_in y.parameters.deadline y.phase) (x.places p l) ∙ late-place t refl p l)
 
     module _ (on-time : late_now s t (owed_at s r t) ≡ false) where
       timely : (u : ℕ) → u ≤ t → late_now s u (owed_at s r u) ≡ false
@@ -230,9 +231,9 @@ module _ (s : Table) (ok : AllValid s) (r : ℕ → List ℕ) where
 
         pub differs-same : differs w ≡ plan_book.differs s (plan_book_at s r (horizon s))
         differs-same =
-            same_test (differs w) (plan_book.differs s (plan_book_at s r (horizon s)))
-            (λ e. not-false-true (plan_book.differs s (plan_book_at s r (horizon s))) (λ f. true≢false (sym e ∙ agree-state (differs-agree s ok r f))))
-            (λ e. not-false-true (differs w) (λ f. true≢false (sym e ∙ agree-differs s ok r (state-agree f))))
+            both_ways (differs w) (plan_book.differs s (plan_book_at s r (horizon s)))
+            (λ e. true_from_ne_false (plan_book.differs s (plan_book_at s r (horizon s))) (λ f. true≢false (sym e ∙ agree-state (differs-agree s ok r f))))
+            (λ e. true_from_ne_false (differs w) (λ f. true≢false (sym e ∙ agree-differs s ok r (state-agree f))))
 
 -- THE BEGINNING
 module _ (ws : List ℕ) (none : NoneApplies ws) (r : ℕ → List ℕ) where

@@ -21,8 +21,8 @@ use Rattle.plan_check.specs.Row.{faulty}
 use Rattle.plan_check.specs.RowAnswer.{RowAnswer, accepted, state_by_answer, refused, taken, row_answer_meaning}
 use Rattle.plan_check.specs.State.{horizon_in}
 use Rattle.plan_check.specs.CheckRow.{answer_at, final_answer, check_row_answer, check_row_of}
-use Rattle.plan_check.specs.declared.Answer.{Answer}
-use Rattle.plan_check.specs.declared.Answer.TheVariants.{Accepted, Refused, Taken}
+use Rattle.plan_check.specs.RowAnswer.{Answer}
+use Rattle.plan_check.specs.RowAnswer.{Accepted, Refused, Taken}
 use Rattle.plan_check.specs.declared.SuppliedPlan.{SuppliedPlan}
 use Rattle.plan_check.proofs.PlanBook.{after, check_from, late_now, take_row}
 use Rattle.plan_check.proofs.PlanBook as plan_book

@@ -10,7 +10,7 @@ use lib.Dec.{eqb, leb}
 use lib.ListN.{drop, length, length-map, take}
 use lib.Seq.{drop_at, length-take-le}
 use borrow.Author.Tests.{eqb-false, eqb-true, leb-false, leb-true, ltb-true}
-use Rattle.model.proofs.Bools.{not-true-false}
+use Rattle.std.proofs.lemmas.Bool.{false_from_ne_true}
 use Rattle.table.proofs.Decide.{decides-lt, fails}
 use Rattle.table.specs.Limits.{HorizonOut, horizon_out, most_horizon}
 use Rattle.run.specs.Run.{tasks_in}
@@ -23,9 +23,9 @@ use Rattle.plan_check.specs.RowAnswer.{state_by_answer, row_answer_meaning}
 use Rattle.plan_check.specs.RowAnswer as meaning
 use Rattle.plan_check.specs.State.{horizon_in, note_of, noting, start_in}
 use Rattle.plan_check.specs.CheckRow.{CheckRowOf, answer_at, final_answer, check_row_answer, check_row_of}
-use Rattle.plan_check.specs.declared.Answer.{Answer}
-use Rattle.plan_check.specs.declared.Answer.TheVariants.{Accepted, Refused, Taken}
-use Rattle.plan_check.specs.declared.Entered.{Entered}
+use Rattle.plan_check.specs.RowAnswer.{Answer}
+use Rattle.plan_check.specs.RowAnswer.{Accepted, Refused, Taken}
+use Rattle.plan_check.specs.RowAnswer.{Entered}
 use Rattle.plan_check.specs.declared.SuppliedPlan.{SuppliedPlan}
 use Rattle.plan_check.proofs.Deciding.{differs-decides, faulty-decides, missed-decides, state-decides}
 use Rattle.plan_check.proofs.PlanExtent.{all-places, ready-again}
@@ -284,10 +284,10 @@ module _ (w : SuppliedPlan) (row : List ℕ) where
 
   module _ (none : NoneApplies w row) where
     passed : state_out r ≡ false
-    passed = not-true-false (state_out r) (λ e. none 14 0 (fourteen ((state-decides r).0 e)))
+    passed = false_from_ne_true (state_out r) (λ e. none 14 0 (fourteen ((state-decides r).0 e)))
 
     timely : missed r ≡ false
-    timely = not-true-false (missed r) (λ e. none 25 t (late-now ((missed-decides r).0 e)))
+    timely = false_from_ne_true (missed r) (λ e. none 25 t (late-now ((missed-decides r).0 e)))
 
     again : ¬ StateOut (worked_row r row)
     again = fails _ _ (state-decides (worked_row r row)) (next-passes passed timely)

@@ -27,8 +27,8 @@ use Rattle.plan_check.specs.Row.{faulty, shown_in_row, any_unknown_byte, worked_
 use Rattle.plan_check.specs.RowAnswer.{RowAnswer, state_by_answer, row_answer_meaning}
 use Rattle.plan_check.specs.State.{horizon_in, note_of, noted_at, noting, past_note, start_in}
 use Rattle.plan_check.specs.CheckRow.{answer_at, final_answer, check_row_answer, check_row_of}
-use Rattle.plan_check.specs.declared.Answer.{Answer}
-use Rattle.plan_check.specs.declared.Answer.TheVariants.{Accepted, Refused, Taken}
+use Rattle.plan_check.specs.RowAnswer.{Answer}
+use Rattle.plan_check.specs.RowAnswer.{Accepted, Refused, Taken}
 use Rattle.plan_check.specs.declared.Note.{Note}
 use Rattle.plan_check.specs.declared.SuppliedPlan.{SuppliedPlan}
 use Rattle.plan_check.proofs.PlanExtent.{all-places}
@@ -112,7 +112,7 @@ module _
   -- 25
   same-missed : missed r ≡ missed q
   unfolding missed
-  same-missed = any_same r.count (late_at r) (late_at q) (λ p l. ap (λ (t : Task). late_in t.deadline t.phase) (same_at p l))
+  same-missed = any_same r.count (late_at r) (late_at q) (λ p l. ap (λ (t : Task). late_in t.parameters.deadline t.phase) (same_at p l))
 
   -- 26
   same_differs : differs w ≡ differs v

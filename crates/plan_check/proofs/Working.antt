@@ -21,7 +21,7 @@ use Rattle.plan_check.specs.Plan.{cell_count}
 use Rattle.plan_check.specs.Row.{faulty, any_unknown_byte, worked_row, worked_at, wrong_at}
 use Rattle.plan_check.specs.Shown.{ShownOf, any_wrong, worked_with, wrong_with}
 use Rattle.plan_check.specs.State.{horizon_in}
-use Rattle.plan_check.specs.declared.rows.Shown.{Shown}
+use Rattle.plan_check.specs.Shown.{Shown}
 
 -- changes that agree on the first n places
 map_first-same :

@@ -2,13 +2,10 @@
 use Rattle.std.specs.Prelude.{cond, not, List, ◌⊎◌, ◌↔◌, ◌≡◌, ◌<◌, suc, ℕ, eqb, leb, drop, length}
 use Rattle.table.specs.Limits.{horizon_out}
 use Rattle.run.specs.Run.{tasks_in}
-use Rattle.plan_check.specs.declared.Answer.{Answer}
-use Rattle.plan_check.specs.declared.Answer.TheVariants.{Accepted, Refused, Taken}
-use Rattle.plan_check.specs.declared.Entered.{Entered}
 use Rattle.plan_check.specs.declared.SuppliedPlan.{SuppliedPlan}
 use Rattle.plan_check.specs.Numbers.{First, Last, NoneApplies, StateOut, after_row, differs, missed, state_out}
 use Rattle.plan_check.specs.Row.{faulty}
-use Rattle.plan_check.specs.RowAnswer.{state_by_answer, row_answer_meaning}
+use Rattle.plan_check.specs.RowAnswer.{Answer, Accepted, Refused, Taken, Entered, state_by_answer, row_answer_meaning}
 use Rattle.plan_check.specs.RowAnswer as meaning
 use Rattle.plan_check.specs.State.{horizon_in}
 

@@ -1,14 +1,23 @@
 -- The cells of a row as code keeps them: for each byte, how many cores show it; its faults, and the tick by them.
-use Rattle.std.specs.Prelude.{◌&&◌, Bool, false, not, List, ◌≡◌, ◌<◌, suc, ℕ, eqb, ltb, get_or}
+use Rattle.std.specs.Prelude.{◌&&◌, Bool, false, true, Option, None, Some, [], not, List, ◌≡◌, ◌<◌, suc, ℕ, eqb, ltb, get_or}
 use Rattle.model.specs.Search.{any}
 use Rattle.phase.specs.declared.Task.{Task}
 use Rattle.phase.specs.Phase.{working}
 use Rattle.phase.specs.Task.{next_task, width_now}
 use Rattle.run.specs.declared.Run.{Run}
 use Rattle.run.specs.Run.{map_first, place_at, rule_in}
-use Rattle.plan_check.specs.declared.rows.Shown.{Shown}
 use Rattle.plan_check.specs.Plan.{cell_count}
 use Rattle.plan_check.specs.Row.{any_unknown_byte}
+
+-- whether the row shows an unknown position; and where it does not, how many cores show each byte
+pub record Shown : Type 0 where
+  pub unknown : Bool
+  pub cells : List ℕ
+
+-- as code returns it: the counts, where no position is unknown
+abbrev pub shown_in : Option (List ℕ) → Shown
+shown_in None = record { unknown = true; cells = [] }
+shown_in (Some ns) = record { unknown = false; cells = ns }
 
 -- an unknown position is met, or for each byte the number of cores that show it is kept
 pub record ShownOf (fence count : ℕ) (row : List ℕ) (s : Shown) : Type 0 where

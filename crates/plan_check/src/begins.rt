@@ -8,7 +8,8 @@ use model::MOST_TASKS;
 use phase::Phase;
 
 // Nothing recorded.
-// No derived Default: the phase of zeros is Resting(0).
+// Not derived: the phase of zeros is Resting(0), which no derive gives. One impl for Phase and derives above it are no
+// plainer: clauses name this value by its definition.
 pub(crate) fn blank() -> [Note; MOST_TASKS]
     ensures { result ≡ blank }
 {
@@ -19,6 +20,7 @@ pub(crate) fn blank() -> [Note; MOST_TASKS]
 }
 
 // A state of all zeros, which 14 turns down: its run is that of a refused start.
+// Not derived, as `blank`: `empty_state` of specs, which C finds after a refused beginning, has Resting(0).
 pub fn empty() -> SuppliedPlan
     ensures { result ≡ empty_state }
 {

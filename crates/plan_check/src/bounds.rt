@@ -6,12 +6,15 @@ ghost use Rattle.model.specs.Search.{any};
 ghost use Rattle.plan_check.specs.Numbers.{unreachable_phase, state_out, missed, differs};
 ghost use Rattle.plan_check.specs.State.{horizon_in};
 ghost use Rattle.plan_check.specs.CheckRow.{answer_at, final_answer};
+ghost use Rattle.plan_check.specs.RowAnswer.{answer_in};
 
-use crate::{Answer, SuppliedPlan};
+use crate::{Progress, SuppliedPlan};
+use model::Refusal;
 use phase::Phase;
 use run::Run;
 
 // Whether no supplied plan leaves a task in this phase: it holds, or its counts are unequal.
+// A match, since one case compares its numbers: a `matches!` with a guard is no shorter.
 fn unreachable(phase: Phase) -> bool
     ensures { result ≡ unreachable_phase phase }
 {
@@ -23,6 +26,8 @@ fn unreachable(phase: Phase) -> bool
 }
 
 // Whether some task of the run is in such a phase.
+// The count within 32 is a clause, here and in the functions of a state: a state is any run, and 14 tests it.
+// A type of states that pass would be built anew for each row.
 fn any_unreachable(run: Run) -> bool
     requires { run.count ≤ most_tasks }
     ensures { result ≡ any run.count (λ p. unreachable_phase (phase_at run p)) }
@@ -61,28 +66,28 @@ impl SuppliedPlan {
     }
 
     // The answer after the last row: 25 and then 26, or the plan is accepted.
-    fn final_answer(self) -> Answer
+    fn final_answer(self) -> Result<Progress, Refusal>
         requires { self.run.count ≤ most_tasks }
-        ensures { result ≡ final_answer self }
+        ensures { answer_in result ≡ final_answer self }
     {
         if missed(self.run) {
-            return Answer::Refused(25, self.tick);
+            return Err(Refusal::DeadlineMissed(self.tick));
         }
         if self.differs() {
-            return Answer::Refused(26, self.tick);
+            return Err(Refusal::PhasesDiffer(self.tick));
         }
-        Answer::Accepted
+        Ok(Progress::Accepted)
     }
 
     // The answer of the state after a row, where the horizon is known.
-    pub(crate) fn answer_at(self, horizon: u32) -> Answer
+    pub(crate) fn answer_at(self, horizon: u32) -> Result<Progress, Refusal>
         requires fact_1 { self.run.count ≤ most_tasks }
         requires fact_2 { horizon ≡ horizon_in self.run }
-        ensures { result ≡ answer_at self }
+        ensures { answer_in result ≡ answer_at self }
     {
         if self.tick == horizon {
             return self.final_answer();
         }
-        Answer::Taken
+        Ok(Progress::Taken)
     }
 }

@@ -19,9 +19,10 @@ fn by_tasks(run: Run) -> Result<Extent, Refusal>
     requires { state_out run ≡ false }
     ensures { ExtentOf run (extent_in result) }
 {
-    let tasks = run.parameters();
-    let start = table::positions::last_start(tasks, run.count);
-    let period = table::hyperperiod::hyperperiod(tasks, run.count);
+    let parameters = run.parameters();
+    let tasks = &parameters[..run.count];
+    let start = table::positions::last_start(tasks);
+    let period = table::hyperperiod::hyperperiod(tasks);
     if table::checks::horizon_out(start, period) {
         return Err(Refusal::LongHorizon);
     }

@@ -2,10 +2,9 @@
 #![tactic(auto)]
 
 ghost use Rattle.std.specs.Prelude.{◌≡◌, ◌<◌, length};
-ghost use Rattle.plan_check.specs.declared.Answer.TheVariants.{Refused};
 ghost use Rattle.plan_check.specs.Extent.{Ready};
 ghost use Rattle.plan_check.specs.Begin.{BeginOf, beginning};
-ghost use Rattle.plan_check.specs.RowAnswer.{state_by_answer};
+ghost use Rattle.plan_check.specs.RowAnswer.{entered_in};
 ghost use Rattle.plan_check.specs.CheckRow.{CheckRowOf, check_row_of};
 
 pub mod extent; // extent.rt: the extent of a plan, and numbers 14 and 9
@@ -14,6 +13,7 @@ mod bounds; // bounds.rt: number 14 of a state, 25 and 26
 mod moves; // moves.rt: one tick, and the phases recorded
 mod rows; // rows.rt: the cells of a row, and number 24
 
+use extent::Extent;
 use model::{MOST_TASKS, Refusal};
 use phase::Phase;
 use run::Run;
@@ -25,6 +25,7 @@ pub struct Note {
 }
 
 // A supplied plan between two rows: a run, its tick, and the phases recorded at the last S.
+// The notes stand beside the run's tasks: C's words of a plan, and `kept_plan` of specs, have the run and then the notes.
 #[derive(Clone, Copy)]
 pub struct SuppliedPlan {
     pub run: Run,
@@ -32,19 +33,11 @@ pub struct SuppliedPlan {
     pub noted: [Note; MOST_TASKS],
 }
 
-// The answer to a row: taken; taken as the last, and the plan accepted; or refused with number and tick.
+// What a row that is taken brings a plan to: more rows are to come, or it was the last and the plan is accepted.
 #[derive(Clone, Copy)]
-pub enum Answer {
+pub enum Progress {
     Taken,
     Accepted,
-    Refused(u32, u32),
-}
-
-// The result of a row: the answer, and the next state.
-#[derive(Clone, Copy)]
-pub struct Entered {
-    pub answer: Answer,
-    pub plan: SuppliedPlan,
 }
 
 // The state at tick 0 for the words of a table, with any verdict; or the first of 1 to 9 and 19 that applies.
@@ -57,78 +50,49 @@ pub fn begin(words: &[u32]) -> Result<SuppliedPlan, Refusal>
 }
 
 impl SuppliedPlan {
-    // A row that is turned down: the state as given.
-    fn refused(self, number: u32, tick: u32) -> Entered
-        ensures { result ≡ record { answer = Refused number tick; plan = self } }
-    {
-        Entered {
-            answer: Answer::Refused(number, tick),
-            plan: self,
-        }
-    }
-
-    // The answer with its state: the next one, or where it is refused the one given.
-    fn by_answer(self, answer: Answer, next: SuppliedPlan) -> Entered
-        ensures { result ≡ record { answer = answer; plan = state_by_answer answer next self } }
-    {
-        match answer {
-            Answer::Taken => Entered {
-                answer: Answer::Taken,
-                plan: next,
-            },
-            Answer::Accepted => Entered {
-                answer: Answer::Accepted,
-                plan: next,
-            },
-            Answer::Refused(number, tick) => self.refused(number, tick),
-        }
-    }
-
     // The row of a tick before the horizon, one byte a core: 25, 24, or the answer of the state after it.
-    fn shown(self, start: u32, horizon: u32, row: &[u8]) -> Entered
-        requires fact_1 { Ready self.run start horizon }
-        requires fact_2 { self.tick < horizon }
+    fn shown(self, extent: Extent, row: &[u8]) -> Result<(Progress, SuppliedPlan), Refusal>
+        requires fact_1 { Ready self.run extent.start extent.horizon }
+        requires fact_2 { self.tick < extent.horizon }
         requires fact_3 { length row.now ≡ self.run.cores }
-        ensures { result ≡ check_row_of self row.now }
+        ensures { entered_in self result ≡ check_row_of self row.now }
     {
         let run = self.run;
         let tick = self.tick;
         if bounds::missed(run) {
-            return self.refused(25, tick);
+            return Err(Refusal::DeadlineMissed(tick));
         }
-        let shown = rows::counted(row, run.fence, run.count);
-        let cells = shown.cells;
-        if shown.unknown | rows::any_wrong(run, &cells) {
-            return self.refused(24, tick);
+        let Some(cells) = rows::counted(row, run.fence, run.count) else {
+            return Err(Refusal::BadRow(tick));
+        };
+        if rows::any_wrong(run, &cells) {
+            return Err(Refusal::BadRow(tick));
         }
-        let next = self.after(start, &cells);
-        let answer = next.answer_at(horizon);
-        self.by_answer(answer, next)
+        let next = self.after(extent.start, &cells);
+        let progress = next.answer_at(extent.horizon)?;
+        Ok((progress, next))
     }
 
-    // The answer of `check_row` to the row of this tick, where `extent` is known: for plans of many rows. The state that it returns is ready for the next row.
-    pub fn enter(self, start: u32, horizon: u32, row: &[u8]) -> Entered
-        requires { Ready self.run start horizon }
-        ensures { (result ≡ check_row_of self row.now) × Ready result.plan.run start horizon }
+    // The answer of `check_row` to the row of this tick, where its extent is known, for plans of many rows: the next state has the same one.
+    pub fn enter(self, extent: Extent, row: &[u8]) -> Result<(Progress, SuppliedPlan), Refusal>
+        requires { Ready self.run extent.start extent.horizon }
+        ensures { (entered_in self result ≡ check_row_of self row.now) × Ready (entered_in self result).plan.run extent.start extent.horizon }
     {
-        let run = self.run;
-        if horizon <= self.tick {
-            return self.refused(10, 0);
+        if extent.horizon <= self.tick {
+            return Err(Refusal::BadRange);
         }
-        if row.len() != run.cores as usize {
-            return self.refused(11, 0);
+        if row.len() != self.run.cores as usize {
+            return Err(Refusal::ShortRows);
         }
-        self.shown(start, horizon, row)
+        self.shown(extent, row)
     }
 
-    // The row of this tick, one byte a core: taken, with the state one tick on; accepted as the last one; or 14, 9, 10, 11, 25, 24 and, after the last
-    // row, 25 and 26 at the horizon, with the state as given.
-    pub fn check_row(self, row: &[u8]) -> Entered
-        ensures { CheckRowOf self row.now result }
+    // The row of this tick, one byte a core: the state one tick on, where it is taken or accepted as the last one; or 14, 9, 10, 11, 25, 24 and, after
+    // the last row, 25 and 26 at the horizon.
+    pub fn check_row(self, row: &[u8]) -> Result<(Progress, SuppliedPlan), Refusal>
+        ensures { CheckRowOf self row.now (entered_in self result) }
     {
-        match self.extent() {
-            Ok(extent) => self.enter(extent.start, extent.horizon, row),
-            Err(refusal) => self.refused(refusal.number(), 0),
-        }
+        let extent = self.extent()?;
+        self.enter(extent, row)
     }
 }

@@ -16,6 +16,7 @@ fn worked(run: Run, cells: &[u8; BYTES]) -> Run
     ensures { result ≡ worked_with run cells.now }
 {
     let mut next = run;
+    // By an index: after a `zip` with `iter_mut` nothing is known of the array (tried in rule and priority_order).
     for i in 0..run.count {
         next.tasks[i] = run.tasks[i].next(run.rule, false, 0 < cells[i + 1], false, false);
     }
@@ -28,6 +29,7 @@ fn noting(run: Run, noted: [Note; MOST_TASKS]) -> [Note; MOST_TASKS]
     ensures { result ≡ noting run noted }
 {
     let mut notes = noted;
+    // By an index, as in `worked`.
     for i in 0..run.count {
         notes[i].phase = run.tasks[i].phase;
     }
@@ -35,6 +37,7 @@ fn noting(run: Run, noted: [Note; MOST_TASKS]) -> [Note; MOST_TASKS]
 }
 
 // A run that arrives at a tick: at the last S its phases are recorded.
+// The start alone, and its clause: an Extent that held the fact would ask more of the callers of `enter`, who build one.
 pub(crate) fn state_at(run: Run, tick: u32, start: u32, noted: [Note; MOST_TASKS]) -> SuppliedPlan
     requires fact_1 { run.count ≤ most_tasks }
     requires fact_2 { start ≡ start_in run }

@@ -3,23 +3,14 @@ ghost use Rattle.std.specs.Prelude.{◌≡◌, not, cond, ℕ, ◌+◌, ◌≤�
 ghost use Rattle.model.specs.Search.{bit};
 ghost use Rattle.model.specs.Sizes.{fenced_byte, most_cores, most_tasks};
 ghost use Rattle.phase.specs.Task.{width_now};
-ghost use Rattle.plan_check.specs.Shown.{ShownOf, any_wrong, wrong_with};
+ghost use Rattle.plan_check.specs.Shown.{ShownOf, any_wrong, shown_in, wrong_with};
 
+use model::FENCED;
 use phase::Task;
 use run::Run;
 
 // The bytes that a row can show.
 pub const BYTES: usize = 256;
-
-// The byte of a fenced core.
-const FENCED: u8 = 255;
-
-// Whether the row shows an unknown position; and where it does not, how many cores show each byte.
-#[derive(Clone, Copy)]
-pub struct Shown {
-    pub unknown: bool,
-    pub cells: [u8; BYTES],
-}
 
 // Whether a byte is an unknown position on a core: a fenced one without 255, another with a byte above the last position.
 fn unknown_byte(fence: u64, count: usize, core: u32, byte: u8) -> bool
@@ -41,32 +32,30 @@ fn add(cells: &mut [u8; BYTES], byte: u8)
     cells[byte as usize] += 1;
 }
 
-// The cells of a row.
-pub(crate) fn counted(row: &[u8], fence: u64, count: usize) -> Shown
+// How many cores of a row show each byte; none where one shows an unknown position.
+pub(crate) fn counted(row: &[u8], fence: u64, count: usize) -> Option<[u8; BYTES]>
     requires { length row.now ≤ most_cores }
-    ensures { ShownOf fence count row.now result }
+    ensures { ShownOf fence count row.now (shown_in result) }
 {
     let mut cells = [0u8; BYTES];
     for (core, byte) in row.iter().enumerate() {
         if unknown_byte(fence, count, core as u32, *byte) {
-            return Shown {
-                unknown: true,
-                cells,
-            };
+            return None;
         }
         add(&mut cells, *byte);
     }
-    Shown {
-        unknown: false,
-        cells,
-    }
+    Some(cells)
 }
 
 // The width of a task's job.
 fn width_of(task: Task) -> u32
     ensures { result ≡ width_now task }
 {
-    if task.even { task.second } else { task.width }
+    if task.even {
+        task.parameters.second
+    } else {
+        task.parameters.width
+    }
 }
 
 // Whether a task that has this number of cores of the row has another number than its job's width, or nothing owed.
@@ -77,6 +66,7 @@ fn wrong(task: Task, cells: u8) -> bool
 }
 
 // Whether some task of the run is wrong in a row with these counts of cells.
+// Not a struct of the two: `after` has the run in its plan, and would build one to take it apart.
 pub(crate) fn any_wrong(run: Run, cells: &[u8; BYTES]) -> bool
     requires { run.count ≤ most_tasks }
     ensures { result ≡ any_wrong run cells.now }

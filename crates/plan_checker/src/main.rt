@@ -1,107 +1,71 @@
 // Reads a table, a line `--` and a supplied plan from standard input as they come, and prints the answer: one line.
 #![tactic(auto)]
 
-ghost use Rattle.std.specs.Prelude.{◌≡◌, ◌<◌, length};
-ghost use Rattle.stream.specs.Sent.{SentOf};
+ghost use Rattle.std.specs.Prelude.{◌≡◌};
+ghost use Rattle.splitter.specs.Split.{too_many};
+ghost use Rattle.stream.specs.Sent.{SentOf, sent_of};
+ghost use Rattle.plan_text.specs.Check.{check_in};
+ghost use Rattle.plan_text.specs.Checked.{answered};
 ghost use Rattle.plan_text.specs.Printed.{plan_answer_line};
-ghost use Rattle.plan_checker.specs.Rounds.{ReceivedOf};
+ghost use Rattle.plan_checker.specs.Rounds.{RoundOf};
 
 use plan_text::{Check, PlanAnswer, answer_text};
-use std::io::{Read, Write};
-use stream::{Reading, Sent};
+use std::io::Write;
+use std::ops::ControlFlow;
+use stream::{Cut, Feed, Round};
 use text::row::LINE;
 
-// The result of a read: the check after it, how many bytes of the buffer are left to it, what was written, and whether it reads again.
-#[derive(Clone, Copy)]
-struct Received {
-    reading: Reading,
-    check: Check,
-    held: usize,
-    sent: Sent,
-    again: bool,
-}
-
 // Prints the answer.
-fn print<W: Write>(out: &mut W, answer: PlanAnswer) -> Sent
-    ensures { SentOf 0 (plan_answer_line answer) result }
+// No plainer as one with those of the other programs: three lines, over arrays of two lengths.
+fn print<W: Write>(out: &mut W, answer: Option<PlanAnswer>) -> Result<usize, Cut>
+    ensures { SentOf 0 (plan_answer_line (answered answer)) (sent_of result) }
 {
     let mut line = [0u8; LINE];
     let length = answer_text::put(&mut line, answer);
     stream::send(out, 0, &line[..length])
 }
 
-// Nothing was written.
-fn nothing_sent() -> Sent
-    ensures { result.count ≡ 0 }
-{
-    Sent {
-        count: 0,
-        whole: true,
-    }
-}
-
-// Reads once after the bytes that are left, and prints the answer if it is known.
-fn receive<R: Read, W: Write, E: Write>(
-    input: &mut R,
-    out: &mut W,
-    log: &mut E,
+// The program `plan_checker`: its check.
+#[derive(Drop)]
+struct PlanChecker {
     check: Check,
-    buffer: &mut [u8],
-    held: usize,
-) -> Received
-    requires { held < length buffer.old }
-    ensures { ReceivedOf check held buffer.old buffer.new result }
-{
-    let reading = stream::read(input, buffer, held);
-    if reading.failed {
-        stream::report_unread(log, b"inspect");
-        return Received {
-            reading: reading,
-            check: check,
-            held: held,
-            sent: nothing_sent(),
-            again: false,
-        };
-    }
-    let end = reading.held;
-    let fed = check.feed(&buffer[..end], reading.ended);
-    let next = fed.check;
-    let taken = fed.taken;
-    if next.is_over() {
-        let answer = next.answer;
-        let sent = print(out, answer);
-        return Received {
-            reading: reading,
-            check: next,
-            held: held,
-            sent: sent,
-            again: false,
-        };
-    }
-    let left = stream::move_to_front(buffer, taken, end);
-    Received {
-        reading: reading,
-        check: next,
-        held: left,
-        sent: nothing_sent(),
-        again: true,
+}
+
+impl Feed for PlanChecker {
+    ghost round = { λ old ended bytes new r. RoundOf (check_in old.check) ended bytes (check_in new.check) r };
+
+    ghost most = { too_many };
+
+    // Feeds bytes to the check, and prints the answer if it is known.
+    fn feed<W: Write>(&mut self, out: &mut W, bytes: &[u8], ended: bool) -> Round {
+        let fed = self.check.feed(bytes, ended);
+        self.check = fed.check;
+        if fed.check.is_over() {
+            return Round {
+                taken: fed.taken,
+                sent: print(out, fed.check.answer()),
+                flow: ControlFlow::Break(()),
+            };
+        }
+        Round {
+            taken: fed.taken,
+            sent: Ok(0),
+            flow: ControlFlow::Continue(()),
+        }
     }
 }
 
-// A proved loop has to end, and no contract ensures that standard input does: no run uses up this number of rounds.
+// A main for each program: the runtime is handed to it alone, and all else is `stream::run`.
 fn main(rt: HostRuntime) {
-    let mut input = rt.stdin();
-    let mut out = rt.stdout();
-    let mut log = rt.stderr();
-    let mut check = Check::new();
-    let mut buffer = io::buffer();
-    let mut held: usize = 0;
-    for _ in 0..u64::MAX {
-        let received = receive(&mut input, &mut out, &mut log, check, &mut buffer, held);
-        if !received.again {
-            return;
-        }
-        check = received.check;
-        held = received.held;
-    }
+    let mut checker = PlanChecker {
+        check: Check::new(),
+    };
+    stream::run(
+        &mut rt.stdin(),
+        &mut rt.stdout(),
+        &mut rt.stderr(),
+        b"inspect",
+        &mut checker,
+        &mut io::buffer(),
+    );
 }

@@ -6,22 +6,22 @@ use Prim.Native.Nat.{◌-◌, ℕ, ◌≤◌}
 use lib.ListN.{length, replicate, take}
 use lib.Seq.{take-append_seam}
 use borrow.Author.Tests.{eq-eqb, le-ltb, ne_eqb}
-use Rattle.std.proofs.Common.{None, Some}
+use Rattle.std.proofs.Common.{Err, None, Some}
 use Rattle.text.specs.Format.{numbers_in, words_of}
 use Rattle.plan_check.specs.Begin.{begin_of}
 use Rattle.plan_check.specs.CheckRow.{check_row_of}
-use Rattle.plan_check.specs.declared.Answer as plan_check
-use Rattle.plan_check.specs.declared.Answer.TheVariants as answer
 use Rattle.plan_check.specs.Begin.{Begun}
-use Rattle.plan_check.specs.declared.Entered.{Entered}
+use Rattle.plan_check.specs.RowAnswer.{Answer, Accepted, Entered, Refused, Taken}
 use Rattle.plan_check.specs.declared.SuppliedPlan.{SuppliedPlan}
 use Rattle.plan_text.specs.declared.PlanProgress.{PlanProgress}
-use Rattle.plan_text.specs.declared.PlanAnswer.{PlanAnswer}
-use Rattle.plan_text.specs.declared.PlanAnswer.TheVariants.{More, Unread}
-use Rattle.plan_text.specs.declared.LineAnswer.{LineAnswer}
+use Rattle.plan_text.specs.Checked.{PlanAnswer}
+use Rattle.plan_text.specs.Checked.{More, Unread}
+use Rattle.plan_text.specs.Checked.{LineAnswer}
 use Rattle.plan_text.specs.declared.line.Line.{Line}
 use Rattle.plan_text.specs.Line.{Read, is_verdict, read_line, long_line, most_cells, no_row, pad_cells, row_read, row_in}
-use Rattle.plan_text.specs.Checked.{row_entered, enters, or_else, is_more, next_line, opened_by, opened_of, skipped, rows_at, step_of, line_answer}
+use Rattle.plan_text.specs.declared.PlanAnswer as code
+use Rattle.plan_text.specs.declared.PlanAnswer.TheVariants as variant
+use Rattle.plan_text.specs.Checked.{said, stepped, row_entered, enters, or_else, is_more, next_line, opened_by, opened_of, skipped, rows_at, step_of, line_answer}
 
 -- ONE LINE
 
@@ -30,10 +30,10 @@ unfolding is_verdict
 verdict-long l h = rw (le-ltb (length l) long_line h)
 
 -- the plan after a row is what `check_row` returns
-pub entered-plan : (a : plan_check.Answer) (w : SuppliedPlan) (n : ℕ) → (row_entered a w n).rows.plan ≡ w
-entered-plan answer.Taken w n = refl
-entered-plan answer.Accepted w n = refl
-entered-plan (answer.Refused k t) w n = refl
+pub entered-plan : (a : Answer) (w : SuppliedPlan) (n : ℕ) → (row_entered a w n).rows.plan ≡ w
+entered-plan Taken w n = refl
+entered-plan Accepted w n = refl
+entered-plan (Refused k t) w n = refl
 
 -- a line that is skipped
 pub step-passed :
@@ -71,6 +71,24 @@ enters-other r no_row k n q w h = rw h
 pub enters_none : (r : PlanProgress) (x : Read) (n : ℕ) → None ≡ read_line x → n ≡ next_line r.lines → line_answer r (Unread n) ≡ enters r x
 enters_none r (row_read t ns) n q h = absurd cc
 enters_none r no_row n q h = rw h
+
+-- a row that is taken steps to the plan that `check_row` returns
+pub row-stepped :
+    (r : PlanProgress) (l : List ℕ) (n : ℕ) (p : Bool) (k : Line) (e : Entered) → p ≡ skipped r l → p ≡ false → Some k ≡ read_line (row_in l)
+    → k.tick ≡ r.plan.tick → e ≡ check_row_of r.plan (take k.count k.cells) → n ≡ next_line r.lines → row_entered e.answer e.plan n ≡ step_of r l
+row-stepped r l n p k e q f some tick value lines =
+    enters-row r (row_in l) k e _ some tick value (ap (row_entered e.answer e.plan) lines) ∙ step-enters r l p q f
+
+-- a last answer, beside the plan that is not returned
+pub last-answer : (u : LineAnswer) (a : code.PlanAnswer) → said a ≡ u.answer → stepped u (Err a) ≡ u
+last-answer u a e = ap (λ (s : PlanAnswer). record { rows = u.rows; answer = s }) e
+
+pub last-ends : (a : code.PlanAnswer) → is_more (said a) ≡ false
+last-ends variant.Accepted = refl
+last-ends (variant.Unfinished t) = refl
+last-ends (variant.Fault n t) = refl
+last-ends (variant.Refused n p) = refl
+last-ends (variant.Unread n) = refl
 
 -- WHERE MORE LINES ARE NEEDED
 

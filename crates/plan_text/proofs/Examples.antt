@@ -25,8 +25,8 @@ use Rattle.plan_check.specs.Plan.{cell_count}
 use Rattle.plan_check.specs.Row.{faulty, any_unknown_byte, worked_row}
 use Rattle.plan_check.specs.State.{note}
 use Rattle.plan_check.specs.CheckRow.{answer_at, final_answer, check_row_answer, check_row_of}
-use Rattle.plan_text.specs.declared.PlanAnswer.{PlanAnswer}
-use Rattle.plan_text.specs.declared.PlanAnswer.TheVariants.{Accepted, Fault, Refused, Unfinished, Unread}
+use Rattle.plan_text.specs.Checked.{PlanAnswer}
+use Rattle.plan_text.specs.Checked.{Accepted, Fault, Refused, Unfinished, Unread}
 use Rattle.plan_text.specs.Checked.{checked_of, end_answer, next_line, opened_of, opens, skipped, rows_at, rows_answer, split_answer, step_of}
 use Rattle.plan_text.specs.Line.{Read, cells_of, is_byte, is_verdict, no_row, row_read, row_in, row_of_words}
 use Rattle.plan_text.specs.Printed.{plan_answer_line}
@@ -78,7 +78,7 @@ plan = record {
     fence = 0;
     withdrawn = 0;
     count = 1;
-    tasks = record { offset = 0; width = 1; length = 1; deadline = 2; period = 2; second = 1; even = false; phase = Working 0 0 0 } ∷ replicate 31 unused;
+    tasks = record { parameters = record { offset = 0; width = 1; length = 1; deadline = 2; period = 2; second = 1 }; even = false; phase = Working 0 0 0 } ∷ replicate 31 unused;
   };
   tick = 0;
   noted = note (Working 0 0 0) ∷ replicate 31 (note (Resting 0));

@@ -7,27 +7,22 @@ use Prim.Native.Nat.{◌+◌, ◌-◌, ◌<◌, ℕ, ◌≤◌}
 use native.Mathlib.Omega.{arith}
 use lib.ListN.{drop, drop_of_length-le, length, length-drop, take}
 use lib.Seq.{drop-drop, take_all}
-use Rattle.std.specs.Prelude.{Option}
-use Rattle.splitter.specs.declared.Part.{Part}
 use Rattle.splitter.specs.Split.{InputEnd, lines_from, nothing, split, unknown}
-use Rattle.splitter.specs.Parts.{Comes, OneLine, LineOf, TableOf, ends, goes}
+use Rattle.splitter.specs.Parts.{Part, Comes, OneLine, LineOf, TableOf, ends, goes}
 use Rattle.splitter.proofs.Splits.{lines_none, lines-waits}
-use Rattle.splitter.proofs.Tables.{part-rest}
-use Rattle.plan_check.specs.declared.Entered.{Entered}
-use Rattle.plan_check.specs.declared.extent.Extent.{Extent}
-use Rattle.plan_text.specs.declared.Check.{Check}
-use Rattle.plan_text.specs.declared.Fed.{Fed}
+use Rattle.std.proofs.lemmas.List.{take_rest}
+use Rattle.plan_text.specs.Check.{Check}
+use Rattle.plan_text.specs.Check.{Fed}
 use Rattle.plan_text.specs.declared.PlanProgress.{PlanProgress}
-use Rattle.plan_text.specs.declared.PlanAnswer.{PlanAnswer}
-use Rattle.plan_text.specs.declared.Stage.{Stage}
-use Rattle.plan_text.specs.declared.Stage.TheVariants.{Over, Plan, Table}
-use Rattle.plan_text.specs.declared.LineAnswer.{LineAnswer}
+use Rattle.plan_text.specs.Checked.{PlanAnswer}
+use Rattle.plan_text.specs.Check.{Stage}
+use Rattle.plan_text.specs.Check.{Over, Plan, Table}
+use Rattle.plan_text.specs.Checked.{LineAnswer}
 use Rattle.plan_text.specs.Line.{long_line}
-use Rattle.plan_text.specs.Checked.{end_answer, row_entered, is_more, opened_of, opens, rows_answer, split_answer, step_of}
-use Rattle.plan_text.specs.Check.{FedBy, FedOf, ExtentKnown, answer_in, check_answer, is_over, over_with, plan_answer, plan_with}
+use Rattle.plan_text.specs.Checked.{end_answer, is_more, opened_of, opens, rows_answer, split_answer, step_of}
+use Rattle.plan_text.specs.Check.{FedBy, FedOf, answer_in, check_answer, is_over, over_with, plan_answer, plan_with}
 use Rattle.plan_text.proofs.Lines.{all-opens, due-opens, grows, opens-end, opens-more, rows_end, rows_none, rows_on, rows-wait}
 use Rattle.plan_text.proofs.Long.{long-step, rows_long}
-use Rattle.plan_text.proofs.Answers.{entered-plan}
 
 -- a check that is over gives its answer
 pub over-answer : (c : Check) (e : InputEnd) (bs : List ℕ) → is_over c.stage ≡ true → check_answer c e bs ≡ c.answer
@@ -51,10 +46,6 @@ fed-over f from ended bs rows said taken h x = record {
   goes_on = λ o. absurd (true≢false o);
 }
 
--- a row that was taken, or not, leaves a plan that goes as far
-pub extent-known-on : (a : Option Extent) (x : Entered) (n : ℕ) (t : LineAnswer) → t ≡ row_entered x.answer x.plan n → ExtentKnown a x.plan → ExtentKnown a t.rows.plan
-extent-known-on a x n t e w = subst⁻¹ (λ (u : LineAnswer). ExtentKnown a u.rows.plan) e (subst⁻¹ (ExtentKnown a) (entered-plan x.answer x.plan n) w)
-
 -- THE PLAN
 
 -- a place up to which the lines of the plan have been taken
@@ -68,7 +59,7 @@ module _
     (v : LineOf (take (length bs - at) (drop at bs)) long_line ended p)
   where
     l : LineOf (drop at bs) long_line ended p
-    l = subst (λ (x : List ℕ). LineOf x long_line ended p) (part-rest bs at) v
+    l = subst (λ (x : List ℕ). LineOf x long_line ended p) (take_rest bs at) v
 
     abbrev line : List ℕ
     line = take p.end (drop at bs)
@@ -110,8 +101,10 @@ module _
             absurd (false≢true (sym (long-step r (drop at bs) [] x.1).1 ∙ ap (λ (y : List ℕ). is_more (step_of r y).answer) (sym (long-line x.0)) ∙ needed))
 
     -- .. or not
-    pub taken-over : (t : LineAnswer) → p.whole ≡ true → t ≡ step_of r (take (at + p.end - at) (drop at bs)) → is_more t.answer ≡ false → FedBy (plan_answer r₀) from ended bs (over_with t.rows t.answer (at + p.next))
-    taken-over t h s m = fed-over (plan_answer r₀) from ended bs t.rows t.answer (at + p.next) next-within (λ more c. w.1 nothing more c ∙ over (l.line h) more c ∙ sym said)
+    pub taken-over :
+        (rows : PlanProgress) (t : LineAnswer) → p.whole ≡ true → t ≡ step_of r (take (at + p.end - at) (drop at bs)) → is_more t.answer ≡ false
+        → FedBy (plan_answer r₀) from ended bs (over_with rows t.answer (at + p.next))
+    taken-over rows t h s m = fed-over (plan_answer r₀) from ended bs rows t.answer (at + p.next) next-within (λ more c. w.1 nothing more c ∙ over (l.line h) more c ∙ sym said)
       where
         said : t.answer ≡ (step_of r line).answer
         said = ap (λ (u : LineAnswer). u.answer) (stepped t s)
@@ -149,8 +142,8 @@ module _
     none = drop_of_length-le bs {i = at} h
 
     -- the input has ended
-    pub plan-ended : (s : PlanAnswer) → ended ≡ true → s ≡ end_answer nothing r → FedBy (plan_answer r₀) from ended bs (over_with r s at)
-    plan-ended s d q = fed-over (plan_answer r₀) from ended bs r s at w.0 (λ more c. w.1 nothing more c ∙ all_of more (subst (λ (b : Bool). Comes b nothing more) d c) ∙ sym q)
+    pub plan-ended : (rows : PlanProgress) (s : PlanAnswer) → ended ≡ true → s ≡ end_answer nothing r → FedBy (plan_answer r₀) from ended bs (over_with rows s at)
+    plan-ended rows s d q = fed-over (plan_answer r₀) from ended bs rows s at w.0 (λ more c. w.1 nothing more c ∙ all_of more (subst (λ (b : Bool). Comes b nothing more) d c) ∙ sym q)
       where
         all_of : (more : List ℕ) → Comes true nothing more → plan_answer r nothing (drop at bs ++ more) ≡ end_answer nothing r
         all_of [] ends = ap (λ (y : List ℕ). plan_answer r nothing (y ++ [])) none ∙ ap (rows_answer nothing r) (lines_none nothing) ∙ rows_none nothing r

@@ -10,7 +10,7 @@ use Rattle.text.proofs.Exact.{long-refused}
 use Rattle.splitter.specs.Split.{InputEnd, Split, TooLong, closed, growing, nothing, split, unknown}
 use Rattle.splitter.specs.Parts.{SplitInto}
 use Rattle.plan_text.specs.declared.PlanProgress.{PlanProgress}
-use Rattle.plan_text.specs.declared.PlanAnswer.TheVariants.{More, Refused}
+use Rattle.plan_text.specs.Checked.{More, Refused}
 use Rattle.plan_text.specs.Checked.{checked_of, answer_so_far, end_answer, is_more, opened_of, opens, rows_answer, split_answer, step_of}
 use Rattle.plan_text.proofs.Answers.{on-end, on-more}
 use Rattle.plan_text.proofs.Taking.{begin-none}

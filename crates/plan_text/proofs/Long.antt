@@ -11,19 +11,20 @@ use lib.ListN.{drop, length, length-append, length-drop, take}
 use lib.Seq.{drop-append-le, length-take-le, take-append-le}
 use borrow.Author.Tests.{ne_eqb}
 use Rattle.model.specs.Sizes.{most_cores}
-use Rattle.model.proofs.Bools.{and_left, not-true-false}
+use Rattle.model.proofs.Bools.{and_left}
+use Rattle.std.proofs.lemmas.Bool.{false_from_ne_true}
 use Rattle.text.specs.Decimal.{all, value}
 use Rattle.text.specs.Format.{is_number, newline}
 use Rattle.text.specs.Input.{length_to}
 use Rattle.text.specs.Output.{space}
 use Rattle.text.proofs.Lines.{mark-within}
 use Rattle.text.proofs.Numbers.{number-exact}
-use Rattle.plan_check.specs.declared.Answer as plan_check
+use Rattle.plan_check.specs.RowAnswer.{Answer}
 use Rattle.plan_check.specs.CheckRow.{check_row_of}
 use Rattle.splitter.specs.Split.{last_line, lines_from, nothing}
 use Rattle.plan_text.specs.declared.PlanProgress.{PlanProgress}
-use Rattle.plan_text.specs.declared.PlanAnswer.TheVariants.{Fault, Refused}
-use Rattle.plan_text.specs.declared.LineAnswer.{LineAnswer}
+use Rattle.plan_text.specs.Checked.{Fault, Refused}
+use Rattle.plan_text.specs.Checked.{LineAnswer}
 use Rattle.plan_text.specs.Line.{Read, words_after, cells_of, is_byte, long_line, most_cells, no_row, row_read, row_in}
 use Rattle.plan_text.specs.Checked.{row_entered, enters, is_more, next_line, skipped, refusal_answer, rows_answer, step_of, no_row_answer}
 use Rattle.plan_text.proofs.Lines.{rows_end}
@@ -64,7 +65,7 @@ mark_on m (b ∷ l) more e = go (eqb b m) e (mark_on m l more)
 
 -- more than ten bytes represent no number
 long-number : (w : List ℕ) → 10 < length w → is_number w ≡ false
-long-number w h = not-true-false (is_number w) (λ e. omega (arith, h, ((number-exact w).0 e).short))
+long-number w h = false_from_ne_true (is_number w) (λ e. omega (arith, h, ((number-exact w).0 e).short))
 
 -- the first word of more than ten bytes ends in them, or is too long for a number
 first_word :
@@ -223,16 +224,17 @@ long-read l more h = ⊎_elim inside (λ q. (row-not (l ++ more) q.1 ∙ sym (ro
 
 -- THE ANSWER TO IT
 
+-- two tests that fail, each with another before it: neither holds
+pub no-either : (t u : Bool) → ((t && false) || (u && false)) ≡ false
+no-either true true = refl
+no-either true false = refl
+no-either false true = refl
+no-either false false = refl
+
 -- it is not skipped
 long-passed : (r : PlanProgress) (l : List ℕ) → long_line ≤ length l → skipped r l ≡ false
 unfolding skipped
-long-passed r l h = rw (← verdict-long l h, ne_eqb (length l) 0 (λ e. omega (arith, h, e))) (go (eqb r.lines 0) r.accepted)
-  where
-    go : (t u : Bool) → ((t && false) || (u && false)) ≡ false
-    go true true = refl
-    go true false = refl
-    go false true = refl
-    go false false = refl
+long-passed r l h = rw (← verdict-long l h, ne_eqb (length l) 0 (λ e. omega (arith, h, e))) (no-either (eqb r.lines 0) r.accepted)
 
 pub refusal-ends : (n t : ℕ) → is_more (refusal_answer n t) ≡ false
 refusal-ends n t = go (leb 24 n)
@@ -249,7 +251,7 @@ wide-ends r x (inr w) = ap (λ (y : Read). is_more (enters r y).answer) w.2 ∙ 
     taken : is_more (row_entered (check_row_of r.plan w.1).answer (check_row_of r.plan w.1).plan (next_line r.lines)).answer ≡ false
     taken =
         let z = take_long r.plan w.1 w.3 in
-        ap (λ (a : plan_check.Answer). is_more (row_entered a (check_row_of r.plan w.1).plan (next_line r.lines)).answer) z.2 ∙ refusal-ends z.0 z.1
+        ap (λ (a : Answer). is_more (row_entered a (check_row_of r.plan w.1).plan (next_line r.lines)).answer) z.2 ∙ refusal-ends z.0 z.1
 
     go : (b : Bool) → is_more (cond {A = LineAnswer} b (row_entered (check_row_of r.plan w.1).answer (check_row_of r.plan w.1).plan (next_line r.lines)) (no_row_answer r)).answer ≡ false
     go true = taken

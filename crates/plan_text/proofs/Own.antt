@@ -36,7 +36,7 @@ use Rattle.plan_check.specs.declared.SuppliedPlan.{SuppliedPlan}
 use Rattle.plan_check.proofs.Checked.{checked, own-plans, own-written}
 use Rattle.splitter.specs.Split.{lines_from, nothing}
 use Rattle.plan_text.specs.declared.PlanProgress.{PlanProgress}
-use Rattle.plan_text.specs.declared.PlanAnswer.TheVariants.{Accepted}
+use Rattle.plan_text.specs.Checked.{Accepted}
 use Rattle.plan_text.specs.Checked.{checked_of, next_line, rows_at, rows_answer}
 use Rattle.plan_text.specs.Plan.{WordsOf, ExpressibleRow, after_dashes, plan_text, plan_answer_of}
 use Rattle.plan_text.proofs.Plan.{before, plan-answer, rows-text, verdict-passed}

@@ -30,18 +30,17 @@ use Rattle.plan_check.specs.Answers.{PlanOutcome, accepts, unfinished}
 use Rattle.plan_check.specs.Checked.{row_answers_from, outcome_from}
 use Rattle.plan_check.specs.RowAnswer.{state_by_answer, row_answer_meaning}
 use Rattle.plan_check.specs.CheckRow.{check_row_answer, check_row_of}
-use Rattle.plan_check.specs.declared.Answer as plan_check
-use Rattle.plan_check.specs.declared.Answer.TheVariants as answer
+use Rattle.plan_check.specs.RowAnswer as answer
 use Rattle.plan_check.specs.declared.SuppliedPlan.{SuppliedPlan}
 use Rattle.plan_text.specs.declared.PlanProgress.{PlanProgress}
-use Rattle.plan_text.specs.declared.PlanAnswer.{PlanAnswer}
-use Rattle.plan_text.specs.declared.PlanAnswer.TheVariants.{Accepted, More, Unfinished}
-use Rattle.plan_text.specs.declared.LineAnswer.{LineAnswer}
+use Rattle.plan_text.specs.Checked.{PlanAnswer}
+use Rattle.plan_text.specs.Checked.{Accepted, More, Unfinished}
+use Rattle.plan_text.specs.Checked.{LineAnswer}
 use Rattle.plan_text.specs.Line.{cells_of, is_byte, is_verdict, long_line, most_cells, row_read, row_in, row_of_words}
 use Rattle.plan_text.specs.Checked.{end_answer, row_entered, or_else, is_more, next_line, skipped, refusal_answer, rows_at, rows_answer, step_of, line_answer}
 use Rattle.plan_text.specs.Plan.{WordsOf, ExpressibleRow, plan_text, plan_answer_of}
 use Rattle.plan_text.proofs.Lines.{rows_none}
-use Rattle.plan_text.proofs.Long.{refusal-ends}
+use Rattle.plan_text.proofs.Long.{no-either, refusal-ends}
 use Rattle.plan_text.proofs.Answers.{entered-plan, on-end}
 use Rattle.splitter.proofs.Words.{words-one}
 use Rattle.text.specs.Input.{length_to}
@@ -173,13 +172,7 @@ digit-verdict d l h = rw (ne_eqb 102 d (λ e. omega (arith, e, h)), ne_eqb 109 d
 
 digit-passed : (r : PlanProgress) (d : ℕ) (l : List ℕ) → d ≤ 57 → skipped r (d ∷ l) ≡ false
 unfolding skipped
-digit-passed r d l h = rw (digit-verdict d l h, ne_eqb (length (d ∷ l)) 0 (λ e. omega (arith, e))) (go (eqb r.lines 0) r.accepted)
-  where
-    go : (t u : Bool) → ((t && false) || (u && false)) ≡ false
-    go true true = refl
-    go true false = refl
-    go false true = refl
-    go false false = refl
+digit-passed r d l h = rw (digit-verdict d l h, ne_eqb (length (d ∷ l)) 0 (λ e. omega (arith, e))) (no-either (eqb r.lines 0) r.accepted)
 
 row-passed : (r : PlanProgress) (t : ℕ) (ns : List ℕ) → skipped r (bare t ns) ≡ false
 row-passed r t ns = let x = digit-first t ns in ap (skipped r) x.2 ∙ digit-passed r x.0 x.1 x.4
@@ -195,7 +188,7 @@ unfolding check_row_of
 taken-tick w ns n = go (check_row_answer w ns)
   where
     go :
-        (a : plan_check.Answer) → is_more (row_entered a (state_by_answer a (after_row w ns) w) n).answer ≡ true
+        (a : answer.Answer) → is_more (row_entered a (state_by_answer a (after_row w ns) w) n).answer ≡ true
         → (state_by_answer a (after_row w ns) w).tick ≡ suc w.tick
     go answer.Taken m = refl
     go answer.Accepted m = refl
@@ -248,7 +241,7 @@ before false = unfinished
 -- one row of it
 module _ (o : PlanOutcome) (t n : ℕ) (rows : List (List ℕ)) where
   list-row :
-      (a : plan_check.Answer) (w : SuppliedPlan) → (is_more (row_entered a w n).answer ≡ true → w.tick ≡ suc t)
+      (a : answer.Answer) (w : SuppliedPlan) → (is_more (row_entered a w n).answer ≡ true → w.tick ≡ suc t)
       → list_answer (row_entered a w n).rows rows ≡ plan_answer_of (outcome_from (before (row_entered a w n).rows.accepted) (row_answers_from (row_entered a w n).rows.plan rows)) ((row_entered a w n).rows.plan.tick + length rows)
       → or_else (row_entered a w n).answer (list_answer (row_entered a w n).rows rows) ≡ plan_answer_of (outcome_from o (row_answer_meaning a ∷ row_answers_from w rows)) (t + suc (length rows))
   unfolding outcome_from

@@ -8,18 +8,20 @@ use native.Mathlib.Omega.{arith}
 use lib.Dec.{eqb, leb}
 use lib.ListN.{length}
 use borrow.Author.Tests.{ne_eqb}
+use Rattle.std.proofs.Common.{Err}
+use Rattle.model.specs.declared.refusal.Refusal.TheVariants.{NotATable}
 use Rattle.model.specs.Sizes.{most_cores}
 use Rattle.table.specs.Answer.{answer_of, header_number}
 use Rattle.table.specs.Limits.{horizon_out}
 use Rattle.table.specs.Answer as table
 use Rattle.table.proofs.Decide.{fails}
-use Rattle.plan_check.specs.Begin.{begin_of}
+use Rattle.plan_check.specs.Begin.{begin_of, beginning}
 use Rattle.plan_check.specs.Numbers.{StateOut, after_row, missed, state_out}
 use Rattle.plan_check.specs.Row.{faulty}
 use Rattle.plan_check.specs.State.{horizon_in}
 use Rattle.plan_check.specs.CheckRow.{answer_at, check_row_answer, check_row_of}
-use Rattle.plan_check.specs.declared.Answer.{Answer}
-use Rattle.plan_check.specs.declared.Answer.TheVariants as answer
+use Rattle.plan_check.specs.RowAnswer.{Answer}
+use Rattle.plan_check.specs.RowAnswer as answer
 use Rattle.plan_check.specs.declared.SuppliedPlan.{SuppliedPlan}
 use Rattle.plan_check.proofs.Deciding.{state-decides}
 
@@ -27,6 +29,10 @@ use Rattle.plan_check.proofs.Deciding.{state-decides}
 pub begin-none : (begin_of []).answer ≡ table.Refused 1 0
 unfolding begin_of answer_of header_number
 begin-none = refl
+
+pub none-begun : beginning (Err NotATable) ≡ begin_of []
+unfolding begin_of answer_of header_number
+none-begun = refl
 
 -- of 65 bytes or more: 14, 9 or 10, and else 11, since a run that passes 14 has at most 64 cores
 pub take_long : (w : SuppliedPlan) (row : List ℕ) → most_cores < length row → (n : ℕ) × (t : ℕ) × ((check_row_of w row).answer ≡ answer.Refused n t)

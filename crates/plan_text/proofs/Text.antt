@@ -20,7 +20,7 @@ use Rattle.splitter.specs.Split.{InputEnd, closed, is_dashes, lines_from, nothin
 use Rattle.splitter.proofs.Splits.{split-line, split-more}
 use Rattle.plan_check.specs.Begin.{begun_by, begin_of, first_state}
 use Rattle.plan_check.specs.Checked.{outcome_of}
-use Rattle.plan_text.specs.declared.PlanAnswer.TheVariants.{Refused}
+use Rattle.plan_text.specs.Checked.{Refused}
 use Rattle.plan_text.specs.Checked.{checked_of, or_else, opens, opened_by, opened_of, rows_at, rows_answer, split_answer}
 use Rattle.plan_text.specs.Plan.{ExpressibleRow, after_dashes, plan_text, plan_answer_of}
 use Rattle.plan_text.proofs.Plan.{digits-mark, plan-answer}

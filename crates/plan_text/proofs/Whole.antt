@@ -1,28 +1,25 @@
 -- A whole check: in whatever parts the input comes, the answer is that of the definition, and no answer waits.
 use mathlib.Core.Bool.{Bool, false, true, true≢false}
-use mathlib.Core.List.{List, [], ◌++◌, append_assoc, append-nil}
+use mathlib.Core.List.{List, [], ◌++◌, append-nil}
 use mathlib.Core.Path.{◌∙◌, ◌≡◌, ap, refl, sym}
 use Prim.Native.Nat.{ℕ}
 use lib.ListN.{drop}
+use Rattle.model.proofs.Lists.{append-inner}
 use Rattle.splitter.specs.Split.{nothing, split_from, unclosed, unknown}
 use Rattle.splitter.specs.Parts.{ends, goes}
-use Rattle.plan_text.specs.declared.Check.{Check}
-use Rattle.plan_text.specs.declared.Fed.{Fed}
-use Rattle.plan_text.specs.declared.PlanAnswer.TheVariants.{More}
+use Rattle.plan_text.specs.Check.{Check}
+use Rattle.plan_text.specs.Check.{Fed}
+use Rattle.plan_text.specs.Checked.{More}
 use Rattle.plan_text.specs.Checked.{checked_of, answer_so_far, split_answer}
 use Rattle.plan_text.specs.Check.{Feeds, FedOf, NewOf, is_over, more, none, check_answer}
 use Rattle.plan_text.proofs.Feeding.{over-answer}
-
--- what is left, and then more: the parts in their order
-parts : (left chunk bs cs : List ℕ) → left ++ ((chunk ++ bs) ++ cs) ≡ (left ++ chunk) ++ (bs ++ cs)
-parts left chunk bs cs = ap (λ (x : List ℕ). left ++ x) (append_assoc chunk bs cs) ∙ sym (append_assoc left chunk (bs ++ cs))
 
 -- the answer is that of the check to what is left, and to what may still come
 answer-so-far :
     {c c' : Check} {left bs left' : List ℕ} → Feeds c left bs left' c' → (cs : List ℕ) → check_answer c nothing (left ++ (bs ++ cs)) ≡ check_answer c' nothing (left' ++ cs)
 answer-so-far none cs = refl
 answer-so-far {c} (more left chunk {bs} r o w f) cs =
-    ap (check_answer c nothing) (parts left chunk bs cs) ∙ w.text (bs ++ cs) goes
+    ap (check_answer c nothing) (append-inner left chunk bs cs) ∙ w.text (bs ++ cs) goes
     ∙ answer-so-far f cs
 
 -- the answer of a new check at the end of the bytes bs, in whatever parts they come, is `checked_of bs`
@@ -48,7 +45,7 @@ due-so-far :
 due-so-far none o = (o, λ cs. refl)
 due-so-far {c} (more left chunk {bs} r q w f) o =
     let ih = due-so-far f o in
-    (q, λ cs. ap (check_answer c unknown) (parts left chunk bs cs) ∙ w.at_once ih.0 (bs ++ cs) ∙ ih.1 cs)
+    (q, λ cs. ap (check_answer c unknown) (append-inner left chunk bs cs) ∙ w.at_once ih.0 (bs ++ cs) ∙ ih.1 cs)
 
 -- .. and that is nothing
 none_so_far :

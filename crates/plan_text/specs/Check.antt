@@ -1,18 +1,40 @@
 -- The state of a check between two parts of its input, and its answer to the bytes to come.
 use Rattle.std.specs.Prelude.{Bool, false, true, Option, MatchOption, ⊤, List, [], ◌++◌, ◌≡◌, ◌-◌, ◌<◌, ℕ, ◌≤◌, drop, length}
+use Rattle.plan_check.specs.Begin.{empty_state}
 use Rattle.plan_check.specs.Extent.{Ready}
 use Rattle.plan_check.specs.declared.extent.Extent.{Extent}
 use Rattle.plan_check.specs.declared.SuppliedPlan.{SuppliedPlan}
 use Rattle.splitter.specs.Split.{InputEnd, lines_from, nothing, split, too_many, unknown}
 use Rattle.splitter.specs.Parts.{Comes}
-use Rattle.plan_text.specs.declared.Check.{Check}
-use Rattle.plan_text.specs.declared.Fed.{Fed}
+use Rattle.plan_text.specs.declared.Check as code_type
+use Rattle.plan_text.specs.declared.Check.TheVariants as code
+use Rattle.plan_text.specs.declared.Fed as code_fed
 use Rattle.plan_text.specs.declared.PlanProgress.{PlanProgress}
-use Rattle.plan_text.specs.declared.PlanAnswer.{PlanAnswer}
-use Rattle.plan_text.specs.declared.PlanAnswer.TheVariants.{More}
-use Rattle.plan_text.specs.declared.Stage.{Stage}
-use Rattle.plan_text.specs.declared.Stage.TheVariants.{Over, Plan, Table}
-use Rattle.plan_text.specs.Checked.{checked_of, answer_so_far, rows_answer, split_answer}
+use Rattle.plan_text.specs.Checked.{PlanAnswer, More, answered, rows_at, checked_of, answer_so_far, rows_answer, split_answer}
+
+-- what the next bytes are read as: the table, the plan, or nothing any more
+pub data Stage : Type 0 where
+  Table Plan Over : Stage
+
+-- the state of a check: the plan, and the answer where it is over
+pub record Check : Type 0 where
+  pub stage : Stage
+  pub rows : PlanProgress
+  pub answer : PlanAnswer
+
+-- how many bytes were taken, and the check after them
+pub record Fed : Type 0 where
+  pub check : Check
+  pub taken : ℕ
+
+-- as code has them: beside the table and the answer there is no plan, and here one of all zeros
+abbrev pub check_in : code_type.Check → Check
+check_in code.Table = record { stage = Table; rows = rows_at empty_state 0 false; answer = More }
+check_in (code.Plan r) = record { stage = Plan; rows = r; answer = More }
+check_in (code.Over a) = record { stage = Over; rows = rows_at empty_state 0 false; answer = answered a }
+
+abbrev pub fed_in : code_fed.Fed → Fed
+fed_in f = record { check = check_in f.check; taken = f.taken }
 
 -- this is the extent of the plan, where it is known
 abbrev pub ExtentKnown : Option Extent → SuppliedPlan → Type 0

@@ -1,5 +1,5 @@
 -- The answer to a table and a supplied plan: the table's text, a line `--`, and the lines of the plan, whose rows are taken one after another.
-use Rattle.std.specs.Prelude.{Bool, ◌&&◌, ◌||◌, cond, false, true, Result, Ok, Err, List, [], ◌∷◌, suc, ℕ, eqb, leb, ltb, length}
+use Rattle.std.specs.Prelude.{Bool, ◌&&◌, ◌||◌, cond, false, true, Result, Ok, Err, Option, None, Some, List, [], ◌∷◌, suc, ℕ, eqb, leb, ltb, length}
 use Rattle.model.specs.Sizes.{most_word}
 use Rattle.model.specs.declared.refusal.Refusal.{Refusal}
 use Rattle.model.specs.Refusal.{number_of, position_of}
@@ -8,15 +8,45 @@ use Rattle.table.specs.Answer as table
 use Rattle.text.specs.Format.{numbers_in, words_of}
 use Rattle.plan_check.specs.Begin.{begin_of, empty_state}
 use Rattle.plan_check.specs.CheckRow.{check_row_of}
-use Rattle.plan_check.specs.declared.Answer as plan_check
-use Rattle.plan_check.specs.declared.Answer.TheVariants as answer
+use Rattle.plan_check.specs.RowAnswer as answer
 use Rattle.plan_check.specs.declared.SuppliedPlan.{SuppliedPlan}
 use Rattle.splitter.specs.Split.{InputEnd, Split, closed, growing, nothing, split, unknown}
 use Rattle.plan_text.specs.declared.PlanProgress.{PlanProgress}
-use Rattle.plan_text.specs.declared.PlanAnswer.{PlanAnswer}
-use Rattle.plan_text.specs.declared.PlanAnswer.TheVariants.{Accepted, Fault, More, Refused, Unfinished, Unread}
-use Rattle.plan_text.specs.declared.LineAnswer.{LineAnswer}
+use Rattle.plan_text.specs.declared.PlanAnswer.TheVariants as code
+use Rattle.plan_text.specs.declared.PlanAnswer as code_type
 use Rattle.plan_text.specs.Line.{Read, is_verdict, no_row, row_read, row_in}
+
+-- THE ANSWER
+
+-- more lines are needed; the plan is accepted; rows are missing from this tick on; a fault with its number and tick; refused with number and position; or
+-- the line with this number is no row
+pub data PlanAnswer : Type 0 where
+  More Accepted : PlanAnswer
+  Unfinished : ℕ → PlanAnswer
+  Fault Refused : ℕ → ℕ → PlanAnswer
+  Unread : ℕ → PlanAnswer
+
+-- the answer to a line, and the plan after it
+pub record LineAnswer : Type 0 where
+  pub rows : PlanProgress
+  pub answer : PlanAnswer
+
+-- as code returns them
+abbrev pub said : code_type.PlanAnswer → PlanAnswer
+said code.Accepted = Accepted
+said (code.Unfinished t) = Unfinished t
+said (code.Fault n t) = Fault n t
+said (code.Refused n p) = Refused n p
+said (code.Unread n) = Unread n
+
+abbrev pub answered : Option code_type.PlanAnswer → PlanAnswer
+answered None = More
+answered (Some a) = said a
+
+-- a line's result, where u has the plan beside a last answer
+abbrev pub stepped : LineAnswer → Result PlanProgress code_type.PlanAnswer → LineAnswer
+stepped u (Ok r) = record { rows = r; answer = More }
+stepped u (Err a) = record { rows = u.rows; answer = said a }
 
 -- ONE LINE
 
@@ -40,7 +70,7 @@ abbrev pub refusal_answer : ℕ → ℕ → PlanAnswer
 refusal_answer n t = cond (leb 24 n) (Fault n t) (Refused n t)
 
 -- the answer to a row by that of `check_row`: more lines are needed, or the check ends with a number
-abbrev pub row_entered : plan_check.Answer → SuppliedPlan → ℕ → LineAnswer
+abbrev pub row_entered : answer.Answer → SuppliedPlan → ℕ → LineAnswer
 row_entered answer.Taken plan lines = line_answer (rows_at plan lines false) More
 row_entered answer.Accepted plan lines = line_answer (rows_at plan lines true) More
 row_entered (answer.Refused n t) plan lines = line_answer (rows_at plan lines false) (refusal_answer n t)

@@ -6,8 +6,8 @@ use Rattle.model.specs.Verdict.{Firm, Full, Miss, Verdict}
 use Rattle.text.specs.Format.{newline}
 use Rattle.text.specs.Output.{row_line}
 use Rattle.plan_check.specs.Answers.{PlanOutcome, accepts, refuses, unfinished}
-use Rattle.plan_text.specs.declared.PlanAnswer.{PlanAnswer}
-use Rattle.plan_text.specs.declared.PlanAnswer.TheVariants.{Accepted, Unfinished}
+use Rattle.plan_text.specs.Checked.{PlanAnswer}
+use Rattle.plan_text.specs.Checked.{Accepted, Unfinished}
 use Rattle.plan_text.specs.Checked.{refusal_answer}
 use Rattle.plan_text.specs.Line.{most_cells}
 

@@ -2,9 +2,7 @@
 use Rattle.std.specs.Prelude.{List, [], ◌++◌, ◌∷◌, ℕ}
 use Rattle.text.specs.Format.{newline}
 use Rattle.text.specs.Output.{letters, line_of, longest_line}
-use Rattle.plan_text.specs.declared.PlanAnswer.{PlanAnswer}
-use Rattle.plan_text.specs.declared.PlanAnswer.TheVariants.{Accepted, Fault, More, Refused, Unfinished, Unread}
-use Rattle.plan_text.specs.Checked.{checked_of}
+use Rattle.plan_text.specs.Checked.{PlanAnswer, Accepted, Fault, More, Refused, Unfinished, Unread, checked_of}
 
 -- the most bytes of a line: the length of a buffer for it
 abbrev pub longest_answer : ℕ

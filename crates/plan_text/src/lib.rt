@@ -1,25 +1,27 @@
 // A supplied plan as text, checked as it comes: the table, a line `--`, and the plan's lines, whose rows are taken one after another.
 #![tactic(auto)]
 
-ghost use Rattle.std.specs.Prelude.{false, ◌≡◌, ◌≤◌, length};
+ghost use Rattle.std.specs.Prelude.{◌≡◌, ◌≤◌, length, IfOk};
+ghost use Rattle.model.specs.Refusal.{number_of, position_of};
 ghost use Rattle.plan_check.specs.CheckRow.{check_row_of};
+ghost use Rattle.plan_check.specs.RowAnswer.{entered_in};
 ghost use Rattle.splitter.specs.Split.{nothing};
-ghost use Rattle.plan_text.specs.declared.Stage.TheVariants.{Table};
-ghost use Rattle.plan_text.specs.Checked.{next_line, skipped, refusal_answer, row_entered, step_of, is_more, opened_of, opening, rows_at, end_answer};
-ghost use Rattle.plan_text.specs.Check.{ExtentKnown, plan_answer, answer_in, is_over, over_with, plan_with, FedBy, FedOf, NewOf};
+ghost use Rattle.plan_text.specs.Checked.{next_line, skipped, refusal_answer, said, answered, stepped, step_of, opened_of, opening, rows_at, end_answer};
+ghost use Rattle.plan_text.specs.declared.Check.TheVariants as code;
+ghost use Rattle.plan_text.specs.Check.{Table, ExtentKnown, plan_answer, answer_in, is_over, check_in, fed_in, FedBy, FedOf, NewOf};
 
 pub mod line; // line.rt: the row in a line
 pub mod answer_text; // answer_text.rt: the line that is printed
 
 use model::Refusal;
 use plan_check::extent::Extent;
-use plan_check::{Answer, Entered, SuppliedPlan, begins};
+use plan_check::{Progress, SuppliedPlan};
 
-// The answer: more lines are needed; the plan is accepted; rows are missing from this tick on; a fault with its number and tick; refused with number
-// and position; or the line with this number is no row.
+// The answer: the plan is accepted; rows are missing from this tick on; a fault with its number and tick; refused with number and position; or the line
+// with this number is no row.
+// Numbers, not a Refusal: `answer_text::put` prints any, and a narrower type would ask more of its callers.
 #[derive(Clone, Copy)]
 pub enum PlanAnswer {
-    More,
     Accepted,
     Unfinished(u32),
     Fault(u32, u32),
@@ -27,7 +29,23 @@ pub enum PlanAnswer {
     Unread(u32),
 }
 
+impl From<Refusal> for PlanAnswer {
+    ghost from_gives = { λ e a. said a ≡ refusal_answer (number_of e) (position_of e) };
+
+    // 24 to 26 are faults of the plan; any other number turns it down.
+    fn from(refusal: Refusal) -> PlanAnswer {
+        let number = refusal.number();
+        match refusal {
+            Refusal::BadRow(tick) | Refusal::DeadlineMissed(tick) | Refusal::PhasesDiffer(tick) =>
+                PlanAnswer::Fault(number, tick),
+            _ => PlanAnswer::Refused(number, refusal.position()),
+        }
+    }
+}
+
 // A plan between two lines: its state, the number of lines so far, and whether its last row was taken and it is accepted.
+// A flag: an accepted plan has its state and its lines too, and a further row is taken by the same call.
+// A bool, since `skipped` and `end_answer` of specs test one.
 #[derive(Clone, Copy)]
 pub struct PlanProgress {
     pub plan: SuppliedPlan,
@@ -35,31 +53,19 @@ pub struct PlanProgress {
     pub accepted: bool,
 }
 
-// The answer to a line, and the plan after it.
+// The state of a check: what the next bytes are read as, the table or the plan; or its answer, after which nothing is read.
+// Not session's Stage, which has the run beside it.
+// A check that is over holds its answer. `Over(None)`, over before any answer, was a value of the old state, and `FedOf`
+// speaks of it too.
 #[derive(Clone, Copy)]
-pub struct LineAnswer {
-    pub rows: PlanProgress,
-    pub answer: PlanAnswer,
-}
-
-// What the next bytes are read as: the table, the plan, or nothing any more.
-// Like session's, but what follows the table differs.
-#[derive(Clone, Copy)]
-pub enum Stage {
+pub enum Check {
     Table,
-    Plan,
-    Over,
-}
-
-// The state of a check: the plan, and the answer where it is over.
-#[derive(Clone, Copy)]
-pub struct Check {
-    pub stage: Stage,
-    pub rows: PlanProgress,
-    pub answer: PlanAnswer,
+    Plan(PlanProgress),
+    Over(Option<PlanAnswer>),
 }
 
 // How many bytes were taken, and the check after them.
+// No plainer as one with session's: that has the length of what was written beside it.
 #[derive(Clone, Copy)]
 pub struct Fed {
     pub check: Check,
@@ -82,35 +88,6 @@ fn passes(rows: PlanProgress, line: &[u8]) -> bool
     ((rows.lines == 0) & verdict) | (rows.accepted & (line.len() == 0))
 }
 
-// 24 to 26 are faults of the plan; any other number turns it down.
-fn refusal_of(number: u32, tick: u32) -> PlanAnswer
-    ensures { result ≡ refusal_answer number tick }
-{
-    if 24 <= number {
-        return PlanAnswer::Fault(number, tick);
-    }
-    PlanAnswer::Refused(number, tick)
-}
-
-// The answer to a row by that of `check_row`.
-fn enter(row: Entered, lines: u32) -> LineAnswer
-    ensures { result ≡ row_entered row.answer row.plan lines }
-{
-    let (accepted, answer) = match row.answer {
-        Answer::Taken => (false, PlanAnswer::More),
-        Answer::Accepted => (true, PlanAnswer::More),
-        Answer::Refused(number, tick) => (false, refusal_of(number, tick)),
-    };
-    LineAnswer {
-        rows: PlanProgress {
-            plan: row.plan,
-            lines,
-            accepted,
-        },
-        answer,
-    }
-}
-
 // The extent of a plan, computed once for all its rows; none where 14 or 9 turns it down.
 fn extent_of(plan: SuppliedPlan) -> Option<Extent>
     ensures { ExtentKnown result plan }
@@ -119,78 +96,50 @@ fn extent_of(plan: SuppliedPlan) -> Option<Extent>
 }
 
 // Takes a row of a plan with this extent.
-fn take(plan: SuppliedPlan, extent: Option<Extent>, row: &[u8]) -> Entered
+fn take(
+    plan: SuppliedPlan,
+    extent: Option<Extent>,
+    row: &[u8],
+) -> Result<(Progress, SuppliedPlan), Refusal>
     requires { ExtentKnown extent plan }
-    ensures { (result ≡ check_row_of plan row.now) × ExtentKnown extent result.plan }
+    ensures { (entered_in plan result ≡ check_row_of plan row.now) × ExtentKnown extent (entered_in plan result).plan }
 {
     match extent {
-        Some(known) => plan.enter(known.start, known.horizon, row),
+        Some(known) => plan.enter(known, row),
         None => plan.check_row(row),
     }
 }
 
-// The answer to a line of a plan with this extent, and the plan after it.
-fn step(rows: PlanProgress, extent: Option<Extent>, bytes: &[u8]) -> LineAnswer
+// The plan after a line, where more lines are needed; or the answer.
+fn step(
+    rows: PlanProgress,
+    extent: Option<Extent>,
+    bytes: &[u8],
+) -> Result<PlanProgress, PlanAnswer>
     requires { ExtentKnown extent rows.plan }
-    ensures { (result ≡ step_of rows bytes.now) × ExtentKnown extent result.rows.plan }
+    ensures { (stepped (step_of rows bytes.now) result ≡ step_of rows bytes.now) × IfOk result (λ next. ExtentKnown extent next.plan) }
 {
     let lines = next_line(rows.lines);
     if passes(rows, bytes) {
-        return LineAnswer {
-            rows: PlanProgress { lines, ..rows },
-            answer: PlanAnswer::More,
-        };
+        return Ok(PlanProgress { lines, ..rows });
     }
     match line::read(bytes) {
         Some(row) if row.tick == rows.plan.tick => {
-            enter(take(rows.plan, extent, &row.cells[..row.count]), lines)
+            let (progress, plan) = take(rows.plan, extent, &row.cells[..row.count])?;
+            Ok(PlanProgress {
+                plan,
+                lines,
+                accepted: matches!(progress, Progress::Accepted),
+            })
         }
-        _ => LineAnswer {
-            rows,
-            answer: PlanAnswer::Unread(lines),
-        },
-    }
-}
-
-// Whether more lines are needed.
-pub fn is_more(answer: PlanAnswer) -> bool
-    ensures { result ≡ is_more answer }
-{
-    matches!(answer, PlanAnswer::More)
-}
-
-// A check with its answer.
-fn over(rows: PlanProgress, answer: PlanAnswer, taken: usize) -> Fed
-    ensures { result ≡ over_with rows answer taken }
-{
-    Fed {
-        check: Check {
-            stage: Stage::Over,
-            rows,
-            answer,
-        },
-        taken,
-    }
-}
-
-// A check that needs more lines of the plan.
-fn going(rows: PlanProgress, taken: usize) -> Fed
-    ensures { result ≡ plan_with rows taken }
-{
-    Fed {
-        check: Check {
-            stage: Stage::Plan,
-            rows,
-            answer: PlanAnswer::More,
-        },
-        taken,
+        _ => Err(PlanAnswer::Unread(lines)),
     }
 }
 
 // The answer after the last line.
 #[tactic(auto, unfolding(crate::specs::Checked::end_answer))]
 fn end_rows(rows: PlanProgress) -> PlanAnswer
-    ensures { result ≡ end_answer nothing rows }
+    ensures { said result ≡ end_answer nothing rows }
 {
     if rows.accepted {
         return PlanAnswer::Accepted;
@@ -201,100 +150,110 @@ fn end_rows(rows: PlanProgress) -> PlanAnswer
 // The plan's lines from a place on: each line that has ended, one that is so long that it is decided, and at the end of the input the last one.
 fn feed_plan(start: PlanProgress, bytes: &[u8], from: usize, ended: bool) -> Fed
     requires { from ≤ length bytes.now }
-    ensures { FedBy (plan_answer start) from ended bytes.now result }
+    ensures { FedBy (plan_answer start) from ended bytes.now (fed_in result) }
 {
     let extent = extent_of(start.plan);
     let mut rows = start;
     let mut at = from;
     // A loop over the lines is no plainer: what is left begins where the last whole line ends, and is returned.
     while at < bytes.len() {
-        let part = splitter::line(&bytes[at..], line::LONG, ended);
-        if !part.whole {
-            return going(rows, at);
+        let Some(part) = splitter::line(&bytes[at..], line::LONG, ended) else {
+            return Fed {
+                check: Check::Plan(rows),
+                taken: at,
+            };
+        };
+        match step(rows, extent, &bytes[at..at + part.end]) {
+            Ok(next) => rows = next,
+            Err(answer) => {
+                return Fed {
+                    check: Check::Over(Some(answer)),
+                    taken: at + part.next,
+                };
+            }
         }
-        let reply = step(rows, extent, &bytes[at..at + part.end]);
-        if !is_more(reply.answer) {
-            return over(reply.rows, reply.answer, at + part.next);
-        }
-        rows = reply.rows;
         at += part.next;
     }
-    if ended {
-        return over(rows, end_rows(rows), at);
-    }
-    going(rows, at)
-}
-
-// A plan before its first row.
-fn before_rows(plan: SuppliedPlan) -> PlanProgress
-    ensures { result ≡ rows_at plan 0 false }
-{
-    PlanProgress {
-        plan,
-        lines: 0,
-        accepted: false,
-    }
+    let check = if ended {
+        Check::Over(Some(end_rows(rows)))
+    } else {
+        Check::Plan(rows)
+    };
+    Fed { check, taken: at }
 }
 
 // The plan of a table's text before its first row, or why the table is refused.
 fn begin(table: &[u8]) -> Result<PlanProgress, Refusal>
     ensures { opening result ≡ opened_of table.now }
 {
-    let input = text::read(table);
-    let plan = plan_check::begin(&input.words[..input.count])?;
-    Ok(before_rows(plan))
+    let words = text::read(table).ok_or(Refusal::NotATable)?;
+    let plan = plan_check::begin(words.as_slice())?;
+    Ok(PlanProgress {
+        plan,
+        lines: 0,
+        accepted: false,
+    })
 }
 
 // The table and the line `--`, once it has ended, and the bytes of the plan after it.
-fn feed_table(check: Check, bytes: &[u8], ended: bool) -> Fed
-    requires { check.stage ≡ Table }
-    ensures { FedBy (answer_in Table check) 0 ended bytes.now result }
+// No plainer as one with session's: three lines are alike, and what follows the table differs.
+fn feed_table(bytes: &[u8], ended: bool) -> Fed
+    ensures { FedBy (answer_in Table (check_in code.Table)) 0 ended bytes.now (fed_in result) }
 {
-    let part = splitter::table(bytes, ended);
-    if !part.whole {
-        return Fed { check, taken: 0 };
-    }
+    let Some(part) = splitter::table(bytes, ended) else {
+        return Fed {
+            check: Check::Table,
+            taken: 0,
+        };
+    };
     match begin(&bytes[..part.end]) {
         Ok(rows) => feed_plan(rows, bytes, part.next, ended),
-        Err(refusal) => over(
-            check.rows,
-            PlanAnswer::Refused(refusal.number(), refusal.position()),
-            bytes.len(),
-        ),
+        // not by From: the table's numbers are all below 24, which the type does not say
+        Err(refusal) => Fed {
+            check: Check::Over(Some(PlanAnswer::Refused(refusal.number(), refusal.position()))),
+            taken: bytes.len(),
+        },
     }
 }
 
 impl Check {
     // A check before its first byte.
     pub fn new() -> Check
-        ensures { NewOf result }
+        ensures { NewOf (check_in result) }
     {
-        Check {
-            stage: Stage::Table,
-            rows: before_rows(begins::empty()),
-            answer: PlanAnswer::More,
-        }
+        Check::Table
     }
 
     // Takes the lines that have ended of the bytes, and all where the input has; gives the answer that is due. What is left is to be fed again, with what
     // comes after it.
     pub fn feed(self, bytes: &[u8], ended: bool) -> Fed
-        ensures { FedOf self ended bytes.now result }
+        ensures { FedOf (check_in self) ended bytes.now (fed_in result) }
     {
-        match self.stage {
-            Stage::Table => feed_table(self, bytes, ended),
-            Stage::Plan => feed_plan(self.rows, bytes, 0, ended),
-            Stage::Over => Fed {
+        // A match: FedOf speaks of a check in any stage.
+        match self {
+            Check::Table => feed_table(bytes, ended),
+            Check::Plan(rows) => feed_plan(rows, bytes, 0, ended),
+            Check::Over(_) => Fed {
                 check: self,
                 taken: bytes.len(),
             },
         }
     }
 
-    // Whether the answer is known: nothing that comes changes it any more.
-    pub fn is_over(self) -> bool
-        ensures { result ≡ is_over self.stage }
+    // The answer, once it is known: nothing that comes changes it any more.
+    pub fn answer(self) -> Option<PlanAnswer>
+        ensures { answered result ≡ (check_in self).answer }
     {
-        matches!(self.stage, Stage::Over)
+        match self {
+            Check::Over(answer) => answer,
+            Check::Table | Check::Plan(_) => None,
+        }
+    }
+
+    // Whether the answer is known.
+    pub fn is_over(self) -> bool
+        ensures { result ≡ is_over (check_in self).stage }
+    {
+        matches!(self, Check::Over(_))
     }
 }

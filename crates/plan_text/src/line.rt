@@ -3,7 +3,6 @@ ghost use Rattle.std.specs.Prelude.{◌≡◌, ◌≤◌, length, drop, take};
 ghost use Rattle.plan_text.specs.Line.{most_cells, is_verdict, row_in, words_after, cells_of, read_line};
 
 use model::ROW;
-use sentence::reader;
 
 // The number of cells of a row that are read: one more than a row can have.
 pub const CELLS: usize = ROW + 1;
@@ -13,6 +12,7 @@ pub const LONG: usize = text::DIGITS + CELLS * (1 + text::DIGITS) + 1;
 
 // A row that was read: its tick and its numbers, zeros past the count.
 // An array with its count stands for a list, without a heap.
+// Not `arrayvec`: an ArrayVec is not Copy, as this is, and `read_line` of specs/Line has `count`, and zeros past it.
 #[derive(Clone, Copy)]
 pub struct Line {
     pub tick: u32,
@@ -52,15 +52,11 @@ pub fn read(line: &[u8]) -> Option<Line>
 }
 
 // Whether a line begins as the program's first line does where rows follow it.
-#[tactic(auto, unfolding(crate::specs::Line::is_verdict))]
 pub fn is_verdict(line: &[u8]) -> bool
     ensures { result ≡ is_verdict line.now }
 {
-    if LONG <= line.len() {
-        return false;
-    }
-    let firm = reader::begins_with(line, 0, b"firm");
-    let full = reader::begins_with(line, 0, b"full");
-    let miss = reader::begins_with(line, 0, b"miss");
-    firm | (full | miss)
+    let firm = line.starts_with(b"firm");
+    let full = line.starts_with(b"full");
+    let miss = line.starts_with(b"miss");
+    (line.len() < LONG) & (firm | (full | miss))
 }

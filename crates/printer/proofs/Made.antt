@@ -7,13 +7,13 @@ use mathlib.Core.Logic.{inl, inr, ⊎_elim}
 use native.Mathlib.Nat.{eq-zero-or-pos}
 use Prim.Native.Nat.{ℕ, ◌-◌, ◌≤◌, ◌<◌}
 use lib.Bits.{bit_and, and_zero_l}
-use lib.ListN.{length, get_or, take, replicate, length-append}
+use lib.ListN.{length, get_or, take, replicate}
 use lib.Seq.{take-append_seam}
 use borrow.Author.Tests.{eq-eqb}
 use Rattle.model.specs.Fence.{unfenced_count}
 use Rattle.model.specs.Task.{Table, AllValid, task}
 use Rattle.model.specs.Search.{any}
-use Rattle.model.proofs.Bools.{not-true-false}
+use Rattle.std.proofs.lemmas.Bool.{false_from_ne_true}
 use Rattle.model.specs.Task as plain
 use Rattle.model.specs.Lists.{Missed}
 use Rattle.model.specs.Horizon.{horizon}
@@ -49,7 +49,7 @@ use Rattle.simulation.proofs.RefinesTick.{refines-start}
 use Rattle.table.proofs.Fit.{fit, same-table}
 use Rattle.judge.proofs.Contract.{meaning-case, passed_is, refused-is}
 use Rattle.text.specs.Format.{most_numbers, Words, read_words, no_text, words_of}
-use Rattle.text.specs.Input.{input_of, ReadOf}
+use Rattle.text.specs.Input.{Input, input_of, ReadOf}
 use Rattle.text.specs.Output.{first_line, row_lines, rows_printed, printed, printed_by, output_of, output, longest_cells, longest_line}
 use Rattle.text.specs.Written.{Put}
 use Rattle.printer.specs.Cells.{cells}
@@ -57,7 +57,6 @@ use Rattle.text.specs.FirstLine.{end_of}
 use Rattle.printer.specs.Rows.{row_text_of, lines_in}
 use Rattle.printer.specs.Valid.{out_at, table_valid, owed, within, valid}
 use Rattle.printer.specs.Printer.{run_state_of, text_kept, remaining, PrinterStartOf, WordsPrinter, MadeFrom, no_table}
-use Rattle.text.specs.declared.Input.{Input}
 use Rattle.printer.specs.declared.Printer.{Printer}
 use Rattle.text.proofs.Writing.{put_front}
 use Rattle.printer.proofs.Limits.{limits-valid, none_out}
@@ -146,7 +145,7 @@ one_in m v f w = ⊎_elim (λ x. omega (arith, f.0)) (λ x. omega (arith, f.1)) 
 -- a task that is within its limits is not turned down
 inside-in : (m : ℕ) (τ : plain.Task) → Inside m τ → task_out m τ ≡ false
 inside-in m τ i =
-    not-true-false (task_out m τ) (λ e.
+    false_from_ne_true (task_out m τ) (λ e.
     ⊎_elim
     (λ w. ⊎_elim (one_in m τ.odd_width i.odd-from) (one_in m τ.even_width i.even-from) w)
     (λ w. ⊎_elim (λ x. omega (arith, i.offset-most)) (λ w. ⊎_elim (λ x. x i.length_from) (λ w. ⊎_elim (λ x. x i.period-from) (λ x. x i.deadline-from) w) w) w)
@@ -247,14 +246,6 @@ refused-made ws n q refuses v p j s = record {
     none = unfold row_lines in append-nil (first_line (refused n q))
 
 -- THE BYTES
-
--- the numbers that were read lie in their places
-pub read_fits : (bs : List ℕ) (r : Input) → ReadOf bs r → r.count ≤ length r.words
-read_fits bs r h = subst⁻¹ (λ (i : Input). i.count ≤ length i.words) h.value (go (words_of bs))
-  where
-    go : (x : Words) → (input_of x).count ≤ length (input_of x).words
-    go (read_words ws) = omega (arith, length-append ws (replicate (most_numbers - length ws) 0))
-    go no_text = omega arith
 
 -- no words are turned down with 1
 no_words : printed_by (answer_of []) (table_of []) ≡ first_line (refused 1 0)

@@ -13,7 +13,8 @@ use Rattle.model.specs.Fence.{unfenced}
 use Rattle.model.specs.Search.{bit}
 use Rattle.model.specs.Task.{rule_of}
 use Rattle.model.specs.Grants.{claimants, some}
-use Rattle.model.proofs.Bools.{and_left, and_right, not-false-true}
+use Rattle.model.proofs.Bools.{and_left, and_right}
+use Rattle.std.proofs.lemmas.Bool.{true_from_ne_false}
 use Rattle.model.proofs.Digits.{and-bit, same_digits}
 use Rattle.model.proofs.Grants.{grants-none}
 use Rattle.model.specs.Sizes.{most_tasks}
@@ -129,7 +130,7 @@ choice-claims n c v p e = go (leb most_tasks p) refl
     go : (x : Bool) → leb most_tasks p ≡ x → bit c p ≡ true
     go true q = absurd (true≢false (sym e ∙ set_past most_tasks f p (leb-true most_tasks p q)))
     go false q =
-        not-false-true (bit c p)
+        true_from_ne_false (bit c p)
         (λ z. absurd (false≢true (sym (ap some (grants-none (rule_of n.rule) (widths_in v n.widths) (bit c) (unfenced n.fence n.cores) p z))
         ∙ (sym (set-has most_tasks f p (leb-false most_tasks p q)) ∙ e))))
 

@@ -11,7 +11,7 @@ use rule::PAIR;
 use text::row;
 
 // Writes the bytes of the cores, and a newline, where the places of the set `claims` claim, those of the set `even` with their second width;
-// returns where they end.
+// returns where they end. The rule is a number, since a printer has a table of any rule.
 pub(crate) fn put_allocation(
     rule: u32,
     cores: u32,

@@ -2,7 +2,7 @@
 #![tactic(auto)]
 
 ghost use Rattle.std.specs.Prelude.{true, ◌≡◌, ◌≤◌, take};
-ghost use Rattle.simulation.specs.TickState.{numbers_by, tick_state_of};
+ghost use Rattle.simulation.specs.TickState.{numbers_of, tick_state_of};
 ghost use Rattle.printer.specs.Valid.{valid};
 ghost use Rattle.printer.specs.Printer.{Stepping, Stepped, PrinterStartOf, WordsPrinter, MadeFrom, PieceOf, no_table};
 ghost use Rattle.model.specs.Sizes.{most_cores, most_tasks};
@@ -11,16 +11,15 @@ mod cells; // cells.rt: the text of a row's cores
 mod valid; // valid.rt: whether a printer can be stepped
 
 use judge::Verdict;
-use model::MOST_TASKS;
-use rule::PAIR;
 use simulation::TRIPLE;
-use simulation::columns::Setting;
+use simulation::columns::Columns;
 use simulation::machine::Registers;
-use table::{Loaded, Task};
+use table::Loaded;
 use text::row::{CELLS, LINE};
 use text::{first, row};
 
 // The state of the printing: the registers of its run, the length of the row's text, and that of the line.
+// Lengths of buffers that lie in the printer, without a heap. A step of the loop returns all three.
 #[derive(Clone, Copy)]
 pub struct Stage {
     pub registers: Registers,
@@ -43,6 +42,7 @@ pub struct Printer {
 }
 
 // The number of bytes written, and the printer of what is left.
+// A count of the caller's bytes, as a read gives it: the buffer is lent.
 #[derive(Clone, Copy)]
 pub struct Piece {
     pub printer: Printer,
@@ -50,21 +50,21 @@ pub struct Piece {
 }
 
 // Writes the line of a tick, and takes the run one tick on.
+// A row's text is made anew where the choice has changed, as plan's row is: of other arguments, into another buffer.
 fn next_line(
-    setting: Setting,
-    widths: &[u32; PAIR],
-    times: &[u32; TRIPLE],
+    columns: &Columns,
     stage: Stage,
     places: &mut [u32; TRIPLE],
     text: &mut [u8; CELLS],
     line: &mut [u8; LINE],
 ) -> Stage
-    requires { Stepping (numbers_by setting widths.now times.now) stage places.old text.old line.old }
-    ensures { Stepped (numbers_by setting widths.now times.now) (tick_state_of stage.registers places.old)
+    requires { Stepping (numbers_of columns.now) stage places.old text.old line.old }
+    ensures { Stepped (numbers_of columns.now) (tick_state_of stage.registers places.old)
         (take stage.text text.old) line.old result places.new text.new line.new }
 {
+    let setting = columns.setting;
     let registers = stage.registers;
-    let next = simulation::ticks::step(setting, widths, times, registers, places);
+    let next = simulation::ticks::step(columns, registers, places);
     let mut size = stage.text;
     if (next.chosen != registers.chosen) | (next.even != registers.even) {
         size = cells::put_allocation(
@@ -73,26 +73,26 @@ fn next_line(
             setting.fence,
             next.chosen,
             next.even,
-            widths,
+            &columns.widths,
             setting.count,
             text,
         );
     }
-    let ready = row::put_row(line, registers.tick, text, size);
+    let ready = row::put_row(line, registers.tick, &text[..size]);
     Stage {
         registers: next,
         text: size,
-        ready: ready,
+        ready,
     }
 }
 
 // The printer of a verdict's line and of the rows of its table up to a tick.
+// The two limits are a clause and no `Fitting`: a refused table has a printer too.
 fn start(table: Loaded, end: u32, verdict: Verdict) -> Printer
     requires { (table.cores ≤ most_cores) × (table.count ≤ most_tasks) }
     ensures { PrinterStartOf table end verdict result }
 {
     let columns = simulation::columns::columns_of(table);
-    let widths = columns.widths;
     let machine = simulation::machine::start(table);
     let places = machine.places;
     let registers = machine.registers;
@@ -103,50 +103,34 @@ fn start(table: Loaded, end: u32, verdict: Verdict) -> Printer
         table.fence,
         0,
         registers.even,
-        &widths,
+        &columns.widths,
         table.count,
         &mut text,
     );
     let mut line = [0u8; LINE];
     let ready = first::put_first(&mut line, verdict);
     let stage = Stage {
-        registers: registers,
+        registers,
         text: size,
-        ready: ready,
+        ready,
     };
     Printer {
-        table: table,
-        end: end,
-        places: places,
-        stage: stage,
+        table,
+        end,
+        places,
+        stage,
         row: text,
-        line: line,
+        line,
         given: 0,
     }
 }
 
 // A table without tasks, of which no rows are printed.
+// Zeros, since the table of a printer is public, and `valid` and `PieceOf` speak of it in every printer.
 fn no_table() -> Loaded
     ensures { result ≡ no_table }
 {
-    let none = Task {
-        offset: 0,
-        width: 0,
-        length: 0,
-        deadline: 0,
-        period: 0,
-        second: 0,
-    };
-    Loaded {
-        count: 0,
-        cores: 0,
-        fence: 0,
-        rule: 0,
-        tasks: [none; MOST_TASKS],
-        start: 0,
-        period: 0,
-        horizon: 0,
-    }
+    Loaded::default()
 }
 
 // The printer of a table's words; of words that are refused, the verdict's line is all that is printed.
@@ -168,11 +152,12 @@ impl Printer {
     pub fn new(bytes: &[u8]) -> Printer
         ensures { MadeFrom bytes.now result }
     {
-        // what is no table's text has no numbers, and no words are refused likewise: 1 0
-        let input = text::read(bytes);
-        let words = input.words;
-        let count = input.count;
-        of_words(&words[..count])
+        // No plainer as one in text: a new public function with its own clause, for these four lines in three crates.
+        match text::read(bytes) {
+            Some(words) => of_words(words.as_slice()),
+            // what is no table's text has no numbers, and no words are refused likewise: 1 0
+            None => of_words(&[]),
+        }
     }
 
     // Fills the buffer with the next bytes of the output, from a printer that is valid.
@@ -183,9 +168,6 @@ impl Printer {
         let table = self.table;
         let end = self.end;
         let columns = simulation::columns::columns_of(table);
-        let setting = columns.setting;
-        let widths = columns.widths;
-        let times = columns.times;
         let mut places = self.places;
         let mut stage = self.stage;
         let mut text = self.row;
@@ -202,33 +184,26 @@ impl Printer {
             if stage.registers.tick == end {
                 break;
             }
-            stage = next_line(
-                setting,
-                &widths,
-                &times,
-                stage,
-                &mut places,
-                &mut text,
-                &mut line,
-            );
+            stage = next_line(&columns, stage, &mut places, &mut text, &mut line);
             given = 0;
         }
         let printer = Printer {
-            table: table,
-            end: end,
-            places: places,
-            stage: stage,
+            table,
+            end,
+            places,
+            stage,
             row: text,
-            line: line,
-            given: given,
+            line,
+            given,
         };
         Piece {
-            printer: printer,
+            printer,
             length: at,
         }
     }
 
     // Fills the buffer with the next bytes of the output; a printer that is not valid has none.
+    // The length 0 is a count of bytes, as at the end of the output (`PieceOf`).
     pub fn piece(self, buffer: &mut [u8]) -> Piece
         ensures { PieceOf self buffer.old buffer.new result }
     {
@@ -236,9 +211,6 @@ impl Printer {
         if printer.valid() {
             return printer.emit(buffer);
         }
-        Piece {
-            printer: printer,
-            length: 0,
-        }
+        Piece { printer, length: 0 }
     }
 }

@@ -4,6 +4,7 @@ ghost use Rattle.simulation.specs.Places.{segment};
 ghost use Rattle.printer.specs.Valid.{table_valid, owed, within, valid};
 
 use crate::Printer;
+use model::sets::places_where;
 use model::{MOST_CORES, MOST_TASKS};
 use simulation::TRIPLE;
 use table::Loaded;
@@ -11,6 +12,7 @@ use table::limits::MOST_HORIZON;
 use text::row::{CELLS, LINE};
 
 // Whether a table's count, core count and tasks are in their limits.
+// What may not change: 0 is none in `task_number` of table/specs/Limits, of which `task_out` is made.
 fn table_valid(table: Loaded) -> bool
     ensures { result ≡ table_valid table }
 {
@@ -32,17 +34,11 @@ fn table_valid(table: Loaded) -> bool
 fn owed(places: [u32; TRIPLE]) -> u32
     ensures { result ≡ owed (segment 0 places) }
 {
-    let mut set: u32 = 0;
-    for i in (0..MOST_TASKS).rev() {
-        set *= 2;
-        if 0 < places[i] {
-            set += 1;
-        }
-    }
-    set
+    places_where(MOST_TASKS, |i| 0 < places[i])
 }
 
 // Whether every place of one set is in another.
+// One expression: the library has no sets of bits.
 fn within(a: u32, b: u32) -> bool
     ensures { result ≡ within a b }
 {

@@ -14,8 +14,8 @@ use Rattle.table.specs.Words.{count}
 use Rattle.judge.specs.declared.Verdict.{Verdict}
 use Rattle.judge.specs.declared.Verdict.TheVariants as judge
 use Rattle.priority_order.specs.Repair.{Late}
-use Rattle.priority_order.specs.declared.Outcome.TheVariants.{None}
-use Rattle.priority_order.specs.declared.OrderAnswer.{OrderAnswer}
+use Rattle.priority_order.specs.Answer.{None}
+use Rattle.priority_order.specs.Answer.{OrderAnswer}
 use Rattle.priority_order.specs.Answer.{answer_by, answer_in, given_order, no_order, positions_of}
 use Rattle.priority_order.specs.Orders.{OrderIn}
 use Rattle.priority_order.specs.Repair.{Choice, LateIn, just, kept_after, late_of, next_order, nothing, power_after, repairs, same, verdict_in}

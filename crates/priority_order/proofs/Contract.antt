@@ -19,8 +19,8 @@ use Rattle.judge.specs.declared.Verdict.{Verdict}
 use Rattle.judge.specs.declared.Verdict.TheVariants as judge
 use Rattle.judge.specs.JudgeAnswer.{verdict_meaning}
 use Rattle.judge.specs.Judged.{Judged}
-use Rattle.priority_order.specs.declared.Outcome.TheVariants.{None, Refused}
-use Rattle.priority_order.specs.declared.OrderAnswer.{OrderAnswer}
+use Rattle.priority_order.specs.Answer.{None, Refused}
+use Rattle.priority_order.specs.Answer.{OrderAnswer}
 use Rattle.priority_order.specs.Repair.{Late}
 use Rattle.priority_order.specs.Answer.{DoesNotFit, Fits, OrderOf, Tried, answer_by, answer_in, given_order, no_order, order_answer_of, order_by, positions_of}
 use Rattle.priority_order.specs.Orders.{Permutation, own_order, reordered}

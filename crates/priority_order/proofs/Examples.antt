@@ -11,9 +11,9 @@ use Rattle.judge.specs.Judged.{verdict_of}
 use Rattle.conflict.specs.Relinked.{linked}
 use Rattle.sentence.specs.Facts.{named_from}
 use Rattle.sentence.specs.Waiting.{ran_while_waiting, tally}
-use Rattle.priority_order.specs.declared.Outcome.{Outcome}
-use Rattle.priority_order.specs.declared.Outcome.TheVariants.{Firm, Full, None, Refused}
-use Rattle.priority_order.specs.declared.OrderAnswer.{OrderAnswer}
+use Rattle.priority_order.specs.Answer.{Outcome}
+use Rattle.priority_order.specs.Answer.{Firm, Full, None, Refused}
+use Rattle.priority_order.specs.Answer.{OrderAnswer}
 use Rattle.priority_order.specs.Answer.{no_order, order_answer_of, positions_of}
 use Rattle.priority_order.specs.Orders.{moved, own_order, reordered, source_of}
 use Rattle.priority_order.specs.Repair.{most_from, next_order, repairs, same}

@@ -1,4 +1,5 @@
 -- The laws of `priority_order`: a task that moves up, sorted orders, the words of an order, the orders tried and the contract.
+pub mod Known
 pub mod Moving
 pub mod Permutations
 pub mod Filling

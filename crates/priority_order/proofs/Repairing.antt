@@ -115,7 +115,7 @@ most-bound b best i (n ∷ ns) l m =
     go true ih = ih (record { position = suc i; count = n }) (omega arith)
     go false ih = ih best l
 
-most-above : (s : Table) (t p : ℕ) → most_ran (facts_at s t p).others ≤ p
+pub most-above : (s : Table) (t p : ℕ) → most_ran (facts_at s t p).others ≤ p
 most-above s t p =
     most-bound p (record { position = 0; count = 0 }) 0 (map (ran_while_waiting s t p) (up_from 0 p)) (omega arith)
     (omega (arith, length-map (up_from 0 p) (ran_while_waiting s t p), up-length 0 p))

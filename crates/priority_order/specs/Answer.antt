@@ -1,4 +1,7 @@
 -- The answer of `order`, and its contract (issue 45).
+use Rattle.std.specs.Option.{MatchOption}
+use Rattle.std.specs.Prelude.{Option, Result, Ok, Err, false}
+use Rattle.std.specs.Prelude as option
 use Rattle.std.specs.Prelude.{List, [], ◌++◌, map, ◌↔◌, ◌⊎◌, ◌≡◌, ℕ, suc, ◌+◌, ◌-◌, ◌<◌, get_or, length, replicate, take}
 use Rattle.model.specs.Lists.{NeverMissed}
 use Rattle.model.specs.Sizes.{most_tasks}
@@ -12,16 +15,31 @@ use Rattle.table.specs.Words.{count, table_of}
 use Rattle.judge.specs.declared.Verdict.{Verdict}
 use Rattle.judge.specs.declared.Verdict.TheVariants as judge
 use Rattle.judge.specs.Judged.{Judged}
-use Rattle.priority_order.specs.declared.Outcome.{Outcome}
-use Rattle.priority_order.specs.declared.Outcome.TheVariants.{Firm, Full, None, Refused}
-use Rattle.priority_order.specs.declared.OrderAnswer.{OrderAnswer}
+use Rattle.model.specs.Refusal.{number_of, position_of}
+use Rattle.priority_order.specs.declared.Fit.{Fit}
+use Rattle.priority_order.specs.declared.Fit.TheVariants as fit
+use Rattle.priority_order.specs.declared.Assignment.{Assignment}
+use Rattle.priority_order.specs.declared.NoOrder.{NoOrder}
+use Rattle.priority_order.specs.declared.NoOrder.TheVariants as none
 use Rattle.priority_order.specs.Orders.{Permutation, reordered}
 use Rattle.priority_order.specs.Repair.{Choice, just, nothing, verdict_in}
-use Rattle.priority_order.specs.Tried.{chosen_of, tried_orders}
+use Rattle.priority_order.specs.Tried.{chosen_of, is_accepted, tried_orders}
 
 -- 32 numbers: the positions of the given table in an order of n tasks, highest priority first, then zeros
 unfoldable pub positions_of : ℕ → List ℕ → List ℕ
 positions_of n o = map suc (take n o) ++ replicate (most_tasks - n) 0
+
+-- Firm or Full with S and P in the order given; none of this number of orders fits; or Refused with number and position
+pub data Outcome : Type 0 where
+  Firm : ℕ → ℕ → Outcome
+  Full : ℕ → ℕ → Outcome
+  None : ℕ → Outcome
+  Refused : ℕ → ℕ → Outcome
+
+-- the outcome, and beside it the order: positions of the given table, highest priority first, and zeros past the count; all zero where no order is given
+pub record OrderAnswer : Type 0 where
+  pub outcome : Outcome
+  pub order : List ℕ
 
 -- no order is given
 abbrev pub no_order : Outcome → OrderAnswer
@@ -33,6 +51,34 @@ given_order (judge.Firm a b) ps = record { outcome = Firm a b; order = ps }
 given_order (judge.Full a b) ps = record { outcome = Full a b; order = ps }
 given_order (judge.Miss t p) ps = no_order (None 0)
 given_order (judge.Refused n p) ps = no_order (None 0)
+
+-- .. as code returns it
+abbrev pub outcome_of : Fit → Outcome
+outcome_of (fit.Firm a b) = Firm a b
+outcome_of (fit.Full a b) = Full a b
+
+abbrev pub answered : Result Assignment NoOrder → OrderAnswer
+answered (Ok x) = record { outcome = outcome_of x.fit; order = x.order }
+answered (Err (none.Tried n)) = no_order (None n)
+answered (Err (none.Refused e)) = no_order (Refused (number_of e) (position_of e))
+
+-- the verdict on an order that fits
+abbrev pub verdict_by : Fit → Verdict
+verdict_by (fit.Firm a b) = judge.Firm a b
+verdict_by (fit.Full a b) = judge.Full a b
+
+-- the assignment by a verdict and positions; none where the verdict is neither Firm nor Full
+abbrev pub AssignedBy : Verdict → List ℕ → Option Assignment → Type 0
+AssignedBy v ps r = MatchOption r (is_accepted v ≡ false) (λ x. (verdict_by x.fit ≡ v) × (x.order ≡ ps))
+
+-- an assignment that is Firm
+abbrev pub firm_by : Fit → Assignment → Option Assignment
+firm_by (fit.Firm a b) x = option.Some x
+firm_by (fit.Full a b) x = option.None
+
+abbrev pub firm_in : Option Assignment → Option Assignment
+firm_in option.None = option.None
+firm_in (option.Some x) = firm_by x.fit x
 
 -- the chosen order; or none of the orders tried, with their number
 abbrev pub answer_by : List ℕ → ℕ → Choice → OrderAnswer

@@ -70,6 +70,11 @@ most_from best (x ∷ xs) = most_from (cond (ltb best.count x.count) x best) xs
 abbrev pub most_ran : List Part → ℕ
 most_ran xs = (most_from (record { position = 0; count = 0 }) xs).position
 
+-- .. as code has it: its place, none where none ran
+abbrev pub position_in : Option ℕ → ℕ
+position_in None = 0
+position_in (Some q) = suc q
+
 -- the order in which the task at place p went to position q; none where q is 0
 abbrev pub moved_above : ℕ → ℕ → List ℕ → Choice
 moved_above zero p o = nothing

@@ -1,11 +1,10 @@
 -- THE ORDERS TRIED: the five, and where none of them is accepted, repair from the one with the latest first miss.
-use Rattle.std.specs.Prelude.{Option, None, Some, Bool, cond, false, true, List, [], ◌∷◌, ◌++◌, map, ℕ, min, ◌-◌}
+use Rattle.std.specs.Prelude.{Bool, cond, false, true, List, [], ◌∷◌, ◌++◌, map, ℕ, min, ◌-◌}
 use Rattle.model.specs.Search.{up_from}
 use Rattle.table.specs.Words.{table_of}
 use Rattle.judge.specs.declared.Verdict.{Verdict}
 use Rattle.judge.specs.declared.Verdict.TheVariants.{Firm, Full, Miss, Refused}
 use Rattle.priority_order.specs.Repair.{Late}
-use Rattle.priority_order.specs.declared.Accepted.{Accepted}
 use Rattle.priority_order.specs.Orders.{own_order}
 use Rattle.priority_order.specs.Repair.{Choice, just, late_of, later_of, no_miss, nothing, repairs, verdict_in}
 use Rattle.priority_order.specs.Sorted.{sorted_order, sorted_orders}
@@ -37,11 +36,6 @@ or_else (just o) y = just o
 -- THE CHOICE: the first order that is Firm, else the first that is accepted
 abbrev pub chosen_of : List ℕ → List (List ℕ) → Choice
 chosen_of ws os = or_else (first_that is_firm ws os) (first_that is_accepted ws os)
-
--- the first of two orders that is accepted, as code has it
-abbrev pub first_accepted : Option Accepted → Verdict → List ℕ → Option Accepted
-first_accepted None v o = cond (is_accepted v) (Some (record { verdict = v; order = o })) None
-first_accepted (Some x) v o = Some x
 
 -- of order x and a list, the one with the latest first miss
 unfoldable pub latest_from : List ℕ → Late → List (List ℕ) → Late

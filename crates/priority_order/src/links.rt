@@ -1,48 +1,67 @@
-// The words of the table in an order of its tasks, and the verdict on them.
+// A table with an order of its tasks: its words in that order, the verdict on them, and the positions.
 ghost use Rattle.std.specs.Prelude.{◌≡◌, ◌<◌, length, take};
 ghost use Rattle.table.specs.Numbers.{NoneApplies};
 ghost use Rattle.table.specs.Words.{count, visited};
 ghost use Rattle.judge.specs.Judged.{Judged};
+ghost use Rattle.priority_order.specs.Answer.{positions_of};
 ghost use Rattle.priority_order.specs.Orders.{OrderIn, reordered};
 
-use conflict::links::WORDS;
+use conflict::links::{NewChain, next_at};
 use judge::Verdict;
 use model::MOST_TASKS;
-use table::{HEADER, RECORD};
+use table::MOST_WORDS;
 
-// The number of the record at a place of the chain.
+// The number of the record at a place of the chain, which is C's: the supplier's words name each next record.
 fn record_at(words: &[u32], place: usize) -> u32
     requires { NoneApplies words.now × (place < count words.now) }
     ensures { result ≡ visited words.now place }
 {
     let mut number = words[0];
     for _ in 0..place {
-        number = words[HEADER + (number as usize - 1) * RECORD];
+        number = words[next_at(number)];
     }
     number
 }
 
-// The words of the table in an order: the next of each record is the one after it in the order, that of the last is zero.
-pub(crate) fn reordered(words: &[u32], order: [u32; MOST_TASKS], count: usize) -> [u32; WORDS]
-    requires { OrderIn words.now count order }
-    ensures { take (length words.now) result ≡ reordered words.now order }
-{
-    let mut copy = conflict::links::copied(words);
-    let mut link: usize = 0;
-    for place in &order[..count] {
-        let number = record_at(words, *place as usize);
-        copy[link] = number;
-        link = HEADER + (number as usize - 1) * RECORD;
-    }
-    copy[link] = 0;
-    copy
+// The words of a table that passes, and an order of its tasks: as many of the places count as it has tasks.
+#[derive(Clone, Copy)]
+pub(crate) struct Order<'a> {
+    pub(crate) words: &'a [u32],
+    pub(crate) count: usize,
+    pub(crate) places: [u32; MOST_TASKS],
+    ghost fits: { ∥ OrderIn words.now count places ∥₁ },
 }
 
-// The verdict on the table in an order.
-pub(crate) fn verdict_in(words: &[u32], order: [u32; MOST_TASKS], count: usize) -> Verdict
-    requires { OrderIn words.now count order }
-    ensures { Judged (reordered words.now order) result }
-{
-    let part = reordered(words, order, count);
-    judge::judge(&part[..words.len()])
+impl<'a> Order<'a> {
+    // The words of the table in the order, since the judge takes C's words.
+    // The next of each record is the one after it in the order, that of the last is zero.
+    pub(crate) fn reordered(self) -> [u32; MOST_WORDS]
+        ensures { take (length self.entry.words.now) result ≡ reordered self.entry.words.now self.entry.places }
+    {
+        let mut chain = NewChain::of(self.words);
+        for place in &self.places[..self.count] {
+            chain.append(record_at(self.words, *place as usize));
+        }
+        chain.end()
+    }
+
+    // The verdict on the table in the order.
+    pub(crate) fn verdict(self) -> Verdict
+        ensures { Judged (reordered self.entry.words.now self.entry.places) result }
+    {
+        let part = self.reordered();
+        judge::judge(&part[..self.words.len()])
+    }
+
+    // The positions of the places of the order, and zeros after them.
+    pub(crate) fn positions(self) -> [u32; MOST_TASKS]
+        ensures { result ≡ positions_of self.entry.count self.entry.places }
+    {
+        let mut positions = [0u32; MOST_TASKS];
+        // tried: over `iter_mut().zip(..)` the proof didn't close; until the loop ends no array holds what is written
+        for i in 0..self.count {
+            positions[i] = self.places[i] + 1;
+        }
+        positions
+    }
 }

@@ -1,14 +1,16 @@
 // The order that follows one that misses: the late task goes to the place directly above the task that ran most while it waited.
-ghost use Rattle.std.specs.Prelude.{Some, ◌≡◌, length};
-ghost use Rattle.model.specs.Sizes.{most_tasks};
+ghost use Rattle.std.specs.Prelude.{Some, ◌≡◌};
 ghost use Rattle.sentence.specs.Facts.{named};
 ghost use Rattle.priority_order.specs.Orders.{OrderIn};
-ghost use Rattle.priority_order.specs.Repair.{LateIn, blocking_in, choice_of, late_in, late_of, late_with, later_of, most_ran, next_order};
+ghost use Rattle.priority_order.specs.Repair.{LateIn, blocking_in, choice_of, late_in, late_of, late_with, later_of, most_ran, next_order, position_in};
 
+use crate::links::Order;
+use crate::orders;
 use judge::{Miss, Verdict};
 use model::MOST_TASKS;
 
 // An order, and its first miss where it has one.
+// That the verdict says so (`LateIn`) is no ghost field: it is a fact of the table's words too.
 #[derive(Clone, Copy)]
 pub struct Late {
     pub missed: Option<Miss>,
@@ -44,36 +46,31 @@ pub(crate) fn later(first: Late, other: Late) -> Late
     }
 }
 
-// The position with the largest count, at equal counts the highest; 0 where every count is 0.
-fn most_ran(ran: [u64; MOST_TASKS]) -> u32
-    requires { length ran ≡ most_tasks }
-    ensures { result ≡ most_ran (named ran) }
+// The place with the largest count, at equal counts the highest; none where every count is 0.
+fn most_ran(ran: [u64; MOST_TASKS]) -> Option<usize>
+    ensures { position_in result ≡ most_ran (named ran) }
 {
     let mut most: u64 = 0;
-    let mut position: u32 = 0;
+    let mut place = None;
     for (i, count) in ran.iter().enumerate() {
         if most < *count {
             most = *count;
-            position = i as u32 + 1;
+            place = Some(i);
         }
     }
-    position
+    place
 }
 
-// The position of the task that ran most while the late one waited; 0 where nobody ran.
-fn blocking(words: &[u32], order: [u32; MOST_TASKS], miss: Miss, count: usize) -> u32
-    requires { OrderIn words.now count order × LateIn words.now (late_with (Some miss) order) }
-    ensures { result ≡ blocking_in words.now (late_with (Some miss) order) }
+// The place of the task that ran most while the late one waited; none where nobody ran.
+fn blocking(order: Order, miss: Miss) -> Option<usize>
+    requires { LateIn order.words.now (late_with (Some miss) order.places) }
+    ensures { position_in result ≡ blocking_in order.entry.words.now (late_with (Some miss) order.entry.places) }
 {
-    let part = crate::links::reordered(words, order, count);
-    match table::load(&part[..words.len()]) {
-        Ok(table) => {
-            let facts = sentence::counting::count(table, miss.tick, miss.position as usize - 1);
-            most_ran(facts.ran)
-        }
-        // no order that misses has words that are refused
-        Err(_) => 0,
-    }
+    let part = order.reordered();
+    // no order that misses has words that are refused
+    let table = table::load(&part[..order.words.len()]).ok()?;
+    let facts = sentence::counting::count(table, miss.tick, miss.position as usize - 1);
+    most_ran(facts.ran)
 }
 
 // The order that follows one that misses, or none.
@@ -82,10 +79,14 @@ pub(crate) fn next_order(words: &[u32], late: Late, count: usize) -> Option<[u32
     ensures { choice_of result ≡ next_order words.now late.order }
 {
     let miss = late.missed?;
-    let above = blocking(words, late.order, miss, count);
-    if above == 0 {
-        return None;
-    }
-    let moved = crate::orders::moved(late.order, above as usize - 1, miss.position as usize - 1);
-    Some(moved)
+    let places = late.order;
+    let order = Order {
+        words,
+        count,
+        places,
+    };
+    let above = blocking(order, miss)?;
+    let mut next = places;
+    orders::move_up(&mut next, above, miss.position as usize - 1);
+    Some(next)
 }

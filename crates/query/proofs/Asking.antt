@@ -1,6 +1,6 @@
 -- The output for a question: the answer of `sentence` determines it, and as many bytes of an input as the buffer holds decide it.
 -- Assumes nothing.
-use mathlib.Core.Bool.{Bool, true, false, ◌&&◌, cond, false≢true}
+use mathlib.Core.Bool.{Bool, true, false, ◌&&◌, cond}
 use mathlib.Core.List.{List, [], ◌∷◌, ◌++◌}
 use mathlib.Core.Path.{◌≡◌, refl, sym, ap, ◌∙◌}
 use Prim.Native.Nat.{ℕ, zero, suc, ◌+◌, ◌≤◌, ◌<◌}
@@ -8,9 +8,7 @@ use native.Mathlib.Numerals.{add-one}
 use native.Mathlib.Omega.{arith}
 use lib.ListN.{length, take, drop, get_or, set}
 use lib.Dec.{eqb}
-use borrow.Author.Tests.{eqb-true, ne_eqb}
-use Rattle.std.proofs.Common.{eq-eqb, subst}
-use Rattle.std.specs.Cmp.Lexicographic.{pointwise}
+use Rattle.std.proofs.Common.{subst}
 use lib.Seq.{drop-cons, take-suc-set, take-nil}
 use Rattle.text.specs.Decimal.{digit_count, digits_within}
 use Rattle.text.specs.Format.{newline, enough_bytes, Words, words_of, numbers_in}
@@ -65,21 +63,6 @@ module _ (ws old new : List ℕ) (r : Result ℕ Refusal) (h : SentenceOf ws old
       (h.size ∙ l, by_answer ws old new (written (Err e)) (subst (λ (r : Result ℕ Refusal). SentenceOf ws old new (written r)) is h) l)
 
 -- THE QUESTION
-
--- numbers are compared either way round
-eqb_sym : (a b : ℕ) → eqb a b ≡ eqb b a
-eqb_sym a b = go (eqb a b) refl
-  where
-    go : (t : Bool) → eqb a b ≡ t → eqb a b ≡ eqb b a
-    go true e = subst (λ (x : ℕ). eqb a x ≡ eqb x a) (eqb-true a b e) refl
-    go false e = e ∙ sym (ne_eqb b a (λ p. false≢true (sym e ∙ eq-eqb a b (sym p))))
-
--- the bytes in front are a word where the text begins with it
-pub front-begins : (word bs : List ℕ) → pointwise eqb (take (length word) bs) word ≡ starts_with word bs
-unfolding starts_with
-front-begins [] bs = refl
-front-begins (c ∷ cs) [] = refl
-front-begins (c ∷ cs) (b ∷ bs) = λ i. eqb_sym b c i && front-begins cs bs i
 
 -- the question at a place of the list is answered where its word is in front, ..
 pub asked_here :

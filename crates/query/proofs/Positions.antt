@@ -2,19 +2,23 @@
 use mathlib.Core.Bool.{Bool, true, false, cond}
 use mathlib.Core.List.{List, [], ◌∷◌, ◌++◌, append_assoc, append-nil}
 use mathlib.Core.Path.{◌≡◌, refl, ap, sym, ◌∙◌, subst}
-use Prim.Native.Nat.{ℕ, zero, suc, ◌+◌, ◌^◌, ◌≤◌, ◌<◌}
+use Prim.Native.Nat.{ℕ, zero, suc, ◌+◌, ◌*◌, ◌^◌, ◌≤◌, ◌<◌}
 use native.Mathlib.Nat.{not-suc-le-zero}
 use native.Mathlib.Numerals.{add-one}
 use native.Mathlib.Omega.{arith}
 use lib.ListN.{length, length-append}
-use Rattle.model.specs.Search.{bit}
+use Rattle.std.proofs.Common.{map}
+use Rattle.model.specs.Members.{members}
+use Rattle.model.specs.Search.{bit, cons_if, filtered, up_from}
+use Rattle.model.specs.Sizes.{most_tasks}
+use Rattle.model.proofs.Members.{Turn, members-to, turn}
 use Rattle.text.specs.Decimal.{decimal, digit_count, digits_within, last_digits}
 use Rattle.text.specs.Format.{newline}
 use Rattle.text.specs.Written.{Put}
 use Rattle.text.specs.Output.{space, fields, letters}
 use Rattle.text.proofs.Decimals.{decimal-some}
 use Rattle.text.proofs.RowText.{fields-append}
-use Rattle.text.proofs.Writing.{put_then}
+use Rattle.text.proofs.Writing.{put-none, put_then}
 use Rattle.table.specs.Answer.{Answer}
 use Rattle.table.specs.Answer.{Passed}
 use Rattle.conflict.specs.Answer.{ConflictAnswer}
@@ -53,28 +57,91 @@ spaced-more (n ∷ ns) x =
     ∙ (sym (append_assoc (decimal n) (fields ns) (space ∷ decimal x))
     ∙ ap (λ (l : List ℕ). (decimal n ++ fields ns) ++ l) (sym (spaced-behind (length (decimal n ++ fields ns)) x some)))
 
--- ONE PLACE MORE OF A SET
+-- THE MEMBERS OF A SET
 
--- a place of the set is put
-pub put-position :
-    (l m n : List ℕ) (at end p x : ℕ) → Put l 0 (spaced (positions_below p x)) m at → bit x p ≡ true → Put m at (spaced_at at (p + 1)) n end → end ≤ length l
-    → Put l 0 (spaced (positions_below (p + 1) x)) n end
-unfolding positions_below
-put-position l m n at end p x before e more h =
-    let s = positions_below p x in
-    let ends : at ≡ length (spaced s) = omega (arith, before.ends) in
-    let next : spaced s ++ spaced_at at (p + 1) ≡ spaced (positions_below (p + 1) x) =
-    ap (λ (k : ℕ). spaced s ++ spaced_at k (p + 1)) ends
-    ∙ (ap (λ (k : ℕ). spaced s ++ spaced_at (length (spaced s)) k) (add-one p)
-    ∙ (sym (spaced-more s (suc p))
-    ∙ (ap (λ (t : Bool). spaced (cond t (s ++ (suc p ∷ [])) s)) (sym e) ∙ ap (λ (k : ℕ). spaced (positions_below k x)) (sym (add-one p))))) in
-    subst (λ (t : List ℕ). Put l 0 t n end) next (put_then before more h)
+-- the positions of the places from i on follow those of the places before it
+front-to : (x i n : ℕ) → positions_below (i + n) x ≡ positions_below i x ++ map suc (filtered (bit x) (up_from i n))
+unfolding positions_below filtered up_from
+front-to x i zero = let e : i + 0 ≡ i = omega arith in ap (λ (k : ℕ). positions_below k x) e ∙ sym (append-nil (positions_below i x))
+front-to x i (suc n) =
+    let e : i + suc n ≡ suc i + n = omega arith in
+    ap (λ (k : ℕ). positions_below k x) e ∙ (front-to x (suc i) n ∙ go (bit x i))
+  where
+    rest : List ℕ
+    rest = filtered (bit x) (up_from (suc i) n)
 
--- any other is skipped
-pub pass-position : (p x : ℕ) → bit x p ≡ false → positions_below p x ≡ positions_below (p + 1) x
+    go : (b : Bool) → cond b (positions_below i x ++ (suc i ∷ [])) (positions_below i x) ++ map suc rest ≡ positions_below i x ++ map suc (cons_if b i rest)
+    go true = append_assoc (positions_below i x) (suc i ∷ []) (map suc rest)
+    go false = refl
+
+-- the positions of a set are those of its members
+pub positions-members : (x : ℕ) → x < 2 ^ 32 → positions_below most_tasks x ≡ map suc (members x)
 unfolding positions_below
-pass-position p x e =
-    ap (λ (t : Bool). cond t (positions_below p x ++ (suc p ∷ [])) (positions_below p x)) (sym e) ∙ ap (λ (k : ℕ). positions_below k x) (sym (add-one p))
+positions-members x h = front-to x 0 32 ∙ ap (map suc) (sym (members-to x 32 h))
+
+below-most : (n x : ℕ) → length (positions_below n x) ≤ n
+unfolding positions_below
+below-most zero x = omega arith
+below-most (suc n) x = go (below-most n x) (bit x n)
+  where
+    go : length (positions_below n x) ≤ n → (b : Bool) → length (cond b (positions_below n x ++ (suc n ∷ [])) (positions_below n x)) ≤ suc n
+    go h true = omega (arith, h, length-append (positions_below n x) (suc n ∷ []))
+    go h false = omega (arith, h)
+
+-- the positions of some members are put, 11 bytes for each at most, and `rest` has the others
+pub record Placing (set rest : ℕ) (before line : List ℕ) (at : ℕ) : Type 0 where
+  pub done : List ℕ
+  pub together : done ++ map suc (members rest) ≡ positions_below most_tasks set
+  pub fits : rest < 2 ^ 32
+  pub written : Put before 0 (spaced done) line at
+  pub short : at ≤ 11 * length done
+
+pub placing-none : (set rest : ℕ) (line : List ℕ) → rest ≡ set → set < 2 ^ 32 → Placing set rest line line 0
+unfolding spaced
+placing-none set rest line e h = record {
+  done = [];
+  together = ap (λ (x : ℕ). map suc (members x)) e ∙ sym (positions-members set h);
+  fits = omega (arith, e, h);
+  written = put-none line 0;
+  short = omega arith;
+}
+
+module _ (set rest others p : ℕ) (before line : List ℕ) (at : ℕ) (i : Placing set rest before line at) (m : members rest ≡ p ∷ members others) where
+  t : Turn rest p others
+  t = turn rest p others m
+
+  pub place-below : p < 32
+  place-below = t.below 32 i.fits
+
+  all : i.done ++ (suc p ∷ map suc (members others)) ≡ positions_below most_tasks set
+  all = ap (λ (l : List ℕ). i.done ++ map suc l) (sym m) ∙ i.together
+
+  -- there is space for one more
+  pub one-more : length i.done < 32
+  one-more =
+      omega (arith, length-append i.done (suc p ∷ map suc (members others)), ap (length {A = ℕ}) all, below-most 32 set)
+
+  -- it is put
+  pub placing-on : (after : List ℕ) (end : ℕ) → Put line at (spaced_at at (p + 1)) after end → end ≤ at + 11 → end ≤ length before → Placing set others before after end
+  placing-on after end q past room = record {
+    done = i.done ++ (suc p ∷ []);
+    together = append_assoc i.done (suc p ∷ []) (map suc (members others)) ∙ all;
+    fits = omega (arith, t.falls, i.fits);
+    written = subst (λ (s : List ℕ). Put before 0 s after end) next (put_then i.written q room);
+    short = omega (arith, past, i.short, length-append i.done (suc p ∷ []));
+  }
+    where
+      next : spaced i.done ++ spaced_at at (p + 1) ≡ spaced (i.done ++ (suc p ∷ []))
+      next =
+          let ends : at ≡ length (spaced i.done) = omega (arith, i.written.ends) in
+          ap (λ (k : ℕ). spaced i.done ++ spaced_at k (p + 1)) ends
+          ∙ (ap (λ (k : ℕ). spaced i.done ++ spaced_at (length (spaced i.done)) k) (add-one p) ∙ sym (spaced-more i.done (suc p)))
+
+-- no member is left
+pub placing-all : (set rest : ℕ) (before line : List ℕ) (at : ℕ) → Placing set rest before line at → members rest ≡ [] → Put before 0 (spaced (positions_below most_tasks set)) line at × (at ≤ 352)
+placing-all set rest before line at i e =
+    let same : i.done ≡ positions_below most_tasks set = sym (append-nil i.done) ∙ ap (λ (l : List ℕ). i.done ++ map suc l) (sym e) ∙ i.together in
+    (subst (λ (s : List ℕ). Put before 0 (spaced s) line at) same i.written, omega (arith, i.short, ap (length {A = ℕ}) same, below-most 32 set))
 
 -- WHAT `conflict` ANSWERS
 

@@ -13,16 +13,16 @@ ghost use Rattle.table.specs.Numbers.{NoneApplies};
 ghost use Rattle.table.specs.Words.{table_of};
 ghost use Rattle.text.specs.Written.{Put};
 ghost use Rattle.text.specs.Format.{words_of, numbers_in};
-ghost use Rattle.stream.specs.Sent.{SentOf};
-ghost use Rattle.stream.specs.Answered.{Answered};
+ghost use Rattle.stream.specs.Sent.{SentOf, sent_of};
 ghost use Rattle.query.specs.Figures.{figure_lines};
 ghost use Rattle.query.specs.Positions.{spaced_at, position_line};
 ghost use Rattle.query.specs.Query.{answer_room, refusal_line, PutOf, verdict_text, why_of, response_times_text, conflict_text, slack_text, bounds_text, answer_to, word_of, query_output};
 
+use model::sets::Members;
 use model::{MOST_TASKS, Refusal};
 use sentence::LONGEST;
-use std::io::{Read, Write};
-use stream::{Reading, Sent};
+use std::io::Write;
+use stream::{Cut, Program};
 use text::ENOUGH;
 
 // A question on a table.
@@ -46,17 +46,8 @@ const INPUT: usize = WORD + ENOUGH;
 // The most bytes of an answer: a sentence and a newline.
 const ROOM: usize = LONGEST + 1;
 
-// The result: the buffer and what was read into it, and what was printed.
-#[derive(Clone, Copy)]
-struct Outcome {
-    bytes: [u8; INPUT],
-    reading: Reading,
-    sent: Sent,
-}
-
 // Writes the verdict's line at the front of the line; returns where it ends.
-fn verdict(words: &[u32], line: &mut [u8]) -> usize
-    requires { length line.old ≡ answer_room }
+fn verdict(words: &[u32], line: &mut [u8; ROOM]) -> usize
     ensures { (result ≤ answer_room) × (take result line.new ≡ verdict_text words.now) }
 {
     let verdict = judge::judge(words);
@@ -64,16 +55,14 @@ fn verdict(words: &[u32], line: &mut [u8]) -> usize
 }
 
 // Writes a refusal at the front of the line; returns where it ends.
-fn put_refusal(line: &mut [u8], refusal: Refusal) -> usize
-    requires { length line.old ≡ answer_room }
+fn put_refusal(line: &mut [u8; ROOM], refusal: Refusal) -> usize
     ensures { (result ≤ answer_room) × (take result line.new ≡ refusal_line refusal) }
 {
     text::first::put_pair(line, b"refused", refusal.number(), refusal.position())
 }
 
 // Writes why a table misses at the front of the line; returns where it ends, or the refusal.
-fn why(words: &[u32], line: &mut [u8]) -> Result<usize, Refusal>
-    requires { length line.old ≡ answer_room }
+fn why(words: &[u32], line: &mut [u8; ROOM]) -> Result<usize, Refusal>
     ensures { PutOf (why_of words.now) line.new result }
 {
     let length = sentence::sentence(words, line)?;
@@ -81,13 +70,14 @@ fn why(words: &[u32], line: &mut [u8]) -> Result<usize, Refusal>
     Ok(length + 1)
 }
 
-// Writes a line for each of the first numbers, its position and the number, at the front of the lines; returns where they end.
-fn put_figures(figures: [u32; MOST_TASKS], count: usize, lines: &mut [u8]) -> usize
-    requires { (count ≤ most_tasks) × (length lines.old ≡ answer_room) }
-    ensures { (Put lines.old 0 (figure_lines 0 (take count figures)) lines.new result) × (result ≤ answer_room) }
+// Writes a line for each number, its position and the number, at the front of the lines; returns where they end.
+// By hand: `write!` into an array promises how many bytes it wrote, and not which, and no heap is a rule.
+fn put_figures(figures: &[u32], lines: &mut [u8; ROOM]) -> usize
+    requires { length figures.now ≤ most_tasks }
+    ensures { (Put lines.old 0 (figure_lines 0 figures.now) lines.new result) × (result ≤ answer_room) }
 {
     let mut at: usize = 0;
-    for (place, figure) in figures[..count].iter().enumerate() {
+    for (place, figure) in figures.iter().enumerate() {
         let middle = text::decimal::put(lines, at, place as u64 + 1);
         let end = text::first::put_field(lines, middle, *figure);
         lines[end] = b'\n';
@@ -97,17 +87,20 @@ fn put_figures(figures: [u32; MOST_TASKS], count: usize, lines: &mut [u8]) -> us
 }
 
 // Writes a line for each task of a table that passes, its position and its number, at the front of the lines; returns where they end.
-fn put_answer(words: &[u32], figures: [u32; MOST_TASKS], lines: &mut [u8]) -> Result<usize, Refusal>
-    requires { NoneApplies words.now × (length lines.old ≡ answer_room) }
+fn put_answer(
+    words: &[u32],
+    figures: [u32; MOST_TASKS],
+    lines: &mut [u8; ROOM],
+) -> Result<usize, Refusal>
+    requires { NoneApplies words.now }
     ensures { PutOf (figure_lines 0 (take (length (table_of words.now).tasks) figures)) lines.new result }
 {
     let table = table::load(words)?;
-    Ok(put_figures(figures, table.count, lines))
+    Ok(put_figures(&figures[..table.count], lines))
 }
 
 // Writes the worst-case response time of each task at the front of the lines; returns where they end, or the refusal.
-fn response_times(words: &[u32], lines: &mut [u8]) -> Result<usize, Refusal>
-    requires { length lines.old ≡ answer_room }
+fn response_times(words: &[u32], lines: &mut [u8; ROOM]) -> Result<usize, Refusal>
     ensures { PutOf (response_times_text words.now) lines.new result }
 {
     let figures = response_time::response_times(words)?;
@@ -115,7 +108,7 @@ fn response_times(words: &[u32], lines: &mut [u8]) -> Result<usize, Refusal>
 }
 
 // Writes a number, after a space where it is not the first of its line; returns where it ends.
-// By hand: the bytes go into the caller's slice from a place on. The library's text without a heap, `InlineText`, has its own buffer.
+// By hand: of a lent slice `write!` promises how many bytes it wrote, and not which; `InlineText` has its own buffer.
 fn put_spaced(line: &mut [u8], at: usize, number: u32) -> usize
     requires { at + 11 ≤ length line.old }
     ensures { (Put line.old at (spaced_at at number) line.new result) × (result ≤ at + 11) }
@@ -127,23 +120,20 @@ fn put_spaced(line: &mut [u8], at: usize, number: u32) -> usize
 }
 
 // Writes the positions of a set on one line, a space between two; returns where the line ends.
-fn put_positions(set: u32, line: &mut [u8]) -> usize
-    requires { length line.old ≡ answer_room }
+// By hand, as in `put_figures`.
+fn put_positions(set: u32, line: &mut [u8; ROOM]) -> usize
     ensures { (Put line.old 0 (position_line set) line.new result) × (result ≤ answer_room) }
 {
     let mut at: usize = 0;
-    for place in 0..32 {
-        if (set >> place) % 2 == 1 {
-            at = put_spaced(line, at, place + 1);
-        }
+    for place in Members::from(set) {
+        at = put_spaced(line, at, place as u32 + 1);
     }
     line[at] = b'\n';
     at + 1
 }
 
 // Writes the positions of the tasks in conflict on one line; returns where it ends, or the refusal.
-fn conflict(words: &[u32], line: &mut [u8]) -> Result<usize, Refusal>
-    requires { length line.old ≡ answer_room }
+fn conflict(words: &[u32], line: &mut [u8; ROOM]) -> Result<usize, Refusal>
     ensures { PutOf (conflict_text words.now) line.new result }
 {
     let kept = conflict::conflict(words)?;
@@ -151,8 +141,7 @@ fn conflict(words: &[u32], line: &mut [u8]) -> Result<usize, Refusal>
 }
 
 // Writes the slack of each task at the front of the lines; returns where they end, or the refusal.
-fn slack(words: &[u32], lines: &mut [u8]) -> Result<usize, Refusal>
-    requires { length lines.old ≡ answer_room }
+fn slack(words: &[u32], lines: &mut [u8; ROOM]) -> Result<usize, Refusal>
     ensures { PutOf (slack_text words.now) lines.new result }
 {
     let figures = slack::slack(words)?;
@@ -160,20 +149,18 @@ fn slack(words: &[u32], lines: &mut [u8]) -> Result<usize, Refusal>
 }
 
 // Writes the response-time bound of each task at the front of the lines, or that there is none; returns where they end, or the refusal.
-fn bounds(words: &[u32], lines: &mut [u8]) -> Result<usize, Refusal>
-    requires { length lines.old ≡ answer_room }
+fn bounds(words: &[u32], lines: &mut [u8; ROOM]) -> Result<usize, Refusal>
     ensures { PutOf (bounds_text words.now) lines.new result }
 {
     let tested = interference::response_bounds(words)?;
     match tested {
         Some(figures) => put_answer(words, figures, lines),
-        None => Ok(text::row::copy(b"none\n", 0, 5, lines, 0)),
+        None => Ok(text::row::put(lines, 0, b"none\n")),
     }
 }
 
 // Writes the answer to a question on a table at the front of the lines; returns where it ends, or the refusal that is the answer.
-fn put_given(question: Question, words: &[u32], lines: &mut [u8]) -> Result<usize, Refusal>
-    requires { length lines.old ≡ answer_room }
+fn put_given(question: Question, words: &[u32], lines: &mut [u8; ROOM]) -> Result<usize, Refusal>
     ensures { PutOf (answer_to question words.now) lines.new result }
 {
     match question {
@@ -187,8 +174,7 @@ fn put_given(question: Question, words: &[u32], lines: &mut [u8]) -> Result<usiz
 }
 
 // Writes the answer to a question on a table, or its refusal, at the front of the lines; returns where it ends.
-fn put(question: Question, words: &[u32], lines: &mut [u8]) -> usize
-    requires { length lines.old ≡ answer_room }
+fn put(question: Question, words: &[u32], lines: &mut [u8; ROOM]) -> usize
     ensures { (result ≤ answer_room) × (take result lines.new ≡ answer_to question words.now) }
 {
     match put_given(question, words, lines) {
@@ -198,14 +184,16 @@ fn put(question: Question, words: &[u32], lines: &mut [u8]) -> usize
 }
 
 // Prints the answer to a question on the table in these bytes.
-fn send_answer<W: Write>(out: &mut W, question: Question, bytes: &[u8]) -> Sent
-    ensures { SentOf 0 (answer_to question (numbers_in (words_of bytes.now))) result }
+fn send_answer<W: Write>(out: &mut W, question: Question, bytes: &[u8]) -> Result<usize, Cut>
+    ensures { SentOf 0 (answer_to question (numbers_in (words_of bytes.now))) (sent_of result) }
 {
-    let input = text::read(bytes);
-    let words = input.words;
-    let count = input.count;
     let mut lines = [0u8; ROOM];
-    let length = put(question, &words[..count], &mut lines);
+    // No plainer as one in text: a new public function with its own clause, for these four lines in three crates.
+    let length = match text::read(bytes) {
+        Some(words) => put(question, words.as_slice(), &mut lines),
+        // what is no table's text has no numbers, and no words are refused likewise: 1 0
+        None => put(question, &[], &mut lines),
+    };
     stream::send(out, 0, &lines[..length])
 }
 
@@ -223,54 +211,38 @@ fn word_of(question: Question) -> &'static [u8]
     }
 }
 
-// Prints the answer to the question on a table.
-fn print<W: Write>(out: &mut W, bytes: &[u8]) -> Sent
-    ensures { SentOf 0 (query_output bytes.now) result }
-{
-    let questions = [
-        Question::Why,
-        Question::ResponseTimes,
-        Question::Conflict,
-        Question::Slack,
-        Question::Bounds,
-        Question::Verdict,
-    ];
-    for question in questions {
-        if let Some(table) = bytes.strip_prefix(word_of(question)) {
-            return send_answer(out, question, table);
+// The program `query`.
+struct Query;
+
+impl Program for Query {
+    ghost text = { query_output };
+
+    fn print<W: Write>(out: &mut W, bytes: &[u8]) -> Result<usize, Cut> {
+        let questions = [
+            Question::Why,
+            Question::ResponseTimes,
+            Question::Conflict,
+            Question::Slack,
+            Question::Bounds,
+            Question::Verdict,
+        ];
+        for question in questions {
+            if let Some(table) = bytes.strip_prefix(word_of(question)) {
+                return send_answer(out, question, table);
+            }
         }
-    }
-    stream::send(out, 0, b"no such question\n")
-}
-
-// Reads standard input until its end, or until it is longer than any question can be, and prints the answer; a read that fails is reported, and nothing is
-// printed.
-fn answer<R: Read, W: Write, E: Write>(input: &mut R, out: &mut W, log: &mut E) -> Outcome
-    ensures { Answered query_output result.bytes result.reading result.sent }
-{
-    let mut bytes = [0u8; INPUT];
-    let reading = stream::fill(input, &mut bytes, 0);
-    if reading.failed {
-        stream::report_unread(log, b"ask");
-        let sent = Sent {
-            count: 0,
-            whole: true,
-        };
-        return Outcome {
-            bytes: bytes,
-            reading: reading,
-            sent: sent,
-        };
-    }
-    let held = reading.held;
-    let sent = print(out, &bytes[..held]);
-    Outcome {
-        bytes: bytes,
-        reading: reading,
-        sent: sent,
+        stream::send(out, 0, b"no such question\n")
     }
 }
 
+// A main for each program: the runtime is handed to it alone, and all else is `stream::answer`.
 fn main(rt: HostRuntime) {
-    answer(&mut rt.stdin(), &mut rt.stdout(), &mut rt.stderr());
+    let mut bytes = [0u8; INPUT];
+    let _ = stream::answer::<Query, _, _, _>(
+        &mut rt.stdin(),
+        &mut rt.stdout(),
+        &mut rt.stderr(),
+        b"ask",
+        &mut bytes,
+    );
 }

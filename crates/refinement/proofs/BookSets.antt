@@ -17,7 +17,8 @@ use Rattle.model.specs.Refusals.{taken}
 use Rattle.model.specs.Sets.{SetsCount, SetsUnfenced, set_of, sets_asked}
 use Rattle.model.specs.Sets as model
 use Rattle.model.specs.Task.{AllValid, Table}
-use Rattle.model.proofs.Bools.{and_left, not-true-false}
+use Rattle.model.proofs.Bools.{and_left}
+use Rattle.std.proofs.lemmas.Bool.{false_from_ne_true}
 use Rattle.table.specs.Words.{table_of}
 use Rattle.table.proofs.Decide.{fails}
 use Rattle.run.specs.declared.Run.{Run}
@@ -79,7 +80,7 @@ module _ (s : Table) (ok : AllValid s) (b : Book) (r : Run) (h : Represents s b 
     seen = emptied-related s ok b r h.related it e
       where
         it : (p : ℕ) → p < length s.tasks → late_at r p ≡ false
-        it p l = not-true-false (late_at r p) (λ x. o.taken.0 t 15 (suc p) (fifteen p (below-count s r same p l) ((late-decides r p).0 x)))
+        it p l = false_from_ne_true (late_at r p) (λ x. o.taken.0 t 15 (suc p) (fifteen p (below-count s r same p l) ((late-decides r p).0 x)))
 
     book-sets : w.sets ≡ in32 (map set_of (shown_of s c))
     unfolding sets_in

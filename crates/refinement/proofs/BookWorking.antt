@@ -11,7 +11,7 @@ use Rattle.model.specs.Refusals.{reportable, taken}
 use Rattle.model.specs.Search.{bit}
 use Rattle.model.specs.Task.{AllValid, Table}
 use Rattle.model.specs.Working.{book_working, set_where, working_asked}
-use Rattle.model.proofs.Bools.{not-true-false}
+use Rattle.std.proofs.lemmas.Bool.{false_from_ne_true}
 use Rattle.table.specs.Words.{table_of}
 use Rattle.run.specs.Answer as declared
 use Rattle.run.specs.Answer.{Taken, Refused}
@@ -55,7 +55,7 @@ module _ (s : Table) (ok : AllValid s) (b : Book) (r : Run) (h : Represents s b 
   same-each t p =
       let w = working-of r e (working_of r e) refl in
       let it : (q : ℕ) → q < length s.tasks → late_at r q ≡ false =
-      λ q l. not-true-false (late_at r q) (λ x. w.taken.0 t 15 (suc q) (fifteen q (below-count s r h.related.table q l) ((late-decides r q).0 x))) in
+      λ q l. false_from_ne_true (late_at r q) (λ x. w.taken.0 t 15 (suc q) (fifteen q (below-count s r h.related.table q l) ((late-decides r q).0 x))) in
       w.each t p ∙ same-reportable s ok c r e (emptied-related s ok b r h.related it e) p
 
 -- THEOREM (working-book): for every table that start takes, Firm and Full alike, and every list of entries

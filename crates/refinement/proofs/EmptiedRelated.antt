@@ -22,7 +22,7 @@ use Rattle.model.specs.Claims.{claims, widths, task_claims, grants_of, book_row,
 use Rattle.model.specs.Advance.{step}
 use Rattle.model.specs.Claims.{borrowing, shown_of}
 use Rattle.model.specs.Refusals.{reportable, wrong_reports}
-use Rattle.model.proofs.Bools.{not-true-false}
+use Rattle.std.proofs.lemmas.Bool.{false_from_ne_true}
 use Rattle.model.proofs.Search.{any_same}
 use Rattle.model.proofs.Grants.{claimants-same, grants-none}
 use Rattle.model.proofs.Jobs.{before-due}
@@ -59,7 +59,7 @@ pub record EmptiedRelated (s : Table) (c : Book) (r : Run) (e : ℕ) : Type 0 wh
 -- a place past the last never claims
 claims-none : (r : Rule) (τ : model.Task) (k t : ℕ) (j : Job) → τ ≡ absent_task → claims r τ k t j ≡ false
 claims-none r τ k t j e =
-    not-true-false (claims r τ k t j) (λ q. let l : t < due absent_task k = subst (λ (x : model.Task). t < due x k) e (before-due r τ k t j q) in omega arith)
+    false_from_ne_true (claims r τ k t j) (λ q. let l : t < due absent_task k = subst (λ (x : model.Task). t < due x k) e (before-due r τ k t j q) in omega arith)
 
 -- OF ONE TABLE
 
@@ -168,7 +168,7 @@ module _ (s : Table) (ok : AllValid s) (c : Book) (r : Run) (e : ℕ) (h : Empti
       go false i =
           ap (λ (x : Bool). x && (working (emptied_at r e p) && not (has_cores r e p))) (ap (ltb p) h.same.same_count ∙ i)
           ∙ sym (ap (λ (x : Bool). x && not (newest_ended s c p) && not (in_row s c p))
-          (not-true-false (task_claims s c p) (λ q. true≢false (sym (lt-ltb p (length s.tasks) (claims-below p q)) ∙ i))))
+          (false_from_ne_true (task_claims s c p) (λ q. true≢false (sym (lt-ltb p (length s.tasks) (claims-below p q)) ∙ i))))
 
   pub same-offer : (p : ℕ) → offer_in r e p ≡ offer s c p
   unfolding offer_in offer
@@ -216,7 +216,7 @@ module _ (s : Table) (ok : AllValid s) (c : Book) (r : Run) (e : ℕ) (h : Empti
   no-cores p q = ap some (grants-none s.rule (widths s c.tick) (task_claims s c) (unfenced_cores s) p q)
 
   no-lent : (p : ℕ) → task_claims s c p ≡ false → borrows s c p ≡ false
-  no-lent p q = not-true-false (borrows s c p) (λ w. true≢false (sym (borrower s c p w).claiming ∙ q))
+  no-lent p q = false_from_ne_true (borrows s c p) (λ w. true≢false (sym (borrower s c p w).claiming ∙ q))
 
   -- which jobs may be reported is the same of both
   pub same-reportable : (p : ℕ) → reportable_at r e p ≡ reportable s c p

@@ -48,17 +48,12 @@ reported xs = map (λ x. advance x 0) xs
 
 -- a task as (O, v, C, D, T) in a phase, with both widths v and an odd job
 abbrev pub t : ℕ → ℕ → ℕ → ℕ → ℕ → Phase → Task
-t o v c d p ph = record { offset = o; width = v; length = c; deadline = d; period = p; second = v; even = false; phase = ph }
+t o v c d p ph = record { parameters = record { offset = o; width = v; length = c; deadline = d; period = p; second = v }; even = false; phase = ph }
 
 -- the task with an even job
 abbrev pub at-even : Task → Task
 at-even a = record {
-  offset = a.offset;
-  width = a.width;
-  length = a.length;
-  deadline = a.deadline;
-  period = a.period;
-  second = a.second;
+  parameters = a.parameters;
   even = true;
   phase = a.phase;
 }

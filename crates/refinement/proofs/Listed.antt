@@ -7,13 +7,15 @@ use Prim.Native.Nat.{ℕ, zero, suc, ◌+◌, ◌*◌, ◌%◌, ◌<◌}
 use native.Mathlib.Nat.{zero-add, not-suc-le-zero, le_of_suc-le-suc}
 use native.Mathlib.Omega.{arith}
 use native.Mathlib.Numerals.{add-one}
-use lib.ListN.{length, get_or, length-map}
-use lib.Seq.{ext_get_or}
+use lib.ListN.{length, get_or, take, drop, length-map}
+use lib.Seq.{ext_get_or, get_or-take, get_or-drop}
+use Rattle.std.specs.Simd.{first_chunks}
+use Rattle.std.proofs.lemmas.List.{drop-drop}
 use borrow.Author.Tests.{not-false, not-true}
 use Rattle.model.specs.Advance.{Entry, advance, withdraw, withdraw_all}
 use Rattle.model.specs.Lists.{no_reports}
 use Rattle.model.proofs.Lists.{map_at, map_more, up_at, up-length, up_more}
-use Rattle.model.proofs.Bools.{not-true-false}
+use Rattle.std.proofs.lemmas.Bool.{false_from_ne_true}
 use Rattle.model.proofs.Search.{none_any, none-at}
 use Rattle.model.specs.Search.{any, up_from}
 use Rattle.table.proofs.Decide.{Decides, decides_and, decides_or, decides_eq}
@@ -43,10 +45,6 @@ length-answers r (x ∷ xs) = ap suc (length-answers (entry_of r x).run xs)
 abbrev coded : Answer → ℕ
 coded a = code (answer_meaning a)
 
-pub codes-none : (r : Run) → codes r [] ≡ []
-unfolding answers
-codes-none r = refl
-
 pub codes-more : (r : Run) (xs : List Entry) (x : Entry) → codes r (xs ++ (x ∷ [])) ≡ codes r xs ++ (code (answer_meaning (entry_of (run_after_list r xs) x).answer) ∷ [])
 codes-more r xs x = ap (map coded) (answers-more r xs x) ∙ map_more coded (answers r xs) (entry_of (run_after_list r xs) x).answer
 
@@ -63,6 +61,29 @@ entries-more es i =
 
 pub length-entries : (es : List ℕ) (i : ℕ) → length (map (entry_at es) (up_from 0 i)) ≡ i
 length-entries es i = length-map (up_from 0 i) (entry_at es) ∙ up-length 0 i
+
+-- a chunk is the words from its first on
+pub chunk_at : (n k : ℕ) (xs : List ℕ) (i : ℕ) → i < k → get_or (first_chunks n k xs) i [] ≡ take n (drop (n * i) xs)
+chunk_at n zero xs i l = absurd (omega arith)
+chunk_at n (suc k) xs zero l = let z : n * 0 ≡ 0 = omega arith in ap (λ (m : ℕ). take n (drop m xs)) (sym z)
+chunk_at n (suc k) xs (suc i) l =
+    let e : n + n * i ≡ n * suc i = omega arith in
+    chunk_at n k (drop n xs) i (omega arith) ∙ ap (take n) (drop-drop (n * i) n xs ∙ ap (λ (m : ℕ). drop m xs) e)
+
+-- .. word by word
+pub chunk_word : (n k : ℕ) (xs : List ℕ) (cs : List (List ℕ)) → cs ≡ first_chunks n k xs → (i j : ℕ) → i < k → j < n → get_or (get_or cs i []) j 0 ≡ get_or xs (n * i + j) 0
+chunk_word n k xs cs are i j l m =
+    ap (λ (c : List ℕ). get_or c j 0) (ap (λ (ds : List (List ℕ)). get_or ds i []) are ∙ chunk_at n k xs i l)
+    ∙ (get_or-take n (drop (n * i) xs) j 0 m ∙ get_or-drop (n * i) xs j 0)
+
+-- the entry that a chunk of three is
+pub entry-chunk :
+    (es : List ℕ) (cs : List (List ℕ)) → cs ≡ first_chunks 3 (entry_count es) es → (i : ℕ) → i < entry_count es
+    → entry_by (get_or (get_or cs i []) 0 0) (get_or (get_or cs i []) 1 0) (get_or (get_or cs i []) 2 0) ≡ entry_at es i
+entry-chunk es cs are i l =
+    let word : (j : ℕ) → j < 3 → get_or (get_or cs i []) j 0 ≡ get_or es (3 * i + j) 0 = λ j m. chunk_word 3 (entry_count es) es cs are i j l m in
+    let kind : get_or (get_or cs i []) 0 0 ≡ entry_kind_at es i = word 0 (omega arith) ∙ (let e : 3 * i + 0 ≡ 3 * i = omega arith in ap (λ (n : ℕ). get_or es n 0) e) in
+    (λ j. entry_by (kind j) (word 1 (omega arith) j) (word 2 (omega arith) j))
 
 -- the test decides whether words are an entry's
 pub is-entry-decides : (kind b : ℕ) → Decides (is_entry kind b) (IsEntry kind b)
@@ -88,11 +109,11 @@ listed-decides es = decides_and _ _ _ _ (decides_eq (length es % 3) 0) (all-deci
 
 -- words over, or words that are no entry's: no list of entries
 pub not-listed-over : (es : List ℕ) → (length es % 3 ≡ 0 → ⊥) → listed es ≡ false
-not-listed-over es n = not-true-false (listed es) (λ e. n ((listed-decides es).0 e).0)
+not-listed-over es n = false_from_ne_true (listed es) (λ e. n ((listed-decides es).0 e).0)
 
 pub not-listed-at : (es : List ℕ) (i : ℕ) → i < entry_count es → is_entry (entry_kind_at es i) (entry_second_at es i) ≡ false → listed es ≡ false
 not-listed-at es i l n =
-    not-true-false (listed es) (λ e. true≢false (sym ((is-entry-decides (entry_kind_at es i) (entry_second_at es i)).1 (((listed-decides es).0 e).1 i l)) ∙ n))
+    false_from_ne_true (listed es) (λ e. true≢false (sym ((is-entry-decides (entry_kind_at es i) (entry_second_at es i)).1 (((listed-decides es).0 e).1 i l)) ∙ n))
 
 -- a list of entries in words
 unfoldable pub listing : List Entry → List ℕ
@@ -142,7 +163,7 @@ listing-at (advance x e ∷ xs) (suc i) l = further 0 x e (listing xs) i (get_or
 listing-at (withdraw p ∷ xs) (suc i) l = further 1 p 0 (listing xs) i (get_or xs i no_reports) (listing-at xs i (le_of_suc-le-suc l))
 listing-at (withdraw_all x ∷ xs) (suc i) l = further 2 x 0 (listing xs) i (get_or xs i no_reports) (listing-at xs i (le_of_suc-le-suc l))
 
--- LAW: every list of entries is encoded in words, and decoded from them
+-- LAW: every list of entries is encoded in words, and decoded from them (the first half is cited by none: it states what `listing` promises)
 pub listing-listed : (xs : List Entry) → Listed (listing xs)
 listing-listed xs =
     let n = length-listing xs in

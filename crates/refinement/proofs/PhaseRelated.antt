@@ -9,7 +9,7 @@ use borrow.Author.Tests.{ltb-true, lt-ltb, eqb-true, eqb-false, eq-eqb, ne_eqb}
 use Rattle.model.specs.Task.{Task, Rule, greedy, limited, idling, lending, release, newest}
 use Rattle.model.specs.Jobs.{Job, fresh}
 use Rattle.model.specs.Claims.{holds, claims}
-use Rattle.model.proofs.Bools.{not-true-false}
+use Rattle.std.proofs.lemmas.Bool.{false_from_ne_true}
 use Rattle.model.proofs.Jobs.{mk, after-release, before-due, still}
 use Rattle.phase.specs.declared.Phase.{Phase}
 use Rattle.phase.specs.declared.Phase.TheVariants.{Coming, Working, Holding, Resting}
@@ -91,7 +91,7 @@ newest-first τ t pos l = le_antisymm (le_of_suc-le-suc ((div-lt_iff_lt-mul pos)
 
 -- none claims before the first release
 pub early : (r : Rule) (τ : Task) (t i : ℕ) (j : Job) → t < τ.offset → claims r τ i t j ≡ false
-early r τ t i j l = not-true-false (claims r τ i t j) (λ e. absurd (omega (arith, after-release r τ i t j e)))
+early r τ t i j l = false_from_ne_true (claims r τ i t j) (λ e. absurd (omega (arith, after-release r τ i t j e)))
 
 -- HOLDING
 
@@ -136,7 +136,7 @@ pub rests-off :
     (r : Rule) (τ : Task) (t : ℕ) (j : Job) (k z : ℕ) → release τ k + z ≡ t → j.ended ≡ true → (holds r τ j ≡ true → τ.deadline ≤ z)
     → claims r τ k t j ≡ false
 rests-off r τ t j k z when over done =
-    not-true-false (claims r τ k t j)
+    false_from_ne_true (claims r τ k t j)
     (λ e.
     let d : τ.deadline ≤ z = done (ended-only j.ended (holds r τ j) over (still r τ k t j e)) in
     absurd (omega (arith, before-due r τ k t j e)))

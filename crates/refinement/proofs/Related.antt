@@ -16,7 +16,7 @@ use Rattle.model.specs.Task as model
 use Rattle.model.specs.Jobs.{Book, fresh, empty_book, emptied, empty_in, released_now}
 use Rattle.model.specs.Advance.{advanced, step, with_withdrawn}
 use Rattle.model.specs.Refusals.{late, first_late, emptiable, wrong_empties}
-use Rattle.model.proofs.Bools.{same_test}
+use Rattle.std.specs.Cmp.{both_ways}
 use Rattle.model.proofs.Search.{least-lowest, any_same, least-same}
 use Rattle.model.proofs.Faithful.{late-exact}
 use Rattle.model.specs.Sizes.{most_tasks}
@@ -25,6 +25,7 @@ use Rattle.run.specs.declared.Run.{Run}
 use Rattle.phase.specs.Phase.{late_in, released, phase_emptied}
 use Rattle.phase.specs.Task.{task_of, unused, start_task}
 use Rattle.phase.proofs.Phases.{emptied-late}
+use Rattle.phase.proofs.Started.{started-tasks}
 use Rattle.run.specs.Run.{rule_in, even_at, phase_at, empty_at, moved, withdrawn_in}
 use Rattle.run.specs.Numbers.{late_at, first_late_in, emptiable_at, wrong_empties_in}
 use Rattle.run.specs.Start.{started_run}
@@ -42,10 +43,6 @@ pub record Related (s : Table) (b : Book) (r : Run) : Type 0 where
   pub related : (p : ℕ) → p < length s.tasks → PhaseRelated s.rule (task s p) b.tick (b.job p) (even_at r p) (phase_at r p)
 
 -- THE START
-
-started-tasks : (τs : List model.Task) → map task_of (map start_task τs) ≡ τs
-started-tasks [] = refl
-started-tasks (τ ∷ τs) = ap (λ (l : List model.Task). τ ∷ l) (started-tasks τs)
 
 -- a started run is related to the empty book
 pub related-start : (n : ℕ) (s : Table) → rule_of n ≡ s.rule → AllValid s → Related s empty_book (started_run n s)
@@ -79,7 +76,7 @@ module _ (s : Table) (ok : AllValid s) (b : Book) (r : Run) (h : Related s b r) 
   -- 15 is the same of both
   same-late : (p : ℕ) → p < length s.tasks → late_at r p ≡ late s b p
   same-late p l =
-      same_test (late_at r p) (late s b p)
+      both_ways (late_at r p) (late s b p)
       (λ e. (late-exact s ok b p l).1
       (late-has s.rule (task s p) (ok p l) b.tick (b.job p) (even_at r p) (phase_at r p) (h.related p l) (sym (same-deadline p l) ∙ e)))
       (λ e.

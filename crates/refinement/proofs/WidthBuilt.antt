@@ -21,7 +21,7 @@ use Rattle.refinement.proofs.Running.{running}
 
 -- a task as (O, v/w, C, D, T) in a phase, with an odd job
 abbrev pub t₂ : ℕ → ℕ → ℕ → ℕ → ℕ → ℕ → Phase → Task
-t₂ o v w c d p ph = record { offset = o; width = v; length = c; deadline = d; period = p; second = w; even = false; phase = ph }
+t₂ o v w c d p ph = record { parameters = record { offset = o; width = v; length = c; deadline = d; period = p; second = w }; even = false; phase = ph }
 
 -- one task (0, 1/2, 1, 1, 1) on two cores that works, with an odd job and with an even one
 abbrev odd : ℕ → Run

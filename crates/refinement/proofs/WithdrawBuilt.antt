@@ -171,6 +171,7 @@ pub withdrawn-runs : map worked-named withdraw-lines ≡ withdraw-lines
 unfolding running rows
 withdrawn-runs = refl
 
+-- .. and of sets, computed (cited by none: an example of what the words of a withdrawal of several give)
 pub withdrawn-sets : map worked-named set_lines ≡ set_lines
 unfolding running rows
 withdrawn-sets = refl

@@ -1,5 +1,6 @@
 // A run through a whole list of entries.
-ghost use Rattle.std.specs.Prelude.{◌≡◌, ◌++◌, ◌≤◌, length, drop};
+ghost use Rattle.std.specs.Prelude.{◌≡◌, ◌++◌, ◌≤◌, length, drop, cond, eqb};
+ghost use Rattle.model.specs.Advance.{withdraw, withdraw_all};
 ghost use Rattle.model.specs.Refusal.{number_of, position_of};
 ghost use Rattle.model.specs.Refusals.{refused};
 ghost use Rattle.run.specs.Advance.{advanced};
@@ -23,6 +24,7 @@ fn code(refusal: Refusal) -> u32
 }
 
 // Whether words of this kind with this last word are an entry's: an advance's, or a withdrawal's, whose last word is 0.
+// A number, since C's entries are words, and `is_entry` of specs/ answers of every kind.
 fn is_entry(kind: u32, second: u32) -> bool
     ensures { result ≡ is_entry kind second }
 {
@@ -47,6 +49,18 @@ fn fits(entries: &[u32], numbers: usize, bytes: usize) -> bool
     listed(entries) & ((count <= numbers) & (ROW <= bytes))
 }
 
+// A withdrawal on a run, by the first two words of its entry.
+// Not inlined: its copies of the run would lie beside those of `replay`, for which a call of C has no stack.
+#[inline(never)]
+fn withdrawn(run: Run, kind: u32, first: u32) -> Result<Run, Refusal>
+    ensures { advanced run result ≡ entry_of run (cond (eqb kind 1) (withdraw first) (withdraw_all first)) }
+{
+    if kind == 1 {
+        return run.withdraw(first);
+    }
+    run.withdraw_all(first)
+}
+
 // An entry on a run, by its three words: the next run, or why it is refused.
 // The kind is a number, since C's entries are words, and `entry_by` answers for every kind.
 pub fn enter(run: Run, kind: u32, first: u32, second: u32) -> Result<Run, Refusal>
@@ -55,29 +69,26 @@ pub fn enter(run: Run, kind: u32, first: u32, second: u32) -> Result<Run, Refusa
     if kind == 0 {
         return run.advance(first, second);
     }
-    if kind == 1 {
-        return run.withdraw(first);
-    }
-    run.withdraw_all(first)
+    withdrawn(run, kind, first)
 }
 
 // The run after the list; its answers are written as numbers, 0 for taken.
-fn enter_all(run: Run, entries: &[u32], numbers: &mut [u32]) -> Run
+fn enter_all(mut run: Run, entries: &[u32], numbers: &mut [u32]) -> Run
     requires { entry_count entries.now ≤ length numbers.old }
     ensures { (result ≡ run_after_list run (entries_in entries.now))
         × (numbers.new ≡ codes run (entries_in entries.now) ++ drop (entry_count entries.now) numbers.old) }
 {
-    let mut last = run;
-    for i in 0..entries.len() / 3 {
-        match enter(last, entries[3 * i], entries[3 * i + 1], entries[3 * i + 2]) {
+    let (triples, _) = entries.as_chunks::<3>();
+    for (i, entry) in triples.iter().enumerate() {
+        match enter(run, entry[0], entry[1], entry[2]) {
             Ok(next) => {
                 numbers[i] = 0;
-                last = next;
+                run = next;
             }
             Err(refusal) => numbers[i] = code(refusal),
         }
     }
-    last
+    run
 }
 
 // Writes the row; the bytes after it are unchanged.
@@ -89,6 +100,7 @@ pub fn put(row: [u8; ROW], bytes: &mut [u8])
 }
 
 // A run that has started, through the list of entries: its answers and its last row are written, zeros where the row is refused.
+// The slices are apart, as C lends them to `replay`, which hands all on: a struct of them would be made and taken apart again.
 pub(crate) fn replay_run(
     run: Run,
     entries: &[u32],

@@ -5,6 +5,7 @@ use mathlib.Core.List.{List}
 use Prim.Native.Nat.{ℕ, suc, ◌<◌}
 use native.Mathlib.Omega.{arith}
 use lib.ListN.{length, get_or}
+use Rattle.model.proofs.Refusals.{taken_refused}
 use Rattle.model.specs.Refusals as book
 use Rattle.model.specs.Lists.{NeverMissed}
 use Rattle.model.specs.Task.{AllValid, Table}
@@ -37,9 +38,6 @@ use Rattle.response_time.specs.Response.{WorstResponse, worst_response}
 use Rattle.response_time.proofs.EndedWithin.{worst-response-kept}
 use Rattle.response_time.proofs.Listed.{figures-at, figures-length, figures-past}
 use Rattle.response_time.proofs.Response.{worst-response-exact}
-
-taken_refused : {n p : ℕ} → book.taken ≡ book.refused n p → ⊥
-taken_refused e = let z : ◌≡◌ {A = ℕ} 0 1 = cc in omega arith
 
 module _ (ws : List ℕ) where
   abbrev s : Table

@@ -8,12 +8,11 @@ use native.Mathlib.Omega.{arith}
 use lib.Dec.{leb}
 use lib.ListN.{length}
 use borrow.Author.Tests.{leb-true, leb-false}
-use Rattle.model.proofs.Bools.{not-true-false}
+use Rattle.std.proofs.lemmas.Bool.{false_from_ne_true}
 use Rattle.model.specs.Jobs.{Job}
 use Rattle.model.specs.Lists.{full}
-use Rattle.model.specs.Task.{Task, ValidTask, Table, release}
+use Rattle.model.specs.Task.{Task, Table}
 use Rattle.simulation.specs.PlaceRelation.{PlaceWorks, PlaceRests}
-use Rattle.simulation.proofs.Place.{release-order}
 use Rattle.simulation.specs.Event.{NoEventBetween}
 use Rattle.simulation.proofs.Between.{ends_at}
 
@@ -51,13 +50,6 @@ ended-more js js' E h h' k ne = go (leb E k) refl
     go true e = let g = leb-true E k e in h'.from k (omega arith) ∙ sym (h.from k g)
     go false e = let g = leb-false E k e in h'.below k (omega arith) ∙ sym (h.below k g)
 
--- jobs released at one tick have one number
-pub release-one : (τ : Task) → ValidTask τ → (i k : ℕ) → release τ i ≡ release τ k → i ≡ k
-release-one τ ok i k e = omega (arith, not-before i k e, not-before k i (sym e))
-  where
-    not-before : (i k : ℕ) → release τ i ≡ release τ k → ¬ (i < k)
-    not-before i k e h = omega (arith, release-order τ (suc i) k h, ok.deadline-pos, ok.constrained)
-
 -- a job that has not ended at tick t has not before the first event after it
 pub open-until :
     (s : Table) (p k t u : ℕ) → p < length s.tasks → NoEventBetween s t u → ((full s t).job p k).ended ≡ false
@@ -68,5 +60,5 @@ open-until s p k t u l none o (suc d) h =
   where
     go : ((full s (t + d)).job p k).ended ≡ false → ((full s (suc (t + d))).job p k).ended ≡ false
     go still =
-        not-true-false ((full s (suc (t + d))).job p k).ended
+        false_from_ne_true ((full s (suc (t + d))).job p k).ended
         (λ e. none (suc (t + d)) (omega arith) (omega arith) (p, k, l, inr (inr (ends_at s (t + d) p k e still))))

@@ -9,6 +9,7 @@ use lib.Bits.{bit_and, bit_xor}
 use lib.Dec.{leb}
 use lib.ListN.{length, get_or, get_or-eq_default}
 use borrow.Author.Tests.{leb-true, leb-false, not-true}
+use Rattle.model.proofs.Jobs.{release-one}
 use Rattle.model.specs.Search.{bit}
 use Rattle.model.specs.Task.{Task, Table, task, release}
 use Rattle.model.specs.Jobs.{Job}
@@ -28,7 +29,7 @@ use Rattle.simulation.proofs.Passing.{passed-claims}
 use Rattle.response_time.specs.Recording.{response_at, recorded}
 use Rattle.response_time.specs.Response.{worst_response_by}
 use Rattle.response_time.proofs.Counted.{worst-response-same, worst-response-more}
-use Rattle.response_time.proofs.Ends.{Ended, works-ended, rests-ended, ended_same, ended-more, release-one, open-until}
+use Rattle.response_time.proofs.Ends.{Ended, works-ended, rests-ended, ended_same, ended-more, open-until}
 use Rattle.response_time.proofs.Recorded.{noted-at, noted-length}
 
 -- the set of the places whose job has ended in a state: they claimed when the cores were chosen, and claim no more

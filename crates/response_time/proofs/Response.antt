@@ -3,13 +3,14 @@ use mathlib.Core.Bool.{Bool, cond, false, false≢true, true, true≢false}
 use mathlib.Core.List.{List}
 use mathlib.Core.Path.{ap, fun_ext, refl, subst, sym, ◌∙◌, ◌≡◌}
 use Prim.Native.Nat.{◌*◌, ◌+◌, ◌<◌, suc, zero, ℕ, ◌≤◌}
-use native.Mathlib.Nat.{le_dest, le_of_suc-le-suc, le_refl, le_trans, lt_of_mul-lt-mul_right, mul-le-mul_left, mul-one, not-suc-le-zero}
+use native.Mathlib.Nat.{le_dest, le_of_suc-le-suc, le_refl, le_trans, lt_of_mul-lt-mul_right, not-suc-le-zero}
 use native.Mathlib.Omega.{arith}
 use lib.Dec.{leb}
 use lib.ListN.{length}
 use borrow.Author.Tests.{leb-false, leb-true}
-use Rattle.model.proofs.Bools.{not-false-true}
-use Rattle.model.proofs.Horizon.{repeat-all}
+use Rattle.model.proofs.Faithful.{job-number}
+use Rattle.std.proofs.lemmas.Bool.{true_from_ne_false}
+use Rattle.model.proofs.Horizon.{factor, repeat-all}
 use Rattle.model.proofs.Idling.{lending-idling, under}
 use Rattle.model.proofs.Runs.{full-fresh, full-stays, missed-at}
 use Rattle.model.proofs.Search.{any_of, least-any, least-lowest}
@@ -18,21 +19,13 @@ use Rattle.model.specs.Jobs.{Book, Job}
 use Rattle.model.specs.Lists.{NeverMissed, full}
 use Rattle.model.specs.Horizon.{S, horizon, hyperperiod}
 use Rattle.model.specs.Search.{least}
-use Rattle.model.specs.Task.{AllValid, ValidTask, Table, Task, due, idling, lending, release, task}
+use Rattle.model.specs.Task.{AllValid, Table, Task, due, idling, lending, release, task}
 use Rattle.response_time.specs.Response.{WorstResponse, ended_after, greatest, worst_response, worst_response_by, response_time}
 use Rattle.response_time.proofs.Greatest.{greatest-at, greatest-is}
 
 -- what has ended stays ended
 pub ended-later : (s : Table) (p k n m : ℕ) → n ≤ m → ((full s n).job p k).ended ≡ true → ((full s m).job p k).ended ≡ true
 ended-later s p k n m l e = let d = le_dest l in subst (λ (x : ℕ). ((full s x).job p k).ended ≡ true) d.1 (full-stays s n d.0 p k e)
-
--- a job due by tick t has a number up to t
-number-most : (τ : Task) (k t : ℕ) → ValidTask τ → due τ k ≤ t → k < suc t
-number-most τ k t ok h = omega (arith, mul-le-mul_left k (le_trans ok.deadline-pos ok.constrained), mul-one k)
-
-factor : (m n : ℕ) → 0 < m * n → 0 < m
-factor zero n h = omega arith
-factor (suc m) n h = omega arith
 
 -- the job that job k of place p repeats: released P earlier, and not before S of the place
 pub record Earlier (s : Table) (p k : ℕ) : Type 0 where
@@ -72,7 +65,7 @@ module _ (s : Table) (ok : AllValid s) (nm : NeverMissed s) (p : ℕ) (l : p < l
   -- a job has ended when it is due
   met : (k : ℕ) → ((full s (due (task s p) k)).job p k).ended ≡ true
   met k =
-      not-false-true ((full s (due (task s p) k)).job p k).ended
+      true_from_ne_false ((full s (due (task s p) k)).job p k).ended
       (λ o. nm p (due (task s p) k) (missed-at s p (due (task s p) k) k l refl o))
 
   -- the time of a job is that of its end
@@ -105,7 +98,7 @@ module _ (s : Table) (ok : AllValid s) (nm : NeverMissed s) (p : ℕ) (l : p < l
           let in-time : due τ k ≤ horizon s = leb-true (due τ k) (horizon s) q in
           let own : counted k ≡ response_time s p k = rw (ended-later s p k (due τ k) (horizon s) in-time (met k)) in
           let most : counted k ≤ worst_response s p =
-          unfold worst_response_by in greatest-at (suc (horizon s)) counted k (number-most τ k (horizon s) (ok p l) in-time) in
+          unfold worst_response_by in greatest-at (suc (horizon s)) counted k (job-number τ k (horizon s) (ok p l) in-time) in
           ended-later s p k (release τ k + response_time s p k) (release τ k + worst_response s p) (omega arith) (time-ended k)
       go false q ih =
           let x : Earlier s p k = earlier s ok p k l (leb-false (due τ k) (horizon s) q) in

@@ -4,6 +4,7 @@
 ghost use Rattle.response_time.specs.ResponseTimes.{ResponseTimesOf, answered};
 
 use model::{MOST_TASKS, Refusal};
+use table::Fitting;
 
 mod recording; // recording.rt: what is late at a tick, and the response times of the jobs that end
 mod walk; // walk.rt: the full-length run, jump by jump, and its response times
@@ -13,6 +14,6 @@ mod walk; // walk.rt: the full-length run, jump by jump, and its response times
 pub fn response_times(words: &[u32]) -> Result<[u32; MOST_TASKS], Refusal>
     ensures { ResponseTimesOf words.now (answered result) }
 {
-    let table = table::load(words)?;
-    walk::times_of(table)
+    let fitting = Fitting::load(words)?;
+    walk::times_of(fitting)
 }

@@ -12,19 +12,14 @@ use Rattle.model.specs.Grants.{claimants, grants, some}
 use Rattle.model.specs.Lending.{among, merged, lent, shown_cores, tries, unlent}
 use Rattle.model.specs.Search.{filtered, member}
 use Rattle.model.specs.Task.{greedy}
-use Rattle.model.proofs.Bools.{and_left, and_right, not-true-false, or_cases, or_left, or_right}
+use Rattle.model.proofs.Bools.{and_left, and_right, or_cases, or_left, or_right}
+use Rattle.std.proofs.lemmas.Bool.{false_from_ne_true}
 use Rattle.model.proofs.Grants.{grants-length, grants-none}
-use Rattle.model.proofs.Lending.{lent_length, lent-seeks}
+use Rattle.model.proofs.Lending.{beside-length, lent_length, lent-seeks, map-nil}
 use Rattle.cores.proofs.Ascending.{In, Range, memb-kept, not-in-none}
 use Rattle.rule.proofs.Granting.{Apart, apart, idle, in-grants, width-or-none}
 
 -- ---- lists beside one another, place by place
-
-pub beside-length : (gs hs : List (List ℕ)) → length (merged gs hs) ≡ length gs
-unfolding merged
-beside-length [] hs = refl
-beside-length (g ∷ gs) [] = refl
-beside-length (g ∷ gs) (h ∷ hs) = ap suc (beside-length gs hs)
 
 pub beside-place : (gs hs : List (List ℕ)) → length hs ≤ length gs → (q : ℕ) → get_or (merged gs hs) q [] ≡ get_or gs q [] ++ get_or hs q []
 unfolding merged
@@ -35,11 +30,6 @@ beside-place (g ∷ gs) (h ∷ hs) l zero = refl
 beside-place (g ∷ gs) (h ∷ hs) l (suc q) = beside-place gs hs (omega arith) q
 
 -- ---- what a place has borrowed once the first n places have lent
-
-nothing : (ws : List ℕ) (q : ℕ) → get_or (map {B = List ℕ} (λ w. []) ws) q [] ≡ []
-nothing [] q = refl
-nothing (w ∷ ws) zero = refl
-nothing (w ∷ ws) (suc q) = nothing ws q
 
 pub none-some : (l : List ℕ) → some l ≡ false → l ≡ []
 none-some [] e = refl
@@ -75,7 +65,7 @@ module _ (ws : List ℕ) (sk : ℕ → Bool) (o : ℕ → List ℕ) where
   -- nothing at first, and then what is lent
   pub lent_none : (q : ℕ) → had 0 q ≡ []
   unfolding lent
-  lent_none q = nothing ws q
+  lent_none q = map-nil ws q
 
   pub lent-more : (n q : ℕ) → had (suc n) q ≡ had n q ++ get_or (lent_by n) q []
   unfolding lent
@@ -91,7 +81,7 @@ module _ (ws : List ℕ) (sk : ℕ → Bool) (o : ℕ → List ℕ) where
 
   -- a place that does not seek cores borrows none
   pub lent-seekers : (n q : ℕ) → sk q ≡ false → had n q ≡ []
-  lent-seekers n q e = none-some (had n q) (not-true-false (some (had n q)) (λ h. false≢true (sym e ∙ lent-seeks ws sk o n q h)))
+  lent-seekers n q e = none-some (had n q) (false_from_ne_true (some (had n q)) (λ h. false≢true (sym e ∙ lent-seeks ws sk o n q h)))
 
   -- one that borrows has its width
   pub lent-width : (n q : ℕ) → (length (had n q) ≡ get_or ws q 0) ⊎ (had n q ≡ [])

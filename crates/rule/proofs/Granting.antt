@@ -13,7 +13,7 @@ use borrow.Author.Tests.{leb-true, leb-false, le-leb, lt-leb, lt-ltb}
 use Rattle.model.specs.Task.{Rule}
 use Rattle.model.specs.Grants.{Claimant, fits, ends_choosing, given, left, grants, some}
 use Rattle.model.proofs.Bools.{and_right}
-use Rattle.model.proofs.Grants.{given_nothing, left-nothing}
+use Rattle.model.proofs.Lending.{grants-nothing}
 use Rattle.rule.specs.Granted.{selection, given_by, left_by, granted}
 use Rattle.rule.specs.declared.Selection.{Selection}
 use Rattle.rule.specs.declared.Selection.TheVariants.{Takes, Passed, Ends}
@@ -86,14 +86,8 @@ pub same-either : (t : Bool) (l : List ℕ) → cond t l l ≡ l
 same-either true l = refl
 same-either false l = refl
 
-pub none-given : (r : Rule) (bs : List Claimant) (p : ℕ) → get_or (grants r bs []) p [] ≡ []
-unfolding grants
-none-given r [] p = refl
-none-given r (b ∷ bs) zero = given_nothing b
-none-given r (b ∷ bs) (suc p) = ap (λ (l : List ℕ). get_or (grants r bs l) p []) (left-nothing r b) ∙ none-given r bs p
-
 pub none-granted : (r : Rule) (bs : List Claimant) (p : ℕ) → granted r bs [] p ≡ false
-none-granted r bs p = ap some (none-given r bs p)
+none-granted r bs p = ap some (grants-nothing r bs p)
 
 -- ---- which claimants are given cores depends on the number of free cores alone
 

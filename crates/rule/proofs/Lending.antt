@@ -25,7 +25,7 @@ use Rattle.rule.specs.Lent.{LentAs, offered}
 use Rattle.rule.specs.Granted.{GrantedAs}
 use Rattle.rule.proofs.Borrowed.{had, lent-more, lent_none, lent-once, lent_by, none-some, tried}
 use Rattle.rule.proofs.Choosing.{some-append}
-use Rattle.rule.proofs.Granting.{none-given}
+use Rattle.model.proofs.Lending.{grants-nothing}
 use Rattle.rule.proofs.Sets.{sets-at}
 use Rattle.rule.proofs.Unions.{cores-or}
 
@@ -118,7 +118,7 @@ module _ (ws reserved : List ℕ) (holders seekers count : ℕ) where
             lent-more ws (bit seekers) o i p
             ∙ (ap (λ (l : List ℕ). borrowed_by i p ++ get_or (grants greedy (claimants ws (tried ws (bit seekers) o i)) l) p [])
             (ap (λ (t : Bool). cond t (cores (get_or reserved i 0)) []) e)
-            ∙ (ap (λ (l : List ℕ). borrowed_by i p ++ l) (none-given greedy (claimants ws (tried ws (bit seekers) o i)) p) ∙ append-nil (borrowed_by i p)))
+            ∙ (ap (λ (l : List ℕ). borrowed_by i p ++ l) (grants-nothing greedy (claimants ws (tried ws (bit seekers) o i)) p) ∙ append-nil (borrowed_by i p)))
 
     -- a holder lends: `more` is what is borrowed of its set, `owned` the places that borrow it, and `next` all that is borrowed then
     module _ (e : bit holders i ≡ true) (more : List ℕ) (g : GrantedAs greedy (claimants ws (bit y)) count (get_or reserved i 0) more)

@@ -7,7 +7,6 @@ pub mod Choosing
 pub mod Serving
 pub mod Rows
 pub mod Sets
-pub mod Gathered
 pub mod Unions
 pub mod Borrowed
 pub mod Tick

@@ -12,7 +12,7 @@ use borrow.Author.Tests.{eqb-true, eqb-false, ne_eqb, ltb-true, ltb-false}
 use Rattle.model.specs.Search.{bit, member, up_from}
 use Rattle.model.specs.Row.{byte_of, owner, row}
 use Rattle.model.specs.Sizes.{fenced_byte}
-use Rattle.model.proofs.Bools.{not-true-false}
+use Rattle.std.proofs.lemmas.Bool.{false_from_ne_true}
 use Rattle.model.proofs.Rows.{row-length}
 use Rattle.model.proofs.Lists.{up-length}
 use Rattle.cores.specs.Cores.{cores}
@@ -92,14 +92,14 @@ module _ (c : ℕ) where
   none-holds : (p : ℕ) (gs : List (List ℕ)) → Absent gs → owner c p gs ≡ 0
   unfolding owner
   none-holds p [] h = refl
-  none-holds p (g ∷ gs) h = rw (not-true-false (member c g) (h 0)) (none-holds (suc p) gs (λ j. h (suc j)))
+  none-holds p (g ∷ gs) h = rw (false_from_ne_true (member c g) (h 0)) (none-holds (suc p) gs (λ j. h (suc j)))
 
   unmarked : (start : List ℕ) (p : ℕ) (gs : List (List ℕ)) → c < length start → Absent gs → get_or (shown_bytes start p gs) c 0 ≡ get_or start c 0
   unfolding shown_bytes
   unmarked start p [] h k = refl
   unmarked start p (g ∷ gs) h k =
       unmarked (marked start p g) (suc p) gs (omega (arith, length_marked start p g)) (λ j. k (suc j))
-      ∙ marked-at start p g c h ∙ ap (λ (t : Bool). cond t p (get_or start c 0)) (not-true-false (member c g) (k 0))
+      ∙ marked-at start p g c h ∙ ap (λ (t : Bool). cond t p (get_or start c 0)) (false_from_ne_true (member c g) (k 0))
 
   -- each byte: the owner's position, or the byte of the start row where no one holds the core
   pub shown-at : (start : List ℕ) (p : ℕ) (gs : List (List ℕ)) → 0 < p → c < length start → Apart gs

@@ -21,7 +21,8 @@ use Rattle.rule.specs.Granted.{selection, given_by, left_by, GrantedAs}
 use Rattle.rule.specs.declared.Selection.{Selection}
 use Rattle.rule.specs.declared.Selection.TheVariants.{Takes, Passed, Ends}
 use Rattle.cores.proofs.Cores.{cores-none, cores-length, back-of}
-use Rattle.rule.proofs.Granting.{Case, answer-means, same-either, none-given}
+use Rattle.model.proofs.Lending.{grants-nothing}
+use Rattle.rule.proofs.Granting.{Case, answer-means, same-either}
 use Rattle.rule.proofs.Choosing.{first_of, first-given}
 
 -- what place p is given where the set x of places claims
@@ -128,7 +129,7 @@ module _ (r : Rule) (ws : List ℕ) (claims free count : ℕ) (sets : List ℕ) 
     past = h.past;
     gives = λ p.
         let none : share r ws 0 (cores set) p ≡ share r ws y [] p =
-        grants-none r ws (bit 0) (cores set) p (bit-none p) ∙ sym (none-given r (claimants ws (bit y)) p) in
+        grants-none r ws (bit 0) (cores set) p (bit-none p) ∙ sym (grants-nothing r (claimants ws (bit y)) p) in
         ap (λ (x : List ℕ). cores (get_or sets p 0) ++ x) (none ∙ sym (nothing Ends a refl p)) ∙ h.gives p;
   }
 

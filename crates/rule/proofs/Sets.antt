@@ -16,7 +16,8 @@ use Rattle.model.specs.Grants.{Claimant, grants}
 use Rattle.model.specs.Fence.{unfenced}
 use Rattle.model.specs.Search.{bit, up_from}
 use Rattle.model.specs.Sets.{set_of}
-use Rattle.model.proofs.Bools.{and_left, and_right, not-true-false}
+use Rattle.model.proofs.Bools.{and_left, and_right}
+use Rattle.std.proofs.lemmas.Bool.{false_from_ne_true}
 use Rattle.model.proofs.Lists.{get_d-zeros}
 use Rattle.model.proofs.Digits.{and-bit}
 use Rattle.cores.specs.Cores.{cores}
@@ -44,7 +45,7 @@ unfolding cores
 no-common a b h k f =
     no-cores (bit_and a b) (and_lt 64 a b h k)
     (kept_same (bit (bit_and a b)) (λ c. false) 0 64 (up_from 0 64) (range-up 0 64 64 (omega arith)) (λ c l.
-    and-bit a b c ∙ not-true-false (bit a c && bit b c) (λ e. f c (cores-memb a c l ∙ and_left (bit a c) (bit b c) e) (cores-memb b c l ∙ and_right (bit a c) (bit b c) e)))
+    and-bit a b c ∙ false_from_ne_true (bit a c && bit b c) (λ e. f c (cores-memb a c l ∙ and_left (bit a c) (bit b c) e) (cores-memb b c l ∙ and_right (bit a c) (bit b c) e)))
     ∙ kept-none (up_from 0 64))
 
 -- a row can show what is given of the unfenced cores

@@ -16,7 +16,8 @@ use Rattle.model.specs.Lending.{among, lent, lent_away, shown_cores, unlent}
 use Rattle.model.specs.Search.{bit, filtered, cons_if, member, up_from}
 use Rattle.model.specs.Sets.{SetsApart, SetsCount, SetsUnfenced, set_of}
 use Rattle.model.specs.Task.{Rule, greedy}
-use Rattle.model.proofs.Bools.{not-false-true, not-true-false, or_cases, or_right}
+use Rattle.model.proofs.Bools.{or_cases, or_right}
+use Rattle.std.proofs.lemmas.Bool.{false_from_ne_true, true_from_ne_false}
 use Rattle.model.proofs.Grants.{grants-length}
 use Rattle.model.proofs.Lending.{lent_length}
 use Rattle.cores.proofs.Ascending.{In, Range, length-halves, not-in-none, range-kept, range-take, range-up, range-weaken}
@@ -29,7 +30,7 @@ use Rattle.rule.proofs.Sets.{grants-showable}
 
 -- ---- each place's cores are in ascending order
 
-given-range : (b : Claimant) (hi : ℕ) (free : List ℕ) → Range 0 hi free → Range 0 hi (given b free)
+pub given-range : (b : Claimant) (hi : ℕ) (free : List ℕ) → Range 0 hi free → Range 0 hi (given b free)
 unfolding given
 given-range b hi free o = go (fits b free)
   where
@@ -143,7 +144,7 @@ module _ (r : Rule) (ws : List ℕ) (c : ℕ → Bool) (f m : ℕ) (sk : ℕ →
     pub tick-keeps : (p : ℕ) → o p ≡ [] → unlent bs (get_or gs p []) ≡ get_or gs p []
     tick-keeps p none =
         kept-all (λ x. not (among x bs)) (get_or gs p [])
-        (λ x h. ap not (not-true-false (among x bs) (λ a.
+        (λ x h. ap not (false_from_ne_true (among x bs) (λ a.
         let y = among-some x bs a in
         let u = lent-from ws sk o x n y.0 y.1 in
         lender x h u.0 u.2 (eqb u.0 p) refl)))
@@ -262,7 +263,7 @@ module _ (r : Rule) (ws : List ℕ) (c : ℕ → Bool) (f m : ℕ) (sk : ℕ →
       tick-sets-unfenced p x h = tick-showable.unfenced-only x p (sym (has p x) ∙ h)
 
       may : (p : ℕ) → ¬ (o p ≡ []) → some (o p) ≡ true
-      may p e = not-false-true (some (o p)) (λ z. e (none-some (o p) z))
+      may p e = true_from_ne_false (some (o p)) (λ z. e (none-some (o p) z))
 
       pub tick-sets-count : SetsCount ws o bs sets
       unfolding set_of

@@ -2,7 +2,7 @@
 // A rule is a number here, since each clause speaks of `rule_of` of any number. An enum of the rules would ask more of callers.
 #![tactic(auto)]
 
-ghost use Rattle.std.specs.Prelude.{◌≡◌, ◌&&◌, map, ◌++◌, ℕ, ◌+◌, ◌-◌, ◌≤◌, ◌<◌, ltb, get_or, take, replicate};
+ghost use Rattle.std.specs.Prelude.{◌≡◌, ◌&&◌, map, ◌++◌, ℕ, ◌+◌, ◌-◌, ◌≤◌, ◌<◌, length, ltb, get_or, take, replicate};
 ghost use Rattle.std.specs.Int.Bits.{bit_or};
 ghost use Rattle.model.specs.Search.{bit};
 ghost use Rattle.model.specs.Task.{rule_of};
@@ -18,13 +18,16 @@ ghost use Rattle.rule.specs.Lent.{LentAs, NotBoth, ShownAs, Showable};
 ghost use Rattle.rule.specs.Marked.{marked, shown_bytes};
 ghost use Rattle.rule.specs.Widths.{widths_in};
 
-use model::sets::Members;
+use model::sets::{Members, has, places_where};
 use model::{FENCED, MOST_TASKS, ROW};
 
 // The number of widths: each place has two, the first of every place before the second of any.
+// One flat array and no pairs: what may not change, `widths_in` (rule/specs/Widths), on which clauses of rule, run,
+// simulation and printer stand, is of one list.
 pub const PAIR: usize = 2 * MOST_TASKS;
 
 // Rule 1: a claimant that doesn't fit is skipped.
+// A number, since `grants` takes any.
 const GREEDY: u32 = 1;
 
 // The tick rule's answer to a claimant: it takes its cores, it is skipped, or it ends the tick's choosing.
@@ -36,6 +39,8 @@ pub enum Selection {
 }
 
 // The tick rule, for one claimant on this number of free cores: a width that fits takes its cores.
+// The rule is any number, since the clause answers for each (`rule_of`). Of the four one ends the choosing, so that one
+// test suffices.
 pub fn select(rule: u32, free: u32, width: u32) -> Selection
     ensures { result ≡ selection (rule_of rule) free width }
 {
@@ -49,6 +54,7 @@ pub fn select(rule: u32, free: u32, width: u32) -> Selection
 }
 
 // The width of a place in a tick: its second where the place is in the set, else its first.
+// A place is a number below 32, as the digits of a set give it: a type of places would be made anew at each call.
 pub fn width_at(even: u32, widths: &[u32; PAIR], place: u32) -> u32
     requires { place < most_tasks }
     ensures { result ≡ get_or (widths_in even widths.now) place 0 }
@@ -58,6 +64,9 @@ pub fn width_at(even: u32, widths: &[u32; PAIR], place: u32) -> u32
 }
 
 // The set of positions that are given cores, of the set that claims; bit 0 is for position 1. The free cores are counted once.
+// `even` is of the tick, and the widths are of the table: a struct of both would be made at each call, here and in
+// `grants`, `show` and `lend`.
+// The rule is any number (`rule_of`).
 pub fn choose(rule: u32, free: u64, claims: u32, even: u32, widths: &[u32; PAIR]) -> u32
     ensures { (p : ℕ) → bit result p ≡ granted (rule_of rule) (claimants (widths_in even widths.now) (bit claims)) (cores free) p }
 {
@@ -87,6 +96,8 @@ pub fn choose(rule: u32, free: u64, claims: u32, even: u32, widths: &[u32; PAIR]
 
 // The set of cores of each of the first `count` positions, 0 where it is given none; `claims` is the set that claims, bit 0 for position 1.
 // Not one with `choose`, which keeps a count of the free cores in place of their set.
+// The rule is any number (`rule_of`).
+// The count stands beside the widths: a slice of the first `count` would cut between their two halves.
 pub fn grants(
     rule: u32,
     free: u64,
@@ -118,44 +129,45 @@ pub fn grants(
     sets
 }
 
-// The row with a mark on each core of a set.
-pub fn mark(row: [u8; ROW], set: u64, mark: u8) -> [u8; ROW]
-    ensures { result ≡ marked row mark (cores set) }
+// Marks each core of a set in the row.
+pub fn mark(row: &mut [u8; ROW], set: u64, mark: u8)
+    ensures { row.new ≡ marked row.old mark (cores set) }
 {
-    let mut out = row;
     for core in Members::from(set) {
-        out[core] = mark;
+        row[core] = mark;
     }
-    out
 }
 
 // The row with each position on its cores; the first set is that of position `first`.
-pub fn row_of(start: [u8; ROW], first: u8, sets: &[u64; MOST_TASKS], count: usize) -> [u8; ROW]
-    requires { (count ≤ most_tasks) × (first + count ≤ 256) }
-    ensures { result ≡ shown_bytes start first (map cores (take count sets.now)) }
+pub fn row_of(start: [u8; ROW], first: u8, sets: &[u64]) -> [u8; ROW]
+    requires { first + length sets.now ≤ 256 }
+    ensures { result ≡ shown_bytes start first (map cores sets.now) }
 {
     let mut out = start;
-    for (i, set) in sets[..count].iter().enumerate() {
-        let next = mark(out, *set, (first as usize + i) as u8);
-        out = next;
+    for (i, set) in sets.iter().enumerate() {
+        mark(&mut out, *set, (first as usize + i) as u8);
     }
     out
 }
 
-// The row that shows these sets of cores of the first `count` positions: core 0 first, the position or 0, 255 on a fenced core; bytes past the core
-// count are 0.
-pub fn row_in(cores: u32, fence: u64, sets: &[u64; MOST_TASKS], count: usize) -> [u8; ROW]
-    requires fact_1 { (cores ≤ most_cores) × (count ≤ most_tasks) }
-    requires fact_2 { Showable fence cores (map listed.cores (take count sets.now)) }
-    ensures { result ≡ row fence cores (map listed.cores (take count sets.now)) ++ replicate (most_cores - cores) 0 }
+// The row that shows these sets of cores, one of each position: core 0 first, the position or 0, 255 on a fenced core; bytes past the core count are 0.
+// Cores and fence are named apart by the pages, as in `cores::unfenced_cores` and `cores::unfenced_count`.
+pub fn row_in(cores: u32, fence: u64, sets: &[u64]) -> [u8; ROW]
+    requires fact_1 { (cores ≤ most_cores) × (length sets.now ≤ most_tasks) }
+    requires fact_2 { Showable fence cores (map listed.cores sets.now) }
+    ensures { result ≡ row fence cores (map listed.cores sets.now) ++ replicate (most_cores - cores) 0 }
 {
     let free = cores::unfenced_cores(cores, fence);
     let fenced = cores::difference(cores::first_cores(cores), free);
-    let start = mark([0u8; ROW], fenced, FENCED);
-    row_of(start, 1, sets, count)
+    let mut start = [0u8; ROW];
+    mark(&mut start, fenced, FENCED);
+    row_of(start, 1, sets)
 }
 
 // The row of a tick in which the places of a set claim the cores outside the fence.
+// Rule, cores and fence are fields of `Loaded` and of `Run`: a struct of the three would be made at each call. Both
+// callers know that there are at most 64 cores.
+// The rule is any number (`rule_of`).
 pub fn show(
     rule: u32,
     cores: u32,
@@ -170,7 +182,7 @@ pub fn show(
 {
     let free = cores::unfenced_cores(cores, fence);
     let sets = grants(rule, free, claiming, even, widths, count);
-    row_in(cores, fence, &sets, count)
+    row_in(cores, fence, &sets[..count])
 }
 
 // Whether a set has a core.
@@ -184,24 +196,17 @@ fn any(set: u64) -> bool
 pub fn owners(sets: &[u64; MOST_TASKS]) -> u32
     ensures { (p : ℕ) → bit result p ≡ ltb p most_tasks && some (cores (get_or sets.now p 0)) }
 {
-    let mut owners: u32 = 0;
-    for (i, set) in sets.iter().enumerate() {
-        if any(*set) {
-            owners |= 1u32 << i as u32;
-        }
-    }
-    owners
+    places_where(MOST_TASKS, |i| any(sets[i]))
 }
 
-// The sets of each position in one list and in another.
-fn merged(sets: [u64; MOST_TASKS], more: &[u64; MOST_TASKS]) -> [u64; MOST_TASKS]
-    ensures { (p : ℕ) → p < most_tasks → get_or result p 0 ≡ bit_or (get_or sets p 0) (get_or more.now p 0) }
+// Adds to the set of each position that of another list.
+// By an index: of the values after a `zip` with `iter_mut` Rattle knows nothing.
+fn merge(sets: &mut [u64; MOST_TASKS], more: &[u64; MOST_TASKS])
+    ensures { (p : ℕ) → p < most_tasks → get_or sets.new p 0 ≡ bit_or (get_or sets.old p 0) (get_or more.now p 0) }
 {
-    let mut out = sets;
-    for i in 0..MOST_TASKS {
-        out[i] |= more[i];
+    for (i, set) in sets.iter_mut().enumerate() {
+        *set |= more[i];
     }
-    out
 }
 
 // The set of cores that each of the first `count` positions borrows, 0 where none. Of the sets reserved for them each holder, by priority, lends its
@@ -219,28 +224,26 @@ pub fn lend(
 {
     let mut sets = [0u64; MOST_TASKS];
     let mut seeking = seekers;
-    for i in 0..count {
-        let place = i as u32;
+    for (place, own) in reserved[..count].iter().enumerate() {
         seeking &= seeking ^ (1u32 << place);
-        if (holders >> place) % 2 == 1 {
-            let more = grants(GREEDY, reserved[i], seeking, even, widths, count);
+        if has(holders, place) {
+            let more = grants(GREEDY, *own, seeking, even, widths, count);
             seeking &= seeking ^ owners(&more);
-            let next = merged(sets, &more);
-            sets = next;
+            merge(&mut sets, &more);
         }
     }
     sets
 }
 
-// The cores that some of the first `count` sets have.
-fn union(sets: &[u64; MOST_TASKS], count: usize) -> u64
-    requires { count ≤ most_tasks }
-    ensures { (c : ℕ) → c < most_cores → bit result c ≡ among c (map cores (take count sets.now)) }
+// The cores that some of these sets have.
+fn union(sets: &[u64]) -> u64
+    ensures { (c : ℕ) → c < most_cores → bit result c ≡ among c (map cores sets.now) }
 {
-    sets[..count].iter().fold(0, |all, set| all | *set)
+    sets.iter().fold(0, |all, set| all | *set)
 }
 
 // The set of cores that the row shows of each of the first `count` positions: those that it borrows, or its own cores that no place borrows.
+// By a place, since three lists have one there, and the third is written. The count cuts all three.
 pub fn shown(
     reserved: &[u64; MOST_TASKS],
     borrowed: &[u64; MOST_TASKS],
@@ -250,7 +253,7 @@ pub fn shown(
     requires fact_2 { NotBoth reserved.now borrowed.now }
     ensures { ShownAs reserved.now borrowed.now count result }
 {
-    let lent = union(borrowed, count);
+    let lent = union(&borrowed[..count]);
     let mut sets = [0u64; MOST_TASKS];
     for i in 0..count {
         sets[i] = borrowed[i] | cores::difference(reserved[i], lent);

@@ -1,5 +1,6 @@
 -- The results of sets, a row, who works, an advance and a withdrawal, case by case, in the order in which code tests.
-use mathlib.Core.Path.{◌≡◌, refl, sym, ◌∙◌}
+use mathlib.Core.Path.{◌≡◌, ap, refl, sym, ◌∙◌}
+use Rattle.std.specs.Prelude.{Ok, Result}
 use mathlib.Core.Bool.{Bool, true, false, cond}
 use Prim.Native.Nat.{ℕ, suc, ◌≤◌, ◌<◌}
 use lib.Dec.{ltb}
@@ -9,7 +10,8 @@ use Rattle.model.specs.Advance.{singleton}
 use Rattle.run.specs.declared.Run.{Run}
 use Rattle.run.specs.Answer.{Answer}
 use Rattle.run.specs.Answer.{Taken, Refused}
-use Rattle.run.specs.Answer.{by_answer}
+use Rattle.run.specs.Answer.{answer_in, by_answer}
+use Rattle.model.specs.declared.refusal.Refusal.{Refusal}
 use Rattle.run.specs.Run.{firm_in, moved, withdrawn_in}
 use Rattle.run.specs.Numbers.{run_out, past_count, unknown_in, first_late_in, wrong_empties_in, wrong_reports_in}
 use Rattle.run.specs.Row.{row_answer, bytes_in, no_bytes, row_of}
@@ -118,15 +120,32 @@ module _ (r : Run) (e : ℕ) where
     unfolding advance_of
     advance-refused n p q = rw (by_row, q) refl
 
--- a withdrawal: 14, 21, 22, taken
-module _ (r : Run) (p : ℕ) where
-  pub withdraw-out : run_out r ≡ true → withdraw_of r p ≡ record { answer = Refused 14 0; run = r }
-  unfolding withdraw_of withdraw_answer
-  withdraw-out q = rw q refl
+-- a withdrawal: 14 or 21, whichever its positions are; ..
+module _ (r : Run) where
+  pub withdraw-refused : (unknown : Bool) (n q : ℕ) → withdraw_answer r false ≡ Refused n q → withdraw_answer r unknown ≡ Refused n q
+  unfolding withdraw_answer
+  withdraw-refused unknown n q = go (run_out r) (firm_in r)
+    where
+      go : (out firm : Bool) → cond out (Refused 14 0) (cond firm (cond false (Refused 22 0) Taken) (Refused 21 0)) ≡ Refused n q
+          → cond out (Refused 14 0) (cond firm (cond unknown (Refused 22 0) Taken) (Refused 21 0)) ≡ Refused n q
+      go true firm e = e
+      go false true e = absurd (not_taken n q (sym e))
+      go false false e = e
 
-  pub withdraw-not-firm : run_out r ≡ false → firm_in r ≡ false → withdraw_of r p ≡ record { answer = Refused 21 0; run = r }
-  unfolding withdraw_of withdraw_answer
-  withdraw-not-firm q f = rw (q, f) refl
+  pub may-withdraw : (w : Result (Unit {0}) Refusal) → answer_in w ≡ withdraw_answer r false → w ≡ Ok tt → (run_out r ≡ false) × (firm_in r ≡ true)
+  unfolding withdraw_answer
+  may-withdraw w answer was = go (run_out r) (firm_in r) (sym answer ∙ ap answer_in was)
+    where
+      go : (out firm : Bool) → cond out (Refused 14 0) (cond firm (cond false (Refused 22 0) Taken) (Refused 21 0)) ≡ Taken → (out ≡ false) × (firm ≡ true)
+      go true firm e = absurd (not_taken 14 0 e)
+      go false true e = (refl, refl)
+      go false false e = absurd (not_taken 21 0 e)
+
+-- .. and 14, 21, 22, taken
+module _ (r : Run) (p : ℕ) where
+  pub withdraw-first : (n q : ℕ) → withdraw_answer r (unknown_in r p) ≡ Refused n q → withdraw_of r p ≡ record { answer = Refused n q; run = r }
+  unfolding withdraw_of
+  withdraw-first n q e = rw e refl
 
   pub withdraw-unknown : run_out r ≡ false → firm_in r ≡ true → unknown_in r p ≡ true → withdraw_of r p ≡ record { answer = Refused 22 0; run = r }
   unfolding withdraw_of withdraw_answer
@@ -139,13 +158,9 @@ module _ (r : Run) (p : ℕ) where
 
 -- of several together: the same
 module _ (r : Run) (x : ℕ) where
-  pub withdraw-all-out : run_out r ≡ true → withdraw_all_of r x ≡ record { answer = Refused 14 0; run = r }
-  unfolding withdraw_all_of withdraw_answer
-  withdraw-all-out q = rw q refl
-
-  pub withdraw-all-not-firm : run_out r ≡ false → firm_in r ≡ false → withdraw_all_of r x ≡ record { answer = Refused 21 0; run = r }
-  unfolding withdraw_all_of withdraw_answer
-  withdraw-all-not-firm q f = rw (q, f) refl
+  pub withdraw-all-first : (n q : ℕ) → withdraw_answer r (past_count r.count x) ≡ Refused n q → withdraw_all_of r x ≡ record { answer = Refused n q; run = r }
+  unfolding withdraw_all_of
+  withdraw-all-first n q e = rw e refl
 
   pub withdraw-all-past : run_out r ≡ false → firm_in r ≡ true → past_count r.count x ≡ true → withdraw_all_of r x ≡ record { answer = Refused 22 0; run = r }
   unfolding withdraw_all_of withdraw_answer

@@ -15,7 +15,7 @@ use Rattle.model.specs.Fence.{unfenced}
 use Rattle.model.specs.Lending.{lends, lent, shown_cores}
 use Rattle.model.specs.Search.{any, bit}
 use Rattle.model.specs.Sets.{set_of}
-use Rattle.model.proofs.Bools.{not-false-true}
+use Rattle.std.proofs.lemmas.Bool.{true_from_ne_false}
 use Rattle.model.proofs.Grants.{claimants-same}
 use Rattle.model.proofs.Search.{none_any, none-at}
 use Rattle.rule.specs.Widths.{widths_in}
@@ -161,7 +161,7 @@ module _ (x m : ℕ) (f : ℕ → Bool) (e : (p : ℕ) → bit m p ≡ f p) wher
       go : (t : Bool) → eqb (bit_and x m) x ≡ t → any x (λ p. bit x p && not (f p)) ≡ not t
       go true e = none-outside (eqb-true (bit_and x m) x e)
       go false e =
-          not-false-true (any x (λ p. bit x p && not (f p)))
+          true_from_ne_false (any x (λ p. bit x p && not (f p)))
           (λ q. eqb-false (bit_and x m) x e (same_bits k (bit_and x m) x (lt_of_le_of_lt (and_le_l x m) l) l (λ p. common p ∙ all-inside q p)))
 
 -- 20 by one test of sets: the empties are within the places whose job is released in this tick

@@ -53,7 +53,7 @@ late-in-decides D ph = (there ph, λ x. ap (late_in D) x.2 ∙ eq-eqb D D refl)
 pub late-decides : (r : Run) (p : ℕ) → Decides (late_at r p) (PlaceLate r p)
 late-decides r p = late-in-decides (run_task_at r p).deadline (phase_at r p)
 
-works-decides : (ph : Phase) → Decides (working ph) ((z had u : ℕ) × (ph ≡ Working z had u))
+pub works-decides : (ph : Phase) → Decides (working ph) ((z had u : ℕ) × (ph ≡ Working z had u))
 works-decides ph = (there ph, λ x. ap working x.3)
   where
     there : (ph : Phase) → working ph ≡ true → (z had u : ℕ) × (ph ≡ Working z had u)

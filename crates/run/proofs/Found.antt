@@ -10,7 +10,7 @@ use Rattle.model.specs.Search.{any, bit, least}
 use Rattle.model.proofs.Bools.{and_left, and_right}
 use Rattle.model.proofs.Digits.{bit-none, lowest-of}
 use Rattle.model.proofs.Search.{any_of, least-is, none_any}
-use Rattle.rule.proofs.Gathered.{Gathered}
+use Rattle.model.proofs.Gathered.{Gathered}
 
 module _ (f : ℕ → Bool) (n x : ℕ) (g : Gathered f n x) where
   below : (p : ℕ) → p < n → bit x p ≡ f p

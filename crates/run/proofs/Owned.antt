@@ -1,7 +1,7 @@
 -- The bytes of a row and the lists that it shows: a core's byte is a position exactly if the list of that position has the core. And the set of a list,
 -- which is empty exactly if the list is.
 use mathlib.Core.Path.{◌≡◌, refl, sym, ap, subst, ◌∙◌}
-use mathlib.Core.Bool.{Bool, true, false, ◌||◌, cond, false≢true}
+use mathlib.Core.Bool.{Bool, true, false, cond, false≢true}
 use mathlib.Core.List.{List, [], ◌∷◌, ◌++◌, map}
 use Prim.Native.Nat.{ℕ, zero, suc, ◌+◌, ◌-◌, ◌^◌, ◌<◌}
 use native.Mathlib.Nat.{zero-add}
@@ -15,7 +15,8 @@ use Rattle.model.specs.Row.{byte_of, owner, row}
 use Rattle.model.specs.Search.{bit, member, up_from}
 use Rattle.model.specs.Sets.{set_of}
 use Rattle.model.specs.Sizes.{fenced_byte, most_cores, most_tasks}
-use Rattle.model.proofs.Bools.{not-true-false, same_test}
+use Rattle.std.proofs.lemmas.Bool.{false_from_ne_true}
+use Rattle.std.specs.Cmp.{both_ways}
 use Rattle.model.proofs.Lists.{get_d-zeros}
 use Rattle.model.proofs.Rows.{row-length}
 use Rattle.cores.specs.Cores.{cores}
@@ -53,10 +54,6 @@ unfolding set_of
 set-some [] = refl
 set-some (c ∷ l) = lt-ltb 0 (2 ^ c + set_of l) (omega (arith, pow_pos c))
 
-pub some-append : (a b : List ℕ) → some (a ++ b) ≡ some a || some b
-some-append [] b = refl
-some-append (x ∷ a) b = refl
-
 -- ---- whose a core is
 
 -- an owner's list has the core
@@ -79,7 +76,7 @@ unfolding owner
 owner_of c p [] a q h = absurd (not-in-none c h)
 owner_of c p (g ∷ gs) a zero h = rw h (omega arith)
 owner_of c p (g ∷ gs) a (suc q) h =
-    rw (not-true-false (member c g) (λ k. a 0 (suc q) (omega arith) k h))
+    rw (false_from_ne_true (member c g) (λ k. a 0 (suc q) (omega arith) k h))
     (owner_of c (suc p) gs (λ i j l. a (suc i) (suc j) (omega arith)) q h ∙ omega arith)
 
 -- ---- the bytes
@@ -98,12 +95,12 @@ module _ (f m : ℕ) (gs : List (List ℕ)) where
   shown-owned s p c l = go (ltb c m) refl (bit f c) refl ∙ ap (λ (x : ℕ). eqb x (suc p)) (sym (byte_at c))
     where
       closed : ((c < m) × (bit f c ≡ false) → ⊥) → member c (get_or gs p []) ≡ false
-      closed n = not-true-false (member c (get_or gs p [])) (λ h. n (s.unfenced-only c p h))
+      closed n = false_from_ne_true (member c (get_or gs p [])) (λ h. n (s.unfenced-only c p h))
 
       go : (t : Bool) → ltb c m ≡ t → (u : Bool) → bit f c ≡ u → member c (get_or gs p []) ≡ eqb (cond t (cond u fenced_byte (owner c 1 gs)) 0) (suc p)
       go true e true o = closed (λ x. false≢true (sym x.1 ∙ o)) ∙ sym (ne_eqb fenced_byte (suc p) (λ z. omega arith))
       go true e false o =
-          same_test (member c (get_or gs p [])) (eqb (owner c 1 gs) (suc p))
+          both_ways (member c (get_or gs p [])) (eqb (owner c 1 gs) (suc p))
           (λ h. eq-eqb (owner c 1 gs) (suc p) (owner_of c 1 gs (s.apart c) p h ∙ omega arith))
           (λ h.
           let x = owner-in c 1 gs (suc p) (eqb-true (owner c 1 gs) (suc p) h) (omega arith) in

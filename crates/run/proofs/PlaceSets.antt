@@ -11,39 +11,39 @@ use borrow.Author.Tests.{lt-ltb, eqb-true, eqb-false}
 use Rattle.model.proofs.Lists.{map_at}
 use Rattle.model.specs.Sizes.{most_tasks}
 use Rattle.rule.specs.Widths.{pair, width_in, widths_in}
-use Rattle.rule.proofs.Gathered.{Gathered}
+use Rattle.model.proofs.Gathered.{Gathered}
 use Rattle.rule.proofs.Widths.{front-is}
 use Rattle.run.specs.declared.Run.{Run}
 use Rattle.model.specs.Task as model
 use Rattle.table.specs.declared.Task.{Task}
 use Rattle.table.specs.Task as table
 use Rattle.phase.specs.declared.Task as phase
-use Rattle.phase.specs.Task.{task_of, past_end, width_now}
-use Rattle.run.specs.Run.{place_at, parameters_in, parameters_of, run_task_at, even_at, tasks_in, widths_now}
+use Rattle.phase.specs.Task.{task_of, parameters_of, past_end, width_now}
+use Rattle.run.specs.Run.{place_at, parameters_in, run_task_at, even_at, tasks_in, widths_now}
 
 -- ---- both widths, stored place after place: the first at the place, the second at as many places further on as there are
 
 abbrev pub Stored : Run → ℕ → List ℕ → Type 0
-Stored r i ws = (p : ℕ) → p < i → (get_or ws p 0 ≡ (place_at r p).width) × (get_or ws (most_tasks + p) 0 ≡ (place_at r p).second)
+Stored r i ws = (p : ℕ) → p < i → (get_or ws p 0 ≡ (place_at r p).parameters.width) × (get_or ws (most_tasks + p) 0 ≡ (place_at r p).parameters.second)
 
 pub stored_more :
     (r : Run) (ws : List ℕ) (i : ℕ) → length ws ≡ pair → i < most_tasks → Stored r i ws
-    → Stored r (i + 1) (set (set ws i (place_at r i).width) (most_tasks + i) (place_at r i).second)
+    → Stored r (i + 1) (set (set ws i (place_at r i).parameters.width) (most_tasks + i) (place_at r i).parameters.second)
 stored_more r ws i long h g p l = go (eqb p i) refl
   where
     v : ℕ
-    v = (place_at r i).width
+    v = (place_at r i).parameters.width
 
     w : ℕ
-    w = (place_at r i).second
+    w = (place_at r i).parameters.second
 
     one : List ℕ
     one = set ws i v
 
-    go : (t : Bool) → eqb p i ≡ t → (get_or (set one (32 + i) w) p 0 ≡ (place_at r p).width) × (get_or (set one (32 + i) w) (32 + p) 0 ≡ (place_at r p).second)
+    go : (t : Bool) → eqb p i ≡ t → (get_or (set one (32 + i) w) p 0 ≡ (place_at r p).parameters.width) × (get_or (set one (32 + i) w) (32 + p) 0 ≡ (place_at r p).parameters.second)
     go true e =
         let q : p ≡ i = eqb-true p i e in
-        subst (λ (k : ℕ). (get_or (set one (32 + i) w) k 0 ≡ (place_at r k).width) × (get_or (set one (32 + i) w) (32 + k) 0 ≡ (place_at r k).second)) (sym q) (
+        subst (λ (k : ℕ). (get_or (set one (32 + i) w) k 0 ≡ (place_at r k).parameters.width) × (get_or (set one (32 + i) w) (32 + k) 0 ≡ (place_at r k).parameters.second)) (sym q) (
           get_or-set_other one (32 + i) i w 0 (λ (n : i ≡ 32 + i). omega arith) ∙ get_or-set_same ws i v 0 (omega arith),
           get_or-set_same one (32 + i) w 0 (omega (arith, length-set ws i v)),
         )
@@ -67,7 +67,7 @@ widths-stored r even ws few b e g = front-is even ws (widths_now r) r.count few 
     long : length used ≡ r.count
     long = length-take r.count r.tasks ∙ omega arith
 
-    by-parity : (p : ℕ) → p < r.count → (x : Bool) → get_or ws (cond x (32 + p) p) 0 ≡ cond x (place_at r p).second (place_at r p).width
+    by-parity : (p : ℕ) → p < r.count → (x : Bool) → get_or ws (cond x (32 + p) p) 0 ≡ cond x (place_at r p).parameters.second (place_at r p).parameters.width
     by-parity p l true = (g p l).1
     by-parity p l false = (g p l).0
 

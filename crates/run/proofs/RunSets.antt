@@ -45,7 +45,8 @@ use Rattle.run.specs.Sets.{SetsOf, bytes_of, in32, no_sets, sets_in, sets_of}
 use Rattle.run.proofs.Cases.{row-passes}
 use Rattle.run.proofs.Exact.{sets-exact, sets-taken}
 use Rattle.run.proofs.First.{by-refused, by-taken}
-use Rattle.run.proofs.Owned.{padded, same_row, set-some, shown-owned, some-append}
+use Rattle.rule.proofs.Choosing.{some-append}
+use Rattle.run.proofs.Owned.{padded, same_row, set-some, shown-owned}
 use Rattle.run.proofs.RunOut.{few-cores}
 use Rattle.run.proofs.RunOut as out
 

@@ -10,7 +10,9 @@ use lib.Dec.{ltb, leb}
 use borrow.Author.Tests.{ltb-false, le-ltb, lt-ltb, leb-true, leb-false, ne_eqb, not-true}
 use Rattle.model.specs.Search.{any, bit}
 use Rattle.model.specs.Advance.{singleton}
-use Rattle.model.proofs.Bools.{and_left, and_right, and_both, not-false-true, not-true-false, same_test}
+use Rattle.model.proofs.Bools.{and_left, and_right, and_both}
+use Rattle.std.proofs.lemmas.Bool.{false_from_ne_true, true_from_ne_false}
+use Rattle.std.specs.Cmp.{both_ways}
 use Rattle.model.proofs.Digits.{bit_high, bit-none, bit_past, bit-power, or-bit, same_set}
 use Rattle.model.proofs.Search.{any_some, any_of}
 use Rattle.table.proofs.Decide.{Decides, fails}
@@ -67,25 +69,25 @@ unfolding past_count
 past-decides n x = (there, back)
   where
     there : leb (2 ^ n) x ≡ true → PastCount n x
-    there e = (search-decides n x).0 (not-false-true (any x (λ p. bit x p && not (ltb p n))) (λ f.
+    there e = (search-decides n x).0 (true_from_ne_false (any x (λ p. bit x p && not (ltb p n))) (λ f.
         let none : ¬ PastCount n x = fails (any x (λ p. bit x p && not (ltb p n))) (PastCount n x) (search-decides n x) f in
-        none_below n x (λ p l. not-true-false (bit x p) (λ b. none (p, (b, l)))) (leb-true (2 ^ n) x e)))
+        none_below n x (λ p l. false_from_ne_true (bit x p) (λ b. none (p, (b, l)))) (leb-true (2 ^ n) x e)))
 
     back : PastCount n x → leb (2 ^ n) x ≡ true
-    back y = not-false-true (leb (2 ^ n) x) (λ f. true≢false (sym y.1.0 ∙ below_none n x (leb-false (2 ^ n) x f) y.0 y.1.1))
+    back y = true_from_ne_false (leb (2 ^ n) x) (λ f. true≢false (sym y.1.0 ∙ below_none n x (leb-false (2 ^ n) x f) y.0 y.1.1))
 
 -- so a search finds the same
 pub past-search : (n x : ℕ) → past_count n x ≡ any x (λ p. bit x p && not (ltb p n))
 past-search n x =
-    same_test (past_count n x) (any x (λ p. bit x p && not (ltb p n)))
+    both_ways (past_count n x) (any x (λ p. bit x p && not (ltb p n)))
     (λ e. (search-decides n x).1 ((past-decides n x).0 e)) (λ e. (past-decides n x).1 ((search-decides n x).0 e))
 
 -- no bit is set at the count or past it
 pub within-if : (n x : ℕ) → past_count n x ≡ false → (p : ℕ) → n ≤ p → bit x p ≡ false
-within-if n x e p l = not-true-false (bit x p) (λ b. fails (past_count n x) (PastCount n x) (past-decides n x) e (p, (b, l)))
+within-if n x e p l = false_from_ne_true (bit x p) (λ b. fails (past_count n x) (PastCount n x) (past-decides n x) e (p, (b, l)))
 
 pub within-is : (n x : ℕ) → ((p : ℕ) → n ≤ p → bit x p ≡ false) → past_count n x ≡ false
-within-is n x h = not-true-false (past_count n x) (λ e. let y = (past-decides n x).0 e in true≢false (sym y.1.0 ∙ h y.0 y.1.1))
+within-is n x h = false_from_ne_true (past_count n x) (λ e. let y = (past-decides n x).0 e in true≢false (sym y.1.0 ∙ h y.0 y.1.1))
 
 -- of no place, of one position of the run, of two sets together
 pub within_none : (n : ℕ) → past_count n 0 ≡ false

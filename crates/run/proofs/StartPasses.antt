@@ -10,7 +10,7 @@ use lib.ListN.{length, get_or, replicate}
 use Rattle.model.specs.Fence.{unfenced_count}
 use Rattle.model.specs.Task.{task, absent_task}
 use Rattle.model.specs.Task as model
-use Rattle.model.proofs.Bools.{not-true-false}
+use Rattle.std.proofs.lemmas.Bool.{false_from_ne_true}
 use Rattle.model.specs.Sizes.{most_tasks}
 use Rattle.table.specs.Words.{core_count, rule, fence, table_of}
 use Rattle.table.specs.Limits.{cores_out, rule_out, fence_out, task_out}
@@ -34,18 +34,18 @@ started-at (τ ∷ τs) us (suc p) l = started-at τs us p (le_of_suc-le-suc l)
 module _ (ws : List ℕ) (none : NoneApplies ws) where
   -- 2, 3 and 19
   cores-in : cores_out (core_count ws) ≡ false
-  cores-in = not-true-false (cores_out (core_count ws)) (λ e. none 2 0 (two ((cores-decides (core_count ws)).0 e)))
+  cores-in = false_from_ne_true (cores_out (core_count ws)) (λ e. none 2 0 (two ((cores-decides (core_count ws)).0 e)))
 
   rule-in : rule_out (rule ws) ≡ false
-  rule-in = not-true-false (rule_out (rule ws)) (λ e. none 3 0 (three ((rule-decides (rule ws)).0 e)))
+  rule-in = false_from_ne_true (rule_out (rule ws)) (λ e. none 3 0 (three ((rule-decides (rule ws)).0 e)))
 
   fence-in : fence_out (core_count ws) (fence ws) ≡ false
-  fence-in = not-true-false (fence_out (core_count ws) (fence ws)) (λ e. none 19 0 (nineteen ((fence-decides (core_count ws) (fence ws)).0 e)))
+  fence-in = false_from_ne_true (fence_out (core_count ws) (fence ws)) (λ e. none 19 0 (nineteen ((fence-decides (core_count ws) (fence ws)).0 e)))
 
   -- 7 and 8
   task-in : (p : ℕ) → p < length (table_of ws).tasks → task_out (unfenced_count (fence ws) (core_count ws)) (task (table_of ws) p) ≡ false
   task-in p l =
-      not-true-false (task_out (unfenced_count (fence ws) (core_count ws)) (task (table_of ws) p)) (λ e.
+      false_from_ne_true (task_out (unfenced_count (fence ws) (core_count ws)) (task (table_of ws) p)) (λ e.
       let i = passed-inside ws none p l in
       ⊎_elim
       (λ w. ⊎_elim (λ x. ⊎_elim (λ y. omega arith) (λ y. omega arith) x) (λ x. ⊎_elim (λ y. omega arith) (λ y. omega arith) x) w)

@@ -67,7 +67,7 @@ module _ (rule cores fence withdrawn count : ℕ) (ts us : List Task) (same : ta
 
   same-late : first_late_in one ≡ first_late_in other
   unfolding first_late_in
-  same-late = least-same count (late_at one) (late_at other) (λ p l. ap (λ (t : Task). late_in t.deadline t.phase) (same_at p l))
+  same-late = least-same count (late_at one) (late_at other) (λ p l. ap (λ (t : Task). late_in t.parameters.deadline t.phase) (same_at p l))
 
   same-wrong-empties : (e : ℕ) → wrong_empties_in one e ≡ wrong_empties_in other e
   unfolding wrong_empties_in

@@ -14,7 +14,7 @@ use Rattle.model.specs.Refusals as model
 use Rattle.model.specs.Advance.{singleton}
 use Rattle.model.specs.Firm.{FirmRule}
 use Rattle.model.specs.WithdrawSet.{Enumerates, SetBelow}
-use Rattle.model.proofs.Bools.{not-true-false}
+use Rattle.std.proofs.lemmas.Bool.{false_from_ne_true}
 use Rattle.model.proofs.Digits.{bit-none}
 use Rattle.model.proofs.WithdrawSet.{members, members-just, or-chain, Below, below-just, below-first, below_rest}
 use Rattle.model.proofs.Verdict.{firm-exact}
@@ -33,7 +33,7 @@ use Rattle.run.proofs.WithdrawExact.{taken-parts, withdrawn-of, with-set, same_a
 
 -- within the count: the test of 22 fails
 within-past : (n x : ℕ) → SetBelow n x → past_count n x ≡ false
-within-past n x h = not-true-false (past_count n x) (λ e. let y = (past-decides n x).0 e in omega (arith, h y.0 y.1.0, y.1.1))
+within-past n x h = false_from_ne_true (past_count n x) (λ e. let y = (past-decides n x).0 e in omega (arith, h y.0 y.1.0, y.1.1))
 
 -- ONE BY ONE
 
@@ -127,7 +127,7 @@ withdraw-set-taken r x h = (
   λ e. let parts = taken-parts r (past_count r.count x) e in
       (fails (run_out r) (RunOut r) (run-decides r) parts.0, (firm-exact (run_table r)).0 parts.1),
   λ y.
-      let in-limits : run_out r ≡ false = not-true-false (run_out r) (λ e. y.0 ((run-decides r).0 e)) in
+      let in-limits : run_out r ≡ false = false_from_ne_true (run_out r) (λ e. y.0 ((run-decides r).0 e)) in
       rw (in-limits, (firm-exact (run_table r)).1 y.1, within-past r.count x h) refl,
 )
 

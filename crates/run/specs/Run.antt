@@ -14,7 +14,7 @@ use Rattle.phase.specs.declared.Phase.{Phase}
 use Rattle.phase.specs.declared.Task.{Task}
 use Rattle.run.specs.declared.Run.{Run}
 use Rattle.phase.specs.Phase.{claiming, working, holder, phase_emptied}
-use Rattle.phase.specs.Task.{task_of, past_end, width_now, next_task}
+use Rattle.phase.specs.Task.{task_of, parameters_of, past_end, width_now, next_task}
 
 -- the run's rule
 abbrev pub rule_in : Run → model.Rule
@@ -42,16 +42,6 @@ abbrev pub tasks_in : Run → List model.Task
 tasks_in r = map task_of (take r.count r.tasks)
 
 -- .. as code stores the tasks of a table: 32 places, no task past the count
-abbrev pub parameters_of : model.Task → table.Task
-parameters_of τ = record {
-  offset = τ.offset;
-  width = τ.odd_width;
-  length = τ.length;
-  deadline = τ.deadline;
-  period = τ.period;
-  second = τ.even_width;
-}
-
 abbrev pub parameters_in : Run → List table.Task
 parameters_in r = map parameters_of (tasks_in r) ++ replicate (most_tasks - r.count) no_task
 

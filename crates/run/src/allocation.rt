@@ -14,6 +14,7 @@ const LENDING: u32 = 4;
 
 // The set of the positions that are given cores in a tick, and of those that borrow some, bit 0 for position 1; and of each position the set of cores
 // that the row shows.
+// Sets by place, since `rule` gives and takes each list whole.
 #[derive(Clone, Copy)]
 pub struct Allocation {
     pub given: u32,
@@ -24,6 +25,7 @@ pub struct Allocation {
 // The cores of the first `count` positions in a tick, from the sets of those that claim and of those that are Working. Those that claim are given
 // theirs; then, under rule 4, those of them that are not Working lend, and those that are Working and have none borrow: lent cores show the borrower,
 // and a holder keeps those that it has not lent.
+// No plainer with an enum: the rule comes as the number that public functions take; it would be made for this test.
 pub(crate) fn allocate(
     rule: u32,
     free: u64,
@@ -44,14 +46,10 @@ pub(crate) fn allocate(
         let borrowed = rule::lend(&reserved, holders, seekers, even, widths, count);
         let lent = rule::owners(&borrowed);
         let sets = rule::shown(&reserved, &borrowed, count);
-        return Allocation {
-            given: given,
-            lent: lent,
-            sets: sets,
-        };
+        return Allocation { given, lent, sets };
     }
     Allocation {
-        given: given,
+        given,
         lent: 0,
         sets: reserved,
     }

@@ -1,18 +1,10 @@
-// Sets of places as numbers: whether a place is in one, a place added, and whether one contains a place past the count.
+// Sets of places as numbers: a place added, and whether a set contains a place past the count.
 ghost use Rattle.std.specs.Prelude.{◌≡◌, ◌||◌, ◌&&◌, ℕ, ◌<◌, eqb};
 ghost use Rattle.model.specs.Search.{bit};
 ghost use Rattle.model.specs.Sizes.{most_tasks};
 ghost use Rattle.run.specs.Numbers.{past_count};
 
 use model::MOST_TASKS;
-
-// Whether a place is in a set, bit 0 for position 1.
-pub(crate) fn has(set: u32, place: u32) -> bool
-    requires { place < most_tasks }
-    ensures { result ≡ bit set place }
-{
-    (set >> place) % 2 == 1
-}
 
 // The set with a place added where `on` is true.
 pub(crate) fn with(set: u32, place: u32, on: bool) -> u32
@@ -23,6 +15,7 @@ pub(crate) fn with(set: u32, place: u32, on: bool) -> u32
 }
 
 // Whether a set contains a place at or past the count.
+// The two cases are plainer than `checked_shr` and a closure.
 pub(crate) fn past(set: u32, count: usize) -> bool
     ensures { result ≡ past_count count set }
 {

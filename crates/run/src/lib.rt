@@ -74,7 +74,7 @@ impl Run {
         ensures { RowOf self empties (row_asked result) }
     {
         let tick = self.tick(empties)?;
-        Ok(rule::row_in(self.cores, self.fence, &tick.sets, self.count))
+        Ok(rule::row_in(self.cores, self.fence, &tick.sets[..self.count]))
     }
 
     // The run one tick on. Bit p of `reports` is set if the job of position p + 1 ends after this tick, and bit p of `empties` if it is
@@ -95,12 +95,7 @@ impl Run {
     pub fn withdraw(self, position: u32) -> Result<Run, Refusal>
         ensures { WithdrawOf self position (advanced self result) }
     {
-        if self.out() {
-            return Err(Refusal::NotARun);
-        }
-        if !self.is_firm() {
-            return Err(Refusal::NotFirm);
-        }
+        self.may_withdraw()?;
         if (position == 0) | ((self.count as u32) < position) {
             return Err(Refusal::NoPosition);
         }
@@ -112,12 +107,7 @@ impl Run {
     pub fn withdraw_all(self, set: u32) -> Result<Run, Refusal>
         ensures { WithdrawAllOf self set (advanced self result) }
     {
-        if self.out() {
-            return Err(Refusal::NotARun);
-        }
-        if !self.is_firm() {
-            return Err(Refusal::NotFirm);
-        }
+        self.may_withdraw()?;
         if bits::past(set, self.count) {
             return Err(Refusal::NoPosition);
         }

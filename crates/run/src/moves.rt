@@ -4,10 +4,12 @@ ghost use Rattle.model.specs.Search.{bit};
 ghost use Rattle.run.specs.Run.{has_cores, has_lent, moved};
 ghost use Rattle.run.specs.Numbers.{run_out};
 
-use crate::{Run, bits};
+use crate::Run;
+use model::sets;
 
 impl Run {
     // The run one tick on, of an advance that is taken; `given` is the set of places that are given cores in this tick, `lent` that of those that borrow some.
+    // No type of runs that pass 14: it would be built for this one call, and `advance` knows of 14 by its tick.
     pub(crate) fn moved(self, given: u32, lent: u32, reports: u32, empties: u32) -> Run
         requires fact_1 { run_out self ≡ false }
         requires fact_2 { ((p : ℕ) → bit given p ≡ has_cores self empties p) }
@@ -19,14 +21,12 @@ impl Run {
         let count = self.count;
         let emptied = empties | self.withdrawn;
         for i in 0..count {
-            let place = i as u32;
-            let empty = bits::has(emptied, place);
             run.tasks[i] = run.tasks[i].next(
                 rule,
-                empty,
-                bits::has(given, place),
-                bits::has(lent, place),
-                bits::has(reports, place),
+                sets::has(emptied, i),
+                sets::has(given, i),
+                sets::has(lent, i),
+                sets::has(reports, i),
             );
         }
         run

@@ -13,11 +13,9 @@ impl Run {
         requires { self.count ≤ most_tasks }
         ensures { (result ≡ parameters_in self) × (tasks_of result self.count ≡ tasks_in self) }
     {
-        let unused = phase::starts::unused();
-        let none = unused.parameters();
-        let mut tasks = [none; MOST_TASKS];
-        for i in 0..self.count {
-            tasks[i] = self.tasks[i].parameters();
+        let mut tasks = [table::Task::default(); MOST_TASKS];
+        for (i, task) in self.tasks[..self.count].iter().enumerate() {
+            tasks[i] = task.parameters;
         }
         tasks
     }

@@ -6,10 +6,12 @@ ghost use Rattle.model.specs.Sizes.{most_tasks};
 
 use crate::Run;
 use model::MOST_TASKS;
+use phase::Task;
 use table::Loaded;
 
 // The run of all zeros with every phase Resting(0), which 14 turns down: what stands for the run of a start that is refused.
-// No derived Default: the phase of zeros is Resting(0).
+// Not derived: the phase of zeros is Resting(0), which no derive gives. One impl for Phase and derives above it are no
+// plainer: clauses name this value by its definition.
 pub fn empty() -> Run
     ensures { result ≡ empty_run }
 {
@@ -26,6 +28,7 @@ pub fn empty() -> Run
 }
 
 // The run of a table that was loaded, as it starts. Not inlined: its copies would take stack while the table is judged.
+// It is public: a `Fitting` would ask more than the count.
 #[inline(never)]
 pub fn begun(table: Loaded) -> Run
     requires { table.count ≤ most_tasks }
@@ -33,8 +36,8 @@ pub fn begun(table: Loaded) -> Run
 {
     let place = phase::starts::unused();
     let mut places = [place; MOST_TASKS];
-    for i in 0..table.count {
-        places[i] = phase::starts::start_task(table.tasks[i]);
+    for (i, task) in table.tasks[..table.count].iter().enumerate() {
+        places[i] = Task::from(*task);
     }
     Run {
         rule: table.rule,

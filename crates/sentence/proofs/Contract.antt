@@ -10,7 +10,7 @@ use Rattle.model.specs.Search.{any}
 use Rattle.model.specs.Task.{Table, task}
 use Rattle.model.specs.Horizon.{horizon}
 use Rattle.model.specs.Verdict.{Miss, missed_in, first_miss}
-use Rattle.model.proofs.Bools.{not-false-true}
+use Rattle.std.proofs.lemmas.Bool.{true_from_ne_false}
 use Rattle.table.specs.Answer.{Answer}
 use Rattle.table.specs.declared.Loaded.{Loaded}
 use Rattle.table.specs.Limits.{most_time}
@@ -91,7 +91,7 @@ module _ (ws old new : List ℕ) where
 
   misses : NoneApplies ws (length old) → any (suc (horizon (table_of ws))) (missed_in (table_of ws)) ≡ true
   misses none =
-      not-false-true (any (suc (horizon (table_of ws))) (missed_in (table_of ws)))
+      true_from_ne_false (any (suc (horizon (table_of ws))) (missed_in (table_of ws)))
       (λ e. none 17 0 (seventeen (never (table_of ws) (passed-valid ws (passed none)) e)))
 
   room : NoneApplies ws (length old) → length text ≤ length old

@@ -86,7 +86,7 @@ pub longest-now : longest_sentence 1000000000 ≡ 700
 unfolding digit_count digits_within
 longest-now = refl
 
--- it is reached: 32 tasks, each above the late one ran in all of its 1,000,000 waiting ticks
+-- it is reached, which states that the bound is the least (nothing cites it): 32 tasks, each above the late one ran in all of its 1,000,000 waiting ticks
 pub longest-reached : length (sentence_text (record { position = 32; tick = 1000000000; had = 0; length = 1000000; others = named (replicate 31 1000000) })) ≡ 700
 unfolding sentence_text sentence_head parts named_from decimal last_digits digit_count digits_within
 longest-reached = refl

@@ -136,7 +136,7 @@ named-injective i (x ∷ xs) (y ∷ ys) l e = go (eqb x 0) refl (eqb y 0) refl (
     go false p true q ih h = let z = first-later (suc i) ys (record { position = suc i; count = x }) (named_from (suc i) xs) (sym h) in absurd (omega arith)
     go false p false q ih h = ap₂ (λ (z : ℕ) (zs : List ℕ). z ∷ zs) (ap first_count h) (ih (ap later_parts h))
 
--- two structs of 32 counts with the same facts are the same
+-- two structs of 32 counts with the same facts are the same: a law of `facts_by` that nothing cites
 pub meaning-injective : (f g : code.Facts) → length f.ran ≡ length g.ran → facts_by f ≡ facts_by g → f ≡ g
 meaning-injective f g l e =
     let p : f.position ≡ g.position = ap (λ (x : Facts). x.position) e in

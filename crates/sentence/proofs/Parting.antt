@@ -3,12 +3,13 @@
 use mathlib.Core.Bool.{Bool, true, false, ◌&&◌, false≢true}
 use mathlib.Core.List.{List, [], ◌∷◌, ◌++◌}
 use mathlib.Core.Path.{◌≡◌, refl, ap, sym, subst, ◌∙◌}
-use Prim.Native.Nat.{ℕ, zero, suc, ◌+◌, ◌-◌, ◌≤◌, ◌<◌}
+use Prim.Native.Nat.{ℕ, suc, ◌+◌, ◌-◌, ◌≤◌, ◌<◌}
 use native.Mathlib.Omega.{arith}
-use lib.ListN.{length, get_or, set, drop, replicate, length-set}
+use lib.ListN.{length, get_or, set, drop, replicate, length-set, length-append}
 use lib.Seq.{get_or-set_same, get_or-set_other}
 use lib.Dec.{eqb, ltb}
 use borrow.Author.Tests.{ltb-true, lt-ltb, eqb-true, eqb-false}
+use Rattle.model.proofs.Lists.{get_d-zeros}
 use Rattle.model.proofs.Bools.{and_left, and_right, and_both}
 use Rattle.text.specs.Decimal.{decimal}
 use Rattle.text.specs.Output.{letters}
@@ -16,7 +17,7 @@ use Rattle.sentence.specs.Facts.{Part, limit, MayFollow, Ascending, named}
 use Rattle.sentence.specs.Sentence.{word_field, parts}
 use Rattle.sentence.specs.Parsed.{same}
 use Rattle.sentence.specs.Reading.{Stops, NoField, FieldAt, part_text, NoPart, PartAt, NoParts, PartsAt}
-use Rattle.sentence.specs.declared.reader.Field.{Field}
+use Rattle.std.proofs.Common.{Bor}
 use Rattle.sentence.specs.declared.reader.Part as code
 use Rattle.sentence.proofs.Numbers.{number-only, parts-stop}
 use Rattle.sentence.proofs.Exact.{same-exact}
@@ -24,51 +25,49 @@ use Rattle.sentence.proofs.Fields.{field-is}
 use Rattle.sentence.proofs.Naming.{parts-append, named-zeros, named_set, named-ascending}
 
 -- a part that is not there
-module _ (bs : List ℕ) (i : ℕ) where
-  pub no-task : NoField bs (letters "; task ") i → NoPart bs i
+module _ (bs : List ℕ) where
+  pub no-task : NoField bs (letters "; task ") → NoPart bs
   no-task absent q n rest l m s e = absent q (word_field (letters " ran ") n rest) l refl e
 
-  module _ (task : Field) (first : FieldAt bs (letters "; task ") i task) where
-    pub no-count : NoField bs (letters " ran ") task.next → NoPart bs i
-    no-count absent q n rest l m s e = absent n rest m s (field-is bs (letters "; task ") i task first q (word_field (letters " ran ") n rest) refl e).1
+  module _ (task : ℕ × Bor (List ℕ)) (first : FieldAt bs (letters "; task ") task) where
+    pub no-count : NoField task.1.now (letters " ran ") → NoPart bs
+    no-count absent q n rest l m s e = absent n rest m s (field-is bs (letters "; task ") task first q (word_field (letters " ran ") n rest) refl e).1
 
     -- one that is
-    pub part-there : (count : Field) → FieldAt bs (letters " ran ") task.next count
-        → PartAt bs i (record { task = task.value; count = count.value; next = count.next })
-    part-there count second = record {
-      within = second.within;
-      there = first.there ∙ ap (λ (r : List ℕ). word_field (letters "; task ") task.value r) second.there;
-      stops = second.stops;
-      task = first.small;
-      count = second.small;
-      after = (let a = first.after in let b = second.after in omega arith);
-    }
+    pub part-there : (count : ℕ × Bor (List ℕ)) → FieldAt task.1.now (letters " ran ") count
+        → PartAt bs (record { task = task.0; count = count.0 }, count.1)
+    part-there count second =
+        let t : bs ≡ part_text task.0 count.0 count.1.now = first.there ∙ ap (λ (r : List ℕ). word_field (letters "; task ") task.0 r) second.there in
+        record {
+          there = t;
+          stops = second.stops;
+          task = first.small;
+          count = second.small;
+          after = (
+              let n = length-append (decimal count.0) count.1.now in
+              let m = length-append (decimal task.0) (word_field (letters " ran ") count.0 count.1.now) in
+              let l = ap length t in
+              omega (arith, n, m, l));
+        }
 
--- what holds when the parts from `from` up to `at` have been read, and `last` is the last task read
-pub record Read (bs : List ℕ) (from position : ℕ) (ran : List ℕ) (last at : ℕ) : Type 0 where
+-- what holds when the parts of a text up to the text `left` have been read, and `last` is the last task read
+pub record Read (bs : List ℕ) (position : ℕ) (ran : List ℕ) (last : ℕ) (left : List ℕ) : Type 0 where
   pub size : length ran ≡ 32
-  pub within : at ≤ length bs
   pub above : last ≤ position - 1
   pub fits : (k : ℕ) → get_or ran k 0 < limit
   pub zeros : (k : ℕ) → last ≤ k → get_or ran k 0 ≡ 0
-  pub before : drop from bs ≡ parts (named ran) (drop at bs)
-  pub after : (ps : List Part) → Ascending 0 position ps → drop from bs ≡ parts ps (letters ".") →
-      (qs : List Part) × Ascending last position qs × (drop at bs ≡ parts qs (letters "."))
+  pub before : bs ≡ parts (named ran) left
+  pub after : (ps : List Part) → Ascending 0 position ps → bs ≡ parts ps (letters ".") →
+      (qs : List Part) × Ascending last position qs × (left ≡ parts qs (letters "."))
 
-no-counts : (n k : ℕ) → ◌≡◌ {A = ℕ} (get_or (replicate n 0) k 0) 0
-no-counts zero k = refl
-no-counts (suc n) zero = refl
-no-counts (suc n) (suc k) = no-counts n k
-
-pub read-start : (bs : List ℕ) (from position : ℕ) → from ≤ length bs → Read bs from position (replicate 32 0) 0 from
+pub read-start : (bs : List ℕ) (position : ℕ) → Read bs position (replicate 32 0) 0 bs
 unfolding parts
-read-start bs from position h = record {
+read-start bs position = record {
   size = refl;
-  within = h;
   above = omega arith;
-  fits = λ k. let z = no-counts 32 k in omega arith;
-  zeros = λ k l. no-counts 32 k;
-  before = ap (λ (ps : List Part). parts ps (drop from bs)) (sym (named-zeros 0 (replicate 32 0) (no-counts 32)));
+  fits = λ k. let z = get_d-zeros 32 k in omega arith;
+  zeros = λ k l. get_d-zeros 32 k;
+  before = ap (λ (ps : List Part). parts ps bs) (sym (named-zeros 0 (replicate 32 0) (get_d-zeros 32)));
   after = λ ps r e. (ps, r, e);
 }
 
@@ -84,48 +83,48 @@ passed last position task count t =
       ltb-true 0 count (and_right (ltb task position) (ltb 0 count) u),
     )
 
-module _ (bs : List ℕ) (from position : ℕ) (ran : List ℕ) (last at : ℕ) (read : Read bs from position ran last at) (small : position ≤ 32) where
+module _ (bs : List ℕ) (position : ℕ) (ran : List ℕ) (last : ℕ) (left : List ℕ) (read : Read bs position ran last left) (small : position ≤ 32) where
   -- there is no part: the parts end here or nowhere
-  pub parts-end : same (drop at bs) (letters ".") ≡ true → PartsAt bs from position ran
+  pub parts-end : same left (letters ".") ≡ true → PartsAt bs position ran
   parts-end q = record {
     rise = named-ascending 0 position ran read.fits (λ k l. read.zeros k (let a = read.above in omega arith));
-    there = read.before ∙ ap (parts (named ran)) ((same-exact (drop at bs) (letters ".")).0 q);
+    there = read.before ∙ ap (parts (named ran)) ((same-exact left (letters ".")).0 q);
   }
 
-  pub parts-none : NoPart bs at → same (drop at bs) (letters ".") ≡ false → NoParts bs from position
+  pub parts-none : NoPart left → same left (letters ".") ≡ false → NoParts bs position
   unfolding parts Ascending
   parts-none absent q ps r e = let a = read.after ps r e in go a.0 a.1 a.2
     where
-      go : (qs : List Part) → Ascending last position qs → drop at bs ≡ parts qs (letters ".") → ⊥
-      go [] s d = false≢true (sym q ∙ (same-exact (drop at bs) (letters ".")).1 d)
+      go : (qs : List Part) → Ascending last position qs → left ≡ parts qs (letters ".") → ⊥
+      go [] s d = false≢true (sym q ∙ (same-exact left (letters ".")).1 d)
       go (p ∷ qs) s d = let a = s.0.above in absent p.position p.count (parts qs (letters ".")) (omega arith) s.0.fits (parts-stop qs) d
 
-module _ (bs : List ℕ) (from position : ℕ) (ran : List ℕ) (last at : ℕ) (part : code.Part)
-    (read : Read bs from position ran last at) (small : position ≤ 32) (found : PartAt bs at part) where
+module _ (bs : List ℕ) (position : ℕ) (ran : List ℕ) (last : ℕ) (left : List ℕ) (part : code.Part) (rest : Bor (List ℕ))
+    (read : Read bs position ran last left) (small : position ≤ 32) (found : PartAt left (part, rest)) where
   -- the part that is here is the one that was found
-  part-is : (q n : ℕ) (rest : List ℕ) → Stops rest → drop at bs ≡ part_text q n rest → (part.task ≡ q) × (part.count ≡ n) × (drop part.next bs ≡ rest)
-  part-is q n rest s e =
-      let same : decimal part.task ++ word_field (letters " ran ") part.count (drop part.next bs) ≡ decimal q ++ word_field (letters " ran ") n rest =
+  part-is : (q n : ℕ) (tail : List ℕ) → Stops tail → left ≡ part_text q n tail → (part.task ≡ q) × (part.count ≡ n) × (rest.now ≡ tail)
+  part-is q n tail s e =
+      let same : decimal part.task ++ word_field (letters " ran ") part.count rest.now ≡ decimal q ++ word_field (letters " ran ") n tail =
       ap (drop 7) (sym found.there ∙ e) in
-      let one = number-only part.task q (word_field (letters " ran ") part.count (drop part.next bs)) (word_field (letters " ran ") n rest) refl refl same in
-      let other : decimal part.count ++ drop part.next bs ≡ decimal n ++ rest = ap (drop 5) one.1 in
-      let two = number-only part.count n (drop part.next bs) rest found.stops s other in
+      let one = number-only part.task q (word_field (letters " ran ") part.count rest.now) (word_field (letters " ran ") n tail) refl refl same in
+      let other : decimal part.count ++ rest.now ≡ decimal n ++ tail = ap (drop 5) one.1 in
+      let two = number-only part.count n rest.now tail found.stops s other in
       (one.0, two.0, two.1)
 
   -- the full stop is no part
-  no_part : ¬ (drop at bs ≡ letters ".")
+  no_part : ¬ (left ≡ letters ".")
   no_part e = let z : ◌≡◌ {A = ℕ} 59 46 = ap (λ (xs : List ℕ). get_or xs 0 0) (sym found.there ∙ e) in omega arith
 
   -- the parts that are left
-  part_left : (ps : List Part) → Ascending 0 position ps → drop from bs ≡ parts ps (letters ".") →
+  part_left : (ps : List Part) → Ascending 0 position ps → bs ≡ parts ps (letters ".") →
       MayFollow last position (record { position = part.task; count = part.count })
-      × ((qs : List Part) × Ascending part.task position qs × (drop part.next bs ≡ parts qs (letters ".")))
+      × ((qs : List Part) × Ascending part.task position qs × (rest.now ≡ parts qs (letters ".")))
   unfolding parts Ascending
   part_left ps r e = let a = read.after ps r e in go a.0 a.1 a.2
     where
-      go : (qs : List Part) → Ascending last position qs → drop at bs ≡ parts qs (letters ".") →
+      go : (qs : List Part) → Ascending last position qs → left ≡ parts qs (letters ".") →
           MayFollow last position (record { position = part.task; count = part.count })
-          × ((rs : List Part) × Ascending part.task position rs × (drop part.next bs ≡ parts rs (letters ".")))
+          × ((rs : List Part) × Ascending part.task position rs × (rest.now ≡ parts rs (letters ".")))
       go [] s d = absurd (no_part d)
       go (q ∷ qs) s d =
           let x = part-is q.position q.count (parts qs (letters ".")) (parts-stop qs) d in
@@ -137,7 +136,7 @@ module _ (bs : List ℕ) (from position : ℕ) (ran : List ℕ) (last at : ℕ) 
           )
 
   -- it is read
-  pub read_more : tests last position part.task part.count ≡ true → Read bs from position (set ran (part.task - 1) part.count) part.task part.next
+  pub read_more : tests last position part.task part.count ≡ true → Read bs position (set ran (part.task - 1) part.count) part.task rest.now
   unfolding parts
   read_more t =
       let g = passed last position part.task part.count t in
@@ -149,15 +148,14 @@ module _ (bs : List ℕ) (from position : ℕ) (ran : List ℕ) (last at : ℕ) 
       let w : q - 1 < length ran = omega (arith, read.size) in
       record {
         size = length-set ran (q - 1) n ∙ read.size;
-        within = found.within;
         above = omega arith;
         fits = λ k. fit k (eqb k (q - 1)) refl w;
         zeros =
             λ k h.
             get_or-set_other ran (q - 1) k n 0 (λ e. omega arith) ∙ read.zeros k (omega arith);
         before =
-            read.before ∙ ap (parts (named ran)) found.there ∙ sym (parts-append (named ran) (record { position = q; count = n } ∷ []) (drop part.next bs))
-            ∙ ap (λ (ps : List Part). parts ps (drop part.next bs))
+            read.before ∙ ap (parts (named ran)) found.there ∙ sym (parts-append (named ran) (record { position = q; count = n } ∷ []) rest.now)
+            ∙ ap (λ (ps : List Part). parts ps rest.now)
             (sym (named_set 0 ran (q - 1) n w g.2 (λ k h. read.zeros k (omega arith)) ∙ ap (λ (k : ℕ). named ran ++ (record { position = k; count = n } ∷ [])) z));
         after = λ ps r e. (part_left ps r e).1;
       }
@@ -172,7 +170,7 @@ module _ (bs : List ℕ) (from position : ℕ) (ran : List ℕ) (last at : ℕ) 
           omega (arith, read.fits k)
 
   -- it may not be here
-  pub read-wrong : tests last position part.task part.count ≡ false → NoParts bs from position
+  pub read-wrong : tests last position part.task part.count ≡ false → NoParts bs position
   read-wrong t ps r e =
       let g = (part_left ps r e).0 in
       false≢true (sym t

@@ -2,19 +2,20 @@
 use mathlib.Core.Bool.{Bool, true, false, ◌&&◌, cond, false≢true}
 use mathlib.Core.List.{List, [], ◌∷◌, ◌++◌}
 use mathlib.Core.Path.{◌≡◌, refl, ap, ap₂, sym, subst, ◌∙◌}
-use Prim.Native.Nat.{ℕ, suc, ◌+◌, ◌*◌, ◌-◌, ◌^◌, ◌≤◌, ◌<◌}
+use Prim.Native.Nat.{ℕ, suc, ◌*◌, ◌-◌, ◌^◌, ◌≤◌, ◌<◌}
 use native.Mathlib.Nat.{mul-le-mul_left, pow-le-pow_right}
 use native.Mathlib.Omega.{arith}
-use lib.ListN.{length, get_or, take, drop, length-append, length-drop, take-append-drop, get_or-append}
+use lib.ListN.{length, get_or, take, drop, length-append, take-append-drop, get_or-append}
 use lib.Seq.{take-append_seam, length-take-le, get_or-take}
 use lib.Dec.{eqb, ltb}
-use borrow.Author.Tests.{eqb-true, eq-eqb, ltb-false}
+use borrow.Author.Tests.{eqb-true, eq-eqb, ne_eqb, ltb-false}
 use Rattle.std.proofs.Common.{Option}
 use Rattle.std.specs.Option.{MatchOption, unwrap_or}
 use Rattle.std.specs.List.{AllWithin, HoldsAt}
 use Rattle.std.specs.Cmp.Lexicographic.{pointwise}
 use Rattle.std.proofs.lemmas.Iterator.{index_from_first}
-use Rattle.model.proofs.Bools.{and_left, and_right, and_both, not-true-false}
+use Rattle.model.proofs.Bools.{and_left, and_right, and_both}
+use Rattle.std.proofs.lemmas.Bool.{false_from_ne_true}
 use Rattle.text.specs.Decimal.{all, is_digit, Digit, value, decimal}
 use Rattle.text.proofs.Values.{digit-exact, digits-exact}
 use Rattle.text.proofs.Decimals.{decimal-digits, decimal-some, decimal-length, decimal-lead, decimal-only, count-one}
@@ -36,19 +37,26 @@ unfolding starts_with
 begins-append [] rest = refl
 begins-append (c ∷ cs) rest = and_both (eqb c c) (starts_with cs (cs ++ rest)) (eq-eqb c c refl) (begins-append cs rest)
 
--- a word that a place begins with ends within the text
-pub begins-within : (word bs : List ℕ) (i : ℕ) → i ≤ length bs → starts_with word (drop i bs) ≡ true → i + length word ≤ length bs
-begins-within word bs i l e =
-    let n : length (drop i bs) ≡ length word + length (drop (length word) (drop i bs)) =
-    ap length (begins-there word (drop i bs) e) ∙ length-append word (drop (length word) (drop i bs)) in
-    omega (arith, length-drop i bs)
-
 -- the test of the library is the same
 pub begins-pointwise : (word bs : List ℕ) → pointwise eqb word (take (length word) bs) ≡ starts_with word bs
 unfolding starts_with
 begins-pointwise [] bs = refl
 begins-pointwise (c ∷ cs) [] = refl
 begins-pointwise (c ∷ cs) (b ∷ bs) = ap (λ (t : Bool). eqb c b && t) (begins-pointwise cs bs)
+
+eqb_sym : (a b : ℕ) → eqb a b ≡ eqb b a
+eqb_sym a b = go (eqb a b) refl
+  where
+    go : (t : Bool) → eqb a b ≡ t → eqb a b ≡ eqb b a
+    go true e = subst (λ (x : ℕ). eqb a x ≡ eqb x a) (eqb-true a b e) refl
+    go false e = e ∙ sym (ne_eqb b a (λ p. false≢true (sym e ∙ eq-eqb a b (sym p))))
+
+-- .. also of the one that takes the word off
+pub front-begins : (word bs : List ℕ) → pointwise eqb (take (length word) bs) word ≡ starts_with word bs
+unfolding starts_with
+front-begins [] bs = refl
+front-begins (c ∷ cs) [] = refl
+front-begins (c ∷ cs) (b ∷ bs) = λ i. eqb_sym b c i && front-begins cs bs i
 
 -- DIGITS
 
@@ -94,7 +102,7 @@ pub digits-first :
 unfolding digits_of
 digits-first bs r h =
     index_from_first digits_of (λ b. Digit b → ⊥) Digit refl
-    (λ b bs n. rw (not-true-false (is_digit b) (λ e. n ((digit-exact b).0 e))))
+    (λ b bs n. rw (false_from_ne_true (is_digit b) (λ e. n ((digit-exact b).0 e))))
     (λ b bs d. rw ((digit-exact b).1 d) (omega arith))
     bs r h
 

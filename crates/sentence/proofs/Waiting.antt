@@ -63,6 +63,7 @@ module _ (s : Table) (ok : AllValid s) (t p : ℕ) (f : FirstMiss s t (suc p)) w
   had-full = ap (λ (b : Book). (b.job p (late_job s t p)).had) (same-book t (omega arith)) ∙ ap (λ (k : ℕ). ((full s t).job p k).had) late-job
 
 -- THE TASKS THAT RUN: at full length no place lends, so that the places that are given cores are exactly those that the row shows, under rule 4 too
+-- (nothing cites it: it states what `waits` of specs/Waiting says of a row)
 pub shown-runs : (s : Table) (u q : ℕ) → some (get_or (shown_of s (book_at s u)) q []) ≡ in_row s (book_at s u) q
 shown-runs s u q =
     ap (λ (b : Book). some (get_or (shown_of s b) q [])) (empty-full s u)

@@ -1,9 +1,9 @@
 -- A sentence parsed: the facts that its numbers give, if these facts are expressible and their sentence is exactly these bytes.
-use Rattle.std.specs.Prelude.{Bool, true, false, ◌&&◌, cond, List, [], ◌∷◌, ◌++◌, ◌↔◌, ◌≡◌, ℕ, eqb, drop, get_or, replicate}
+use Rattle.std.specs.Prelude.{Option, None, Some, Bool, true, false, ◌&&◌, cond, List, [], ◌∷◌, ◌++◌, ◌↔◌, ◌≡◌, ℕ, eqb, drop, get_or, replicate}
 use Rattle.text.specs.Decimal.{is_digit, value}
 use Rattle.sentence.specs.Facts.{Facts, Part, Expressible, expressible, facts_by}
 use Rattle.sentence.specs.Sentence.{sentence_text}
-use Rattle.sentence.specs.declared.ParsedFacts.{ParsedFacts}
+use Rattle.sentence.specs.declared.Facts as code
 use Rattle.model.specs.Sizes.{most_tasks}
 
 -- the number that a run of digits represents, before the numbers that follow; a run of no digit gives none
@@ -51,9 +51,19 @@ abbrev pub parsed_by : Bool → Facts → ParsedSentence
 parsed_by true f = facts f
 parsed_by false f = none
 
+-- the result of parsing a text: facts, or none, with zeros for all of them
+pub record ParsedFacts : Type 0 where
+  pub found : Bool
+  pub facts : code.Facts
+
 -- nothing found: all zeros
 abbrev pub no_facts : ParsedFacts
 no_facts = record { found = false; facts = record { position = 0; tick = 0; had = 0; length = 0; ran = replicate most_tasks 0 } }
+
+-- as code returns it
+abbrev pub found_in : Option code.Facts → ParsedFacts
+found_in None = no_facts
+found_in (Some f) = record { found = true; facts = f }
 
 -- the contract of `facts_of` on the bytes
 pub record FactsOf (bs : List ℕ) (r : ParsedFacts) : Type 0 where

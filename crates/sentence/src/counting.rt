@@ -1,6 +1,5 @@
 // The facts of a miss, counted in the full-length run.
 ghost use Rattle.std.specs.Prelude.{◌≡◌, ℕ, suc, ◌≤◌, ◌<◌, ◌^◌, length, get_or};
-ghost use Rattle.model.specs.Search.{bit};
 ghost use Rattle.model.specs.Sizes.{most_tasks};
 ghost use Rattle.model.specs.Verdict.{FirstMiss};
 ghost use Rattle.table.specs.Fit.{loaded_table, Fit};
@@ -10,16 +9,8 @@ ghost use Rattle.sentence.specs.Counting.{added, above};
 
 use crate::Facts;
 use model::MOST_TASKS;
-use model::sets::Members;
+use model::sets::{Members, has};
 use table::Loaded;
-
-// Whether a place is in a set.
-fn has(set: u32, place: usize) -> bool
-    requires { place < most_tasks }
-    ensures { result ≡ bit set place }
-{
-    (set >> place) % 2 == 1
-}
 
 // Adds one to the count of each place of a set.
 fn add(granted: u32, ran: &mut [u64; MOST_TASKS])
@@ -29,16 +20,6 @@ fn add(granted: u32, ran: &mut [u64; MOST_TASKS])
     for place in Members::from(granted) {
         ran[place] += 1;
     }
-}
-
-// The counts of the places above a place, and zeros from it on.
-fn counts_above(ran: [u64; MOST_TASKS], place: usize) -> [u64; MOST_TASKS]
-    requires { (place ≤ most_tasks) × (length ran ≡ most_tasks) }
-    ensures { result ≡ above place ran }
-{
-    let mut counts = [0u64; MOST_TASKS];
-    counts[..place].copy_from_slice(&ran[..place]);
-    counts
 }
 
 // The facts of the first miss, of a place at a tick: the run up to that tick; from the late job's release on, each tick in which it is not granted cores
@@ -51,9 +32,6 @@ pub fn count(table: Loaded, tick: u32, place: usize) -> Facts
     let late = tasks[place];
     let release = tick - late.deadline;
     let columns = simulation::columns::columns_of(table);
-    let setting = columns.setting;
-    let widths = columns.widths;
-    let times = columns.times;
     let machine = simulation::machine::start(table);
     let mut registers = machine.registers;
     let mut places = machine.places;
@@ -61,31 +39,24 @@ pub fn count(table: Loaded, tick: u32, place: usize) -> Facts
     // no plainer as a `for`: the tick is a register of the run, and a step sets it
     while registers.tick < tick {
         let before = registers.tick;
-        let on = judge::by_ticks::run_on(
-            setting,
-            &widths,
-            &times,
-            registers,
-            &mut places,
-            before + 1,
-        );
+        let on = judge::by_ticks::run_on(&columns, registers, &mut places, before + 1);
         registers = on.registers;
         if release <= before {
             let granted = registers.granted;
-            let runs = has(granted, place);
-            if !runs {
+            if !has(granted, place) {
                 add(granted, &mut ran);
             }
         }
     }
     let position = place as u32 + 1;
     let had = late.length - places[place];
-    let counts = counts_above(ran, place);
+    // a task has no part that is not above the late one
+    ran[place..].fill(0);
     Facts {
-        position: position,
+        position,
         tick: tick as u64,
         had: had as u64,
         length: late.length as u64,
-        ran: counts,
+        ran,
     }
 }

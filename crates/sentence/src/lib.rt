@@ -3,14 +3,14 @@
 
 ghost use Rattle.std.specs.Prelude.{◌≡◌, suc, ◌≤◌, length};
 ghost use Rattle.model.specs.Verdict.{FirstMiss};
-ghost use Rattle.table.specs.Fit.{loaded_table, Fit};
-ghost use Rattle.sentence.specs.Parsed.{no_facts, FactsOf};
+ghost use Rattle.table.specs.Fit.{loaded_table};
+ghost use Rattle.sentence.specs.Parsed.{found_in, FactsOf};
 ghost use Rattle.sentence.specs.Waiting.{facts_at, facts_in};
 ghost use Rattle.sentence.specs.Counting.{LengthsWithin};
 ghost use Rattle.sentence.specs.SentenceAnswer.{answered, by_buffer, by_table, sentence_meaning, left_in, SentenceOf};
 
 use model::{MOST_TASKS, Refusal};
-use table::Loaded;
+use table::Fitting;
 
 pub mod counting; // counting.rt: the facts of a miss, counted in the full-length run
 pub mod reader; // reader.rt: a sentence parsed
@@ -21,7 +21,7 @@ pub const LONGEST: usize = 700;
 
 // The facts of a miss: `ran[q]` is the count of the task at position q + 1, and 0 where it has no part.
 // Zeros where a task has no part, since C reads 32 counts.
-#[derive(Clone, Copy)]
+#[derive(Clone, Copy, Default)]
 pub struct Facts {
     pub position: u32,
     pub tick: u64,
@@ -30,76 +30,52 @@ pub struct Facts {
     pub ran: [u64; MOST_TASKS],
 }
 
-// The result of parsing a text: facts, or none, with zeros for all of them.
-#[derive(Clone, Copy)]
-pub struct ParsedFacts {
-    pub found: bool,
-    pub facts: Facts,
-}
-
-// Nothing is found.
-fn no_facts() -> ParsedFacts
-    ensures { result ≡ no_facts }
-{
-    let ran = [0u64; MOST_TASKS];
-    ParsedFacts {
-        found: false,
-        facts: Facts {
-            position: 0,
-            tick: 0,
-            had: 0,
-            length: 0,
-            ran: ran,
-        },
-    }
-}
-
 // The facts of a sentence; none where the bytes are no sentence of expressible facts.
-pub fn facts_of(bytes: &[u8]) -> ParsedFacts
-    ensures { FactsOf bytes.now result }
+pub fn facts_of(bytes: &[u8]) -> Option<Facts>
+    ensures { FactsOf bytes.now (found_in result) }
 {
-    let Some(head) = reader::read_head(bytes) else {
-        return no_facts();
-    };
-    let Some(ran) = reader::read_parts(bytes, head.next, head.position) else {
-        return no_facts();
-    };
-    ParsedFacts {
-        found: true,
-        facts: Facts {
-            position: head.position as u32,
-            tick: head.tick,
-            had: head.had,
-            length: head.length,
-            ran: ran,
-        },
-    }
+    let (head, parts) = reader::read_head(bytes)?;
+    let ran = reader::read_parts(parts, head.position)?;
+    Some(Facts {
+        position: head.position as u32,
+        tick: head.tick,
+        had: head.had,
+        length: head.length,
+        ran,
+    })
 }
 
 // Writes the sentence of a miss of a place at a tick at the front of the buffer, and returns its length; 18 where the buffer is too short.
-fn write_miss(table: Loaded, tick: u32, place: usize, buffer: &mut [u8]) -> Result<usize, Refusal>
-    requires { Fit table × FirstMiss (loaded_table table) tick (suc place) × (tick ≤ table.horizon) × LengthsWithin table }
-    ensures { (answered result ≡ by_buffer (facts_at (loaded_table table) tick place) (length buffer.old))
-        × (buffer.new ≡ left_in (sentence_meaning (answered result)) (facts_at (loaded_table table) tick place) buffer.old) }
+fn write_miss(
+    fitting: Fitting,
+    tick: u32,
+    place: usize,
+    buffer: &mut [u8],
+) -> Result<usize, Refusal>
+    requires { FirstMiss (loaded_table fitting.loaded) tick (suc place) × (tick ≤ fitting.loaded.horizon) × LengthsWithin fitting.loaded }
+    ensures { (answered result ≡ by_buffer (facts_at (loaded_table fitting.loaded) tick place) (length buffer.old))
+        × (buffer.new ≡ left_in (sentence_meaning (answered result)) (facts_at (loaded_table fitting.loaded) tick place) buffer.old) }
 {
-    let facts = counting::count(table, tick, place);
+    let facts = counting::count(fitting.loaded, tick, place);
+    // an array and its length, and not yet the caller's buffer: there is no heap, and on 18 the buffer stays as it was
     let mut text = [0u8; LONGEST];
     let length = writer::put(facts, &mut text);
     if buffer.len() < length {
         return Err(Refusal::ShortBuffer);
     }
-    Ok(text::row::copy(&text, 0, length, buffer, 0))
+    Ok(text::row::put(buffer, 0, &text[..length]))
 }
 
 // The sentence of a table that passed: number 17 or 18, or its first miss.
-fn by_table(table: Loaded, buffer: &mut [u8]) -> Result<usize, Refusal>
-    requires { Fit table × LengthsWithin table }
-    ensures { (answered result ≡ by_table (loaded_table table) (length buffer.old))
-        × (buffer.new ≡ left_in (sentence_meaning (answered result)) (facts_in (loaded_table table)) buffer.old) }
+fn by_table(fitting: Fitting, buffer: &mut [u8]) -> Result<usize, Refusal>
+    requires { LengthsWithin fitting.loaded }
+    ensures { (answered result ≡ by_table (loaded_table fitting.loaded) (length buffer.old))
+        × (buffer.new ≡ left_in (sentence_meaning (answered result)) (facts_in (loaded_table fitting.loaded)) buffer.old) }
 {
+    let table = fitting.loaded;
     match judge::fastest::first_miss(table, table.horizon + 1) {
         None => Err(Refusal::NoMiss),
-        Some(miss) => write_miss(table, miss.tick, miss.position as usize - 1, buffer),
+        Some(miss) => write_miss(fitting, miss.tick, miss.position as usize - 1, buffer),
     }
 }
 
@@ -108,6 +84,6 @@ fn by_table(table: Loaded, buffer: &mut [u8]) -> Result<usize, Refusal>
 pub fn sentence(words: &[u32], buffer: &mut [u8]) -> Result<usize, Refusal>
     ensures { SentenceOf words.now buffer.old buffer.new (answered result) }
 {
-    let table = table::load(words)?;
-    by_table(table, buffer)
+    let fitting = Fitting::load(words)?;
+    by_table(fitting, buffer)
 }

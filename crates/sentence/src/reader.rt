@@ -1,41 +1,31 @@
-// Words and numbers read from the bytes of a sentence.
+// Words and numbers read from the front of a text: what is there, and the text after it.
 ghost use mathlib.Core.Bool.{◌&&◌, true};
-ghost use Rattle.std.specs.Prelude.{◌≡◌, ◌≤◌, ◌<◌, MatchOption, eqb, leb, ltb, length, drop};
+ghost use Rattle.std.specs.Prelude.{◌≡◌, ◌≤◌, ◌<◌, MatchOption, eqb, leb, ltb, drop, length};
 ghost use Rattle.text.specs.Decimal.{Digits, value};
-ghost use Rattle.text.specs.Output.{letters};
 ghost use Rattle.sentence.specs.Facts.{limit};
-ghost use Rattle.sentence.specs.Parsed.{same};
 ghost use Rattle.sentence.specs.Reading.{starts_with, digits_of, NumberOf, FieldOf, PartOf, PartsOf, HeadOf};
 ghost use Rattle.model.specs.Sizes.{most_tasks};
 
 use model::MOST_TASKS;
 
-// A number after a word, and where it ends.
-#[derive(Clone, Copy)]
-pub struct Field {
-    pub value: u64,
-    pub next: usize,
-}
-
-// A part of a sentence: its task and its count, and where it ends.
+// A part of a sentence: its task and its count.
 #[derive(Clone, Copy)]
 pub struct Part {
     pub task: u64,
     pub count: u64,
-    pub next: usize,
 }
 
-// All of a sentence before its parts: its numbers, and where it ends.
+// The numbers of a sentence before its parts.
 #[derive(Clone, Copy)]
 pub struct Head {
     pub position: u64,
     pub tick: u64,
     pub had: u64,
     pub length: u64,
-    pub next: usize,
 }
 
 // Whether the bytes from `at` on begin with a word.
+// No call of ours is left: it stays since docs/PROOFS.md names it.
 pub fn begins_with(bytes: &[u8], at: usize, word: &[u8]) -> bool
     requires { at ≤ length bytes.now }
     ensures { result ≡ starts_with word.now (drop at bytes.now) }
@@ -71,81 +61,66 @@ fn value_of(digits: &[u8]) -> Option<u64>
     Some(value)
 }
 
-// The number at `at`, of all the digits there: no zero in front of others, and below 2^64.
+// The number at the front of a text, of all the digits there: no zero in front of others, and below 2^64.
 // By hand: `parse` takes a plus sign, and a zero in front.
-fn read_number(bytes: &[u8], at: usize) -> Option<Field>
-    requires { at ≤ length bytes.now }
-    ensures { NumberOf bytes.now at result }
+// Not text's reader: that one takes ten digits at most, zeros in front too (`NumberOf`).
+fn read_number(text: &[u8]) -> Option<(u64, &[u8])>
+    ensures { NumberOf text.now result }
 {
-    let rest = &bytes[at..];
-    let count = digit_count(rest);
-    if count == 0 || is_padded(rest[0], count) {
+    let count = digit_count(text);
+    if count == 0 || is_padded(text[0], count) {
         return None;
     }
-    let value = value_of(&rest[..count])?;
-    Some(Field {
-        value,
-        next: at + count,
-    })
+    let (digits, rest) = text.split_at(count);
+    let value = value_of(digits)?;
+    Some((value, rest))
 }
 
-// The number after a word that begins at `at`.
-pub(crate) fn read_field(bytes: &[u8], at: usize, word: &[u8]) -> Option<Field>
-    requires { at ≤ length bytes.now }
-    ensures { FieldOf bytes.now word.now at result }
+// The number after a word at the front of a text.
+fn read_field<'a>(text: &'a [u8], word: &[u8]) -> Option<(u64, &'a [u8])>
+    ensures { FieldOf text.now word.now result }
 {
-    if !begins_with(bytes, at, word) {
-        return None;
-    }
-    read_number(bytes, at + word.len())
+    let number = text.strip_prefix(word)?;
+    read_number(number)
 }
 
-// The part at `at`.
-fn read_part(bytes: &[u8], at: usize) -> Option<Part>
-    requires { at ≤ length bytes.now }
-    ensures { PartOf bytes.now at result }
+// The part at the front of a text.
+fn read_part(text: &[u8]) -> Option<(Part, &[u8])>
+    ensures { PartOf text.now result }
 {
-    let task = read_field(bytes, at, b"; task ")?;
-    let count = read_field(bytes, task.next, b" ran ")?;
-    Some(Part {
-        task: task.value,
-        count: count.value,
-        next: count.next,
-    })
+    let (task, text) = read_field(text, b"; task ")?;
+    let (count, text) = read_field(text, b" ran ")?;
+    Some((Part { task, count }, text))
 }
 
 // Whether a part may follow one of the task `last`, in the sentence of a late task at a position.
-fn may_follow(last: u64, position: u64, task: u64, count: u64) -> bool
-    ensures { result ≡ ltb last task && (ltb task position && ltb 0 count) }
+fn may_follow(last: u64, position: u64, part: Part) -> bool
+    ensures { result ≡ ltb last part.task && (ltb part.task position && ltb 0 part.count) }
 {
-    (last < task) & ((task < position) & (0 < count))
+    (last < part.task) & ((part.task < position) & (0 < part.count))
 }
 
-// The bytes from `at` on are a full stop.
-fn stops(bytes: &[u8], at: usize) -> bool
-    requires { at ≤ length bytes.now }
-    ensures { result ≡ same (drop at bytes.now) (letters ".") }
-{
-    bytes[at..] == b"."[..]
-}
-
-// The counts of the parts from `from` on, up to the full stop at the end.
-pub(crate) fn read_parts(bytes: &[u8], from: usize, position: u64) -> Option<[u64; MOST_TASKS]>
-    requires { (from ≤ length bytes.now) × (position ≤ most_tasks) }
-    ensures { PartsOf bytes.now from position result }
+// The counts of the parts that a text consists of, up to the full stop at its end.
+pub(crate) fn read_parts(parts: &[u8], position: u64) -> Option<[u64; MOST_TASKS]>
+    requires { position ≤ most_tasks }
+    ensures { PartsOf parts.now position result }
 {
     let mut ran = [0u64; MOST_TASKS];
     let mut last: u64 = 0;
-    let mut at = from;
-    while let Some(part) = read_part(bytes, at) {
-        if !may_follow(last, position, part.task, part.count) {
+    let mut text = parts;
+    while let Some((part, rest)) = read_part(text) {
+        if !may_follow(last, position, part) {
             return None;
         }
         ran[(part.task - 1) as usize] = part.count;
         last = part.task;
-        at = part.next;
+        text = rest;
     }
-    if stops(bytes, at) { Some(ran) } else { None }
+    if text == b".".as_slice() {
+        Some(ran)
+    } else {
+        None
+    }
 }
 
 // Whether a task at such a position may be late, with this number of ticks had out of its length.
@@ -156,24 +131,22 @@ fn may_be_late(position: u64, had: u64, length: u64) -> bool
 }
 
 // The head of a sentence, up to `ticks`.
-pub(crate) fn read_head(bytes: &[u8]) -> Option<Head>
-    ensures { HeadOf bytes.now result }
+pub(crate) fn read_head(text: &[u8]) -> Option<(Head, &[u8])>
+    ensures { HeadOf text.now result }
 {
-    let position = read_field(bytes, 0, b"task ")?;
-    let tick = read_field(bytes, position.next, b" misses at tick ")?;
-    let had = read_field(bytes, tick.next, b" with ")?;
-    let length = read_field(bytes, had.next, b" of ")?;
-    if !may_be_late(position.value, had.value, length.value) {
+    let (position, text) = read_field(text, b"task ")?;
+    let (tick, text) = read_field(text, b" misses at tick ")?;
+    let (had, text) = read_field(text, b" with ")?;
+    let (length, text) = read_field(text, b" of ")?;
+    if !may_be_late(position, had, length) {
         return None;
     }
-    if !begins_with(bytes, length.next, b" ticks") {
-        return None;
-    }
-    Some(Head {
-        position: position.value,
-        tick: tick.value,
-        had: had.value,
-        length: length.value,
-        next: length.next + 6,
-    })
+    let parts = text.strip_prefix(b" ticks")?;
+    let head = Head {
+        position,
+        tick,
+        had,
+        length,
+    };
+    Some((head, parts))
 }

@@ -13,14 +13,17 @@ use borrow.Author.Tests.{ne_eqb, leb-true, leb-false}
 use Rattle.text.specs.Format.{most_digits}
 use Rattle.text.specs.Input.{length_to, parse_number}
 use Rattle.text.specs.Output.{space}
-use Rattle.std.proofs.Common.{Option, Some, None}
+use Rattle.std.proofs.Common.{Option, Some, None, option_map}
 use Rattle.text.proofs.Lines.{mark-within, mark-stop}
 use Rattle.text.proofs.Numbers.{found_nothing}
 use Rattle.splitter.specs.Words.{words_in}
 use Rattle.splitter.proofs.Words.{words-one, words_more}
 use Rattle.session.specs.declared.operations.Numbers.{Numbers}
-use Rattle.session.specs.declared.operations.Numbers.TheVariants.{Bare}
-use Rattle.session.specs.Operation.{none_long, one_of, two_of, numbers_of, numbers_after, advance_by, row_by, sets_by, working_by, withdraw_by, withdraw_all_by}
+use Rattle.session.specs.declared.operations.Numbers.TheVariants.{Bare, One, Two}
+use Rattle.std.specs.Option.{MatchOption, IsSomeAnd}
+use Rattle.session.specs.declared.operations.Operation.{Operation}
+use Rattle.session.specs.declared.operations.Operation.TheVariants.{Withdraw, WithdrawAll, Row, Sets, Working}
+use Rattle.session.specs.Operation.{none_long, one_of, two_of, numbers_of, numbers_after, one_in, empties_in, advance_by, row_by, sets_by, working_by, withdraw_by, withdraw_all_by}
 use Rattle.session.specs.Operation.{operation_by, operation_with, operation_of}
 
 -- WORDS
@@ -131,6 +134,40 @@ behind-other [] n q = absurd (n refl)
 behind-other (b ∷ l) n q = rw (ne_eqb b space q)
 
 -- THE OPERATION
+
+-- an operation with a number, where there is one
+pub with-number :
+    {Q : ℕ → Operation → Type 0} (f : ℕ → Operation) (o : Option ℕ) (r : Option Operation) → MatchOption o (r ≡ None) (λ x. IsSomeAnd r (Q x))
+    → ((x : ℕ) (y : Operation) → Q x y → y ≡ f x) → r ≡ option_map f o
+with-number f None r h g = h
+with-number f (Some x) (Some y) h g = ap Some (g x y h)
+with-number f (Some x) None h g = absurd h
+
+-- an operation with a set of empties, and one with a number
+pub with-row : (ns : Numbers) → option_map Row (empties_in ns) ≡ row_by ns
+with-row Bare = refl
+with-row (One e) = refl
+with-row (Two e n) = refl
+
+pub with-sets : (ns : Numbers) → option_map Sets (empties_in ns) ≡ sets_by ns
+with-sets Bare = refl
+with-sets (One e) = refl
+with-sets (Two e n) = refl
+
+pub with-working : (ns : Numbers) → option_map Working (empties_in ns) ≡ working_by ns
+with-working Bare = refl
+with-working (One e) = refl
+with-working (Two e n) = refl
+
+pub with-withdraw : (ns : Numbers) → option_map Withdraw (one_in ns) ≡ withdraw_by ns
+with-withdraw Bare = refl
+with-withdraw (One p) = refl
+with-withdraw (Two p n) = refl
+
+pub with-withdraw-all : (ns : Numbers) → option_map WithdrawAll (one_in ns) ≡ withdraw_all_by ns
+with-withdraw-all Bare = refl
+with-withdraw-all (One x) = refl
+with-withdraw-all (Two x n) = refl
 
 pub by-advance : (b : ℕ) (ns : Numbers) → b ≡ 97 → advance_by ns ≡ operation_by b ns
 unfolding operation_by

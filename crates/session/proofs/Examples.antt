@@ -171,7 +171,7 @@ lines-asked = by-line worked lines lines each_line
 
 -- a task of one tick in the release tick of an odd job, by its widths
 abbrev task : ℕ → ℕ → Task
-task v w = record { offset = 0; width = v; length = 1; deadline = 2; period = 2; second = w; even = false; phase = phase.Working 0 0 0 }
+task v w = record { parameters = record { offset = 0; width = v; length = 1; deadline = 2; period = 2; second = w }; even = false; phase = phase.Working 0 0 0 }
 
 -- two of them under greedy: of width 1 on one core; and with widths that fall on two cores, so that the run is not firm
 abbrev pub pair : Run

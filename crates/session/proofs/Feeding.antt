@@ -7,23 +7,24 @@ use Prim.Native.Nat.{ℕ, ◌≤◌, ◌<◌}
 use native.Mathlib.Omega.{arith}
 use lib.ListN.{length, take, drop}
 use lib.Seq.{take_all}
-use Rattle.splitter.specs.declared.Part.{Part}
 use Rattle.splitter.specs.Split.{too_many, InputEnd, nothing, unknown, lines_from, split}
-use Rattle.splitter.specs.Parts.{Comes, goes, end_of, OneLine, LineOf, TableOf}
+use Rattle.splitter.specs.Parts.{Part, Comes, goes, end_of, OneLine, LineOf, TableOf}
 use Rattle.splitter.proofs.Splits.{lines_none, lines-waits}
 use Rattle.run.specs.declared.Run.{Run}
+use Rattle.run.specs.Start.{start_of}
+use Rattle.text.specs.Format.{most_bytes, words_of, numbers_in}
 use Rattle.session.specs.declared.Stage.{Stage}
 use Rattle.session.specs.declared.Stage.TheVariants.{Table, Operations, Over}
 use Rattle.session.specs.declared.Session.{Session}
 use Rattle.session.specs.declared.Fed.{Fed}
-use Rattle.session.specs.declared.open.Opened.{Opened}
 use Rattle.session.specs.declared.operations.Operation.{Operation}
-use Rattle.std.proofs.Common.{Option, Some, None}
+use Rattle.std.proofs.Common.{Option, None}
 use Rattle.session.specs.Operation.{none_long, operation_of, reply, run_after, is_last}
-use Rattle.session.specs.Transcript.{replies, opened, answers_to}
-use Rattle.session.specs.Session.{transcript_in, IsPrefix, FedBy, FedOf, replies_after, TextWritten, OpenedOf, fed_with}
+use Rattle.session.specs.Transcript.{replies, start_line, opened, answers_to}
+use Rattle.session.specs.Session.{transcript_in, IsPrefix, FedBy, FedOf, TextWritten, fed_with}
 use Rattle.session.proofs.Asking.{long-none}
-use Rattle.session.proofs.Transcripts.{begins-with, all-opened, due-opened, due-none, no_operation, replies-none, replies-long, replies-due, replies-line, replies-last}
+use Rattle.session.proofs.Starts.{opened-short, too-long-start}
+use Rattle.session.proofs.Transcripts.{opened-long, begins-with, all-opened, due-opened, due-none, no_operation, replies-none, replies-long, replies-due, replies-line, replies-last}
 
 -- where the input has not ended anything may come
 any : {ended : Bool} {e : InputEnd} {more : List ℕ} → ended ≡ false → Comes ended e more
@@ -71,26 +72,41 @@ over-fed run ended bytes before = record {
 module _ (run : Run) (ended : Bool) (bytes before after : List ℕ) (p : Part) (w : TableOf bytes ended p) where
   -- its text is answered
   pub table-fed :
-      (o : Opened) (stage : Stage) (run' : Run) → p.whole ≡ true → OpenedOf (take p.end bytes) before after o
-      → ((e : InputEnd) (bs : List ℕ) → replies_after o.run (lines_from e [] bs) ≡ transcript_in stage run' e bs)
-      → FedBy (transcript_in Table run) ended bytes before after (fed_with stage run' p.next o.length)
-  table-fed o stage run' h b g = record {
+      (t : List ℕ) (n : ℕ) (stage : Stage) (run' : Run) → p.whole ≡ true → TextWritten t before after n
+      → ((e : InputEnd) (bs : List ℕ) → opened (take p.end bytes) (lines_from e [] bs) ≡ t ++ transcript_in stage run' e bs)
+      → transcript_in stage run' (end_of ended) [] ≡ []
+      → FedBy (transcript_in Table run) ended bytes before after (fed_with stage run' p.next n)
+  table-fed t n stage run' h b g z = record {
     taken = w.next;
     room = b.room;
     same = b.same;
     behind = b.behind;
     text = λ more c. all-opened (split nothing (bytes ++ more)) (take p.end bytes) _ (w.text h nothing more c) ∙ answered nothing more;
     at_once = λ f more. subst (IsPrefix (answers_to (split unknown (bytes ++ more)))) (answered unknown more) (due-opened (split unknown (bytes ++ more)) (take p.end bytes) _ (w.text h unknown more (any f)));
-    rest = λ z. ap (transcript_in stage run' (end_of ended)) (no_bytes bytes p.next w.moves z) ∙ sym (g (end_of ended) []) ∙ left o.run;
-    short = λ z _. let e = ap length (no_bytes bytes p.next w.moves z) in omega (arith, e);
+    rest = λ y. ap (transcript_in stage run' (end_of ended)) (no_bytes bytes p.next w.moves y) ∙ z;
+    short = λ y _. let e = ap length (no_bytes bytes p.next w.moves y) in omega (arith, e);
   }
     where
-      answered : (e : InputEnd) (more : List ℕ) → opened (take p.end bytes) (lines_from e [] (drop p.next bytes ++ more)) ≡ take o.length after ++ transcript_in stage run' e (drop p.next bytes ++ more)
-      answered e more = b.text (lines_from e [] (drop p.next bytes ++ more)) ∙ ap (λ (y : List ℕ). take o.length after ++ y) (g e (drop p.next bytes ++ more))
+      answered : (e : InputEnd) (more : List ℕ) → opened (take p.end bytes) (lines_from e [] (drop p.next bytes ++ more)) ≡ take n after ++ transcript_in stage run' e (drop p.next bytes ++ more)
+      answered e more = g e (drop p.next bytes ++ more) ∙ ap (λ (y : List ℕ). y ++ transcript_in stage run' e (drop p.next bytes ++ more)) (sym b.front)
 
-      left : (r : Option Run) → replies_after r (lines_from (end_of ended) [] []) ≡ []
-      left (Some r) = none-replied r (end_of ended)
-      left None = refl
+  -- .. by start, and the operations follow
+  pub table-started :
+      (n : ℕ) (run' : Run) → p.whole ≡ true → length (take p.end bytes) ≤ most_bytes → TextWritten (start_line (numbers_in (words_of (take p.end bytes)))) before after n
+      → run' ≡ (start_of (numbers_in (words_of (take p.end bytes)))).run → FedBy (transcript_in Table run) ended bytes before after (fed_with Operations run' p.next n)
+  table-started n run' h l b r =
+      let d = take p.end bytes in
+      table-fed _ n Operations run' h b
+      (λ e bs. opened-short d _ l ∙ ap (λ (x : Run). start_line (numbers_in (words_of d)) ++ replies x (lines_from e [] bs)) (sym r))
+      (none-replied run' (end_of ended))
+
+  -- .. which is longer than any: the session is over
+  pub table-too-long :
+      (n : ℕ) (run' : Run) → p.whole ≡ true → most_bytes < length (take p.end bytes) → TextWritten (start_line (numbers_in (words_of (take p.end bytes)))) before after n
+      → FedBy (transcript_in Table run) ended bytes before after (fed_with Over run' p.next n)
+  table-too-long n run' h l b =
+      let d = take p.end bytes in
+      table-fed _ n Over run' h b (λ e bs. opened-long d _ l ∙ sym (too-long-start d l) ∙ sym (append-nil (start_line (numbers_in (words_of d))))) refl
 
   -- its end is still to come
   pub table-waits : p.whole ≡ false → FedBy (transcript_in Table run) ended bytes before before (fed_with Table run 0 0)

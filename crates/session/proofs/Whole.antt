@@ -4,6 +4,7 @@ use mathlib.Core.List.{List, [], ◌++◌, append_assoc, append-nil}
 use mathlib.Core.Path.{◌≡◌, refl, sym, ap, ◌∙◌, subst, subst₂}
 use Prim.Native.Nat.{ℕ}
 use lib.ListN.{take, drop}
+use Rattle.model.proofs.Lists.{append-inner}
 use Rattle.splitter.specs.Split.{nothing, unknown, unclosed, split_from}
 use Rattle.splitter.specs.Parts.{Comes, ends, goes}
 use Rattle.session.specs.declared.Session.{Session}
@@ -12,10 +13,6 @@ use Rattle.session.specs.declared.Stage.TheVariants.{Over}
 use Rattle.session.specs.Transcript.{answers_to, transcript, transcript_so_far}
 use Rattle.session.specs.Session.{transcript_in, transcript_of, IsPrefix, NewOf, FedAgain, Feeds, none, more}
 use Rattle.session.proofs.Transcripts.{begins-with}
-
--- what is left, and then more: the parts in their order
-parts : (left chunk bs cs : List ℕ) → left ++ ((chunk ++ bs) ++ cs) ≡ (left ++ chunk) ++ (bs ++ cs)
-parts left chunk bs cs = ap (λ (x : List ℕ). left ++ x) (append_assoc chunk bs cs) ∙ sym (append_assoc left chunk (bs ++ cs))
 
 written-again :
     {ended : Bool} {s s' : Session} {bytes text left : List ℕ} → FedAgain ended s bytes text left s' → (cs : List ℕ) → Comes ended nothing cs
@@ -30,7 +27,7 @@ written-so-far :
     → transcript_of s nothing (left ++ (bs ++ cs)) ≡ text ++ transcript_of s' nothing (left' ++ cs)
 written-so-far none cs = refl
 written-so-far {s} {s'} {left' = left'} (more left chunk {bs = bs} {text = text} {text' = text'} w q f) cs =
-    ap (transcript_of s nothing) (parts left chunk bs cs) ∙ written-again w (bs ++ cs) goes
+    ap (transcript_of s nothing) (append-inner left chunk bs cs) ∙ written-again w (bs ++ cs) goes
     ∙ ap (λ (x : List ℕ). text ++ x) (written-so-far f cs) ∙ sym (append_assoc text text' (transcript_of s' nothing (left' ++ cs)))
 
 -- all that a new session writes for the bytes bs, in whatever parts they come, and at their end, is `transcript bs`
@@ -65,7 +62,7 @@ due-so-far :
     → IsPrefix (transcript_of s unknown (left ++ (bs ++ cs))) (text ++ transcript_of s' unknown (left' ++ cs))
 due-so-far none cs = begins-with refl
 due-so-far {s = s} {s' = s''} {left' = left''} (more {s' = s'} left chunk {bs = bs} {text = text} {text' = text'} {left' = left'} w q f) cs =
-    subst₂ IsPrefix (ap (transcript_of s unknown) (sym (parts left chunk bs cs))) (sym (append_assoc text text' (transcript_of s'' unknown (left'' ++ cs))))
+    subst₂ IsPrefix (ap (transcript_of s unknown) (sym (append-inner left chunk bs cs))) (sym (append_assoc text text' (transcript_of s'' unknown (left'' ++ cs))))
     (begins-on (transcript_of s unknown ((left ++ chunk) ++ (bs ++ cs))) text
     (transcript_of s' unknown (left' ++ (bs ++ cs))) (text' ++ transcript_of s'' unknown (left'' ++ cs)) (due-again w refl (bs ++ cs)) (due-so-far f cs))
 

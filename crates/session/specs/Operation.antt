@@ -49,6 +49,18 @@ unfoldable pub numbers_after : List ℕ → Option Numbers
 numbers_after [] = Some Bare
 numbers_after (b ∷ l) = cond (eqb b space) (numbers_of (words_in l)) None
 
+-- the one number, where there is no other
+abbrev pub one_in : Numbers → Option ℕ
+one_in Bare = None
+one_in (One n) = Some n
+one_in (Two n m) = None
+
+-- a set of empties; without a number it is 0
+abbrev pub empties_in : Numbers → Option ℕ
+empties_in Bare = Some 0
+empties_in (One e) = Some e
+empties_in (Two e n) = None
+
 -- `a REPORTS EMPTIES` is an advance with these two sets; without the second number the empties are 0
 abbrev pub advance_by : Numbers → Option Operation
 advance_by Bare = None

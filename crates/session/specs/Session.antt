@@ -1,14 +1,18 @@
 -- The state of a session: its transcript for the bytes to come.
-use Rattle.std.specs.Prelude.{Bool, true, false, Option, Some, None, List, [], ◌++◌, ◌≡◌, ℕ, ◌≤◌, ◌<◌, length, take, drop}
+use Rattle.std.specs.Prelude.{Bool, true, false, Option, List, [], ◌∷◌, ◌++◌, ◌≡◌, ℕ, ◌≤◌, ◌<◌, length, take, drop}
+use Rattle.model.specs.declared.refusal.Refusal.{Refusal}
+use Rattle.model.specs.Refusal.{number_of, position_of}
+use Rattle.text.specs.Output.{letters, line_of}
 use Rattle.splitter.specs.Split.{too_many, InputEnd, nothing, unknown, lines_from, split}
 use Rattle.splitter.specs.Parts.{Comes, end_of}
 use Rattle.run.specs.declared.Run.{Run}
-use Rattle.session.specs.Transcript.{replies, opened, answers_to, transcript, transcript_so_far}
+use Rattle.session.specs.Transcript.{replies, answers_to, transcript, transcript_so_far}
 use Rattle.session.specs.declared.Stage.{Stage}
 use Rattle.session.specs.declared.Stage.TheVariants.{Table, Operations, Over}
 use Rattle.session.specs.declared.Session.{Session}
 use Rattle.session.specs.declared.Fed.{Fed}
-use Rattle.session.specs.declared.open.Opened.{Opened}
+use Rattle.session.specs.declared.operations.Operation.{Operation}
+use Rattle.session.specs.Operation.{reply, run_after}
 
 -- the transcript of a stage, with its run, for the bytes bs, by what comes after them
 abbrev pub transcript_in : Stage → Run → InputEnd → List ℕ → List ℕ
@@ -61,17 +65,9 @@ pub record TextWritten (text before after : List ℕ) (n : ℕ) : Type 0 where
 abbrev pub NewOf : Session → Type 0
 NewOf s = (bs : List ℕ) → (transcript_of s nothing bs ≡ transcript bs) × (transcript_of s unknown bs ≡ transcript_so_far bs)
 
--- the replies to the lines after the table: on the run that it leaves, or none where the session is over
-abbrev pub replies_after : Option Run → List (List ℕ) → List ℕ
-replies_after (Some r) ls = replies r ls
-replies_after None ls = []
-
--- the contract of `begin` of a table's text
-pub record OpenedOf (table before after : List ℕ) (r : Opened) : Type 0 where
-  pub room : r.length ≤ length before
-  pub same : length after ≡ length before
-  pub behind : drop r.length after ≡ drop r.length before
-  pub text : (ls : List (List ℕ)) → opened table ls ≡ take r.length after ++ replies_after r.run ls
+-- an operation on run r is refused: its reply is the refusal, and the run stays as it is
+abbrev pub RefusedOf : Option Operation → Run → Refusal → Type 0
+RefusedOf o r e = (reply o r ≡ line_of (letters "refused") (number_of e ∷ position_of e ∷ [])) × (run_after o r ≡ r)
 
 -- a session in a stage, after a number of bytes taken and a number of bytes written
 abbrev pub fed_with : Stage → Run → ℕ → ℕ → Fed

@@ -5,7 +5,7 @@ ghost use Rattle.std.specs.Prelude.{◌≡◌};
 ghost use Rattle.session.specs.declared.Stage.TheVariants.{Table, Operations};
 ghost use Rattle.session.specs.Session.{transcript_in, is_over, fed_with, FedBy, FedOf, NewOf};
 
-pub mod open; // open.rt: the table, and the run that it starts
+mod open; // open.rt: the table, and the run that it starts
 pub mod operations; // operations.rt: the operation of a line
 mod replies; // replies.rt: the reply to an operation
 
@@ -19,7 +19,7 @@ const NONE_LONG: usize = 1 + 2 * (1 + text::DIGITS) + 1;
 pub const REPLY: usize = 4 + MOST_TASKS * (1 + 20) + 1;
 
 // What the next bytes are read as: the table, the operations, or nothing any more.
-// Like plan_text's, but what follows the table differs.
+// Not plan_text's Check, whose cases hold their data.
 #[derive(Clone, Copy)]
 pub enum Stage {
     Table,
@@ -28,6 +28,7 @@ pub enum Stage {
 }
 
 // The state of a session: its stage, and the run.
+// A tag beside the run: what may not change, `transcript_of` of specs/Session, is of `s.stage` and `s.run`.
 #[derive(Clone, Copy)]
 pub struct Session {
     pub stage: Stage,
@@ -35,6 +36,7 @@ pub struct Session {
 }
 
 // The number of bytes taken, the number of bytes written, and the session after them.
+// No plainer as one with plan_text's, which writes nothing.
 // The buffer is the caller's, and a count of its bytes is returned, as a read does.
 #[derive(Clone, Copy)]
 pub struct Fed {
@@ -54,37 +56,6 @@ fn fed_with(stage: Stage, run: Run, taken: usize, length: usize) -> Fed
     }
 }
 
-// The table, once it has ended, and the answer to it.
-fn feed_table(run: Run, bytes: &[u8], ended: bool, out: &mut [u8; REPLY]) -> Fed
-    ensures { FedBy (transcript_in Table run) ended bytes.now out.old out.new result }
-{
-    let part = splitter::table(bytes, ended);
-    if part.whole {
-        let opened = open::begin(&bytes[..part.end], out);
-        return match opened.run {
-            Some(begun) => fed_with(Stage::Operations, begun, part.next, opened.length),
-            None => fed_with(Stage::Over, run, part.next, opened.length),
-        };
-    }
-    fed_with(Stage::Table, run, 0, 0)
-}
-
-// The first operation, once its line has ended, and the reply to it; a line longer than any operation is none.
-fn feed_operations(run: Run, bytes: &[u8], ended: bool, out: &mut [u8; REPLY]) -> Fed
-    ensures { FedBy (transcript_in Operations run) ended bytes.now out.old out.new result }
-{
-    let part = splitter::line(bytes, NONE_LONG, ended);
-    if part.whole {
-        let Some(operation) = operations::operation_of(&bytes[..part.end]) else {
-            let length = replies::write_word(b"not an operation", out);
-            return fed_with(Stage::Over, run, bytes.len(), length);
-        };
-        let reply = replies::answer(run, operation, out);
-        return fed_with(Stage::Operations, reply.run, part.next, reply.length);
-    }
-    fed_with(Stage::Operations, run, 0, 0)
-}
-
 impl Session {
     // A session before its first byte.
     #[tactic(auto, unfolding(crate::specs::Transcript::transcript, crate::specs::Transcript::transcript_so_far))]
@@ -97,13 +68,44 @@ impl Session {
         }
     }
 
+    // The table, once it has ended, and the answer to it; a text longer than any table can be ends the session.
+    // No plainer as one with plan_text's: three lines are alike, and what follows the table differs.
+    fn feed_table(self, bytes: &[u8], ended: bool, out: &mut [u8; REPLY]) -> Fed
+        ensures { FedBy (transcript_in Table self.run) ended bytes.now out.old out.new result }
+    {
+        let Some(part) = splitter::table(bytes, ended) else {
+            return fed_with(Stage::Table, self.run, 0, 0);
+        };
+        let begun = open::begin(&bytes[..part.end], out);
+        if text::BYTES < part.end {
+            return fed_with(Stage::Over, begun.run, part.next, begun.length);
+        }
+        fed_with(Stage::Operations, begun.run, part.next, begun.length)
+    }
+
+    // The first operation, once its line has ended, and the reply to it; a line longer than any operation is none.
+    fn feed_operations(self, bytes: &[u8], ended: bool, out: &mut [u8; REPLY]) -> Fed
+        ensures { FedBy (transcript_in Operations self.run) ended bytes.now out.old out.new result }
+    {
+        let Some(part) = splitter::line(bytes, NONE_LONG, ended) else {
+            return fed_with(Stage::Operations, self.run, 0, 0);
+        };
+        let Some(operation) = operations::operation_of(&bytes[..part.end]) else {
+            let length = replies::write_line(b"not an operation", &[], out);
+            return fed_with(Stage::Over, self.run, bytes.len(), length);
+        };
+        let reply = replies::answer(self.run, operation, out);
+        fed_with(Stage::Operations, reply.run, part.next, reply.length)
+    }
+
     // Takes the table or a line of the bytes, where it has ended or the input has, and writes the reply to it; what is left is to be fed again.
+    // A `match` on the stage and no closure: a session may be of any stage (`FedOf`).
     pub fn feed(self, bytes: &[u8], ended: bool, out: &mut [u8; REPLY]) -> Fed
         ensures { FedOf self ended bytes.now out.old out.new result }
     {
         match self.stage {
-            Stage::Table => feed_table(self.run, bytes, ended, out),
-            Stage::Operations => feed_operations(self.run, bytes, ended, out),
+            Stage::Table => self.feed_table(bytes, ended, out),
+            Stage::Operations => self.feed_operations(bytes, ended, out),
             Stage::Over => fed_with(Stage::Over, self.run, bytes.len(), 0),
         }
     }

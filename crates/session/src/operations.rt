@@ -1,6 +1,6 @@
 // The operation of a line.
 ghost use Rattle.std.specs.Prelude.{◌≡◌};
-ghost use Rattle.session.specs.Operation.{operation_of, numbers_after, advance_by, row_by, sets_by, working_by, withdraw_by, withdraw_all_by};
+ghost use Rattle.session.specs.Operation.{operation_of, numbers_after, one_in, empties_in, advance_by};
 
 // An advance with its reports and its empties, a position withdrawn, the positions of a set withdrawn together, a row asked with empties, one asked as
 // sets, or who works asked.
@@ -20,6 +20,29 @@ pub enum Numbers {
     Bare,
     One(u32),
     Two(u32, u32),
+}
+
+impl Numbers {
+    // The one number, where there is no other.
+    fn one(self) -> Option<u32>
+        ensures { result ≡ one_in self }
+    {
+        match self {
+            Numbers::One(number) => Some(number),
+            Numbers::Bare | Numbers::Two(_, _) => None,
+        }
+    }
+
+    // The set of empties, 0 without a number.
+    fn empties(self) -> Option<u32>
+        ensures { result ≡ empties_in self }
+    {
+        match self {
+            Numbers::Bare => Some(0),
+            Numbers::One(empties) => Some(empties),
+            Numbers::Two(_, _) => None,
+        }
+    }
 }
 
 // The numbers after the letter of a line, one space before each; or `None` where something else is there.
@@ -53,61 +76,6 @@ fn advance_by(numbers: Numbers) -> Option<Operation>
     }
 }
 
-// A row asked with the number after its letter.
-fn row_by(numbers: Numbers) -> Option<Operation>
-    ensures { result ≡ row_by numbers }
-{
-    match numbers {
-        Numbers::Bare => Some(Operation::Row(0)),
-        Numbers::One(empties) => Some(Operation::Row(empties)),
-        Numbers::Two(_, _) => None,
-    }
-}
-
-// A row asked as sets with the number after its letter.
-fn sets_by(numbers: Numbers) -> Option<Operation>
-    ensures { result ≡ sets_by numbers }
-{
-    match numbers {
-        Numbers::Bare => Some(Operation::Sets(0)),
-        Numbers::One(empties) => Some(Operation::Sets(empties)),
-        Numbers::Two(_, _) => None,
-    }
-}
-
-// The question who works, with the number after its letter.
-fn working_by(numbers: Numbers) -> Option<Operation>
-    ensures { result ≡ working_by numbers }
-{
-    match numbers {
-        Numbers::Bare => Some(Operation::Working(0)),
-        Numbers::One(empties) => Some(Operation::Working(empties)),
-        Numbers::Two(_, _) => None,
-    }
-}
-
-// A withdrawal of the position after its letter.
-fn withdraw_by(numbers: Numbers) -> Option<Operation>
-    ensures { result ≡ withdraw_by numbers }
-{
-    match numbers {
-        Numbers::Bare => None,
-        Numbers::One(position) => Some(Operation::Withdraw(position)),
-        Numbers::Two(_, _) => None,
-    }
-}
-
-// A withdrawal of the positions of the set after its letter together.
-fn withdraw_all_by(numbers: Numbers) -> Option<Operation>
-    ensures { result ≡ withdraw_all_by numbers }
-{
-    match numbers {
-        Numbers::Bare => None,
-        Numbers::One(set) => Some(Operation::WithdrawAll(set)),
-        Numbers::Two(_, _) => None,
-    }
-}
-
 // The operation of a line: `a REPORTS EMPTIES`, `r EMPTIES`, `s EMPTIES`, `j EMPTIES`, `w POSITION`, `W SET`, or none.
 pub fn operation_of(line: &[u8]) -> Option<Operation>
     ensures { result ≡ operation_of line.now }
@@ -116,11 +84,11 @@ pub fn operation_of(line: &[u8]) -> Option<Operation>
     let numbers = after(rest)?;
     match *letter {
         b'a' => advance_by(numbers),
-        b'r' => row_by(numbers),
-        b'w' => withdraw_by(numbers),
-        b'W' => withdraw_all_by(numbers),
-        b's' => sets_by(numbers),
-        b'j' => working_by(numbers),
+        b'r' => numbers.empties().map(Operation::Row),
+        b'w' => numbers.one().map(Operation::Withdraw),
+        b'W' => numbers.one().map(Operation::WithdrawAll),
+        b's' => numbers.empties().map(Operation::Sets),
+        b'j' => numbers.empties().map(Operation::Working),
         _ => None,
     }
 }

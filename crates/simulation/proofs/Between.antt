@@ -16,7 +16,8 @@ use Rattle.model.specs.Grants.{Claimant, claimants, grants}
 use Rattle.model.specs.Row.{row}
 use Rattle.model.specs.Claims.{job_claims, task_claims, widths, grants_of}
 use Rattle.model.specs.Lists.{full}
-use Rattle.model.proofs.Bools.{same_test, not-true-false}
+use Rattle.std.specs.Cmp.{both_ways}
+use Rattle.std.proofs.lemmas.Bool.{false_from_ne_true}
 use Rattle.model.proofs.Jobs.{after-release, before-due, claims-if, done-off}
 use Rattle.model.proofs.Runs.{full-tick, full-claimed, full-row, full-stays}
 use Rattle.model.proofs.Faithful.{claims-exact}
@@ -103,7 +104,7 @@ module _ (s : Table) (ok : AllValid s) where
   -- in the full-length run a job that claims has not ended
   open-claims : (t p k : ℕ) → job_claims s (full s t) p k ≡ true → ((full s t).job p k).ended ≡ false
   open-claims t p k c =
-      not-true-false ((full s t).job p k).ended
+      false_from_ne_true ((full s t).job p k).ended
       (λ e. true≢false (sym c ∙ done-off s.rule (task s p) k (full s t).tick ((full s t).job p k) e (full-claimed s t p k e)))
 
   claims-at : (t p k : ℕ) → release (task s p) k ≤ t → t < due (task s p) k → ((full s t).job p k).ended ≡ false → job_claims s (full s t) p k ≡ true
@@ -118,7 +119,7 @@ module _ (s : Table) (ok : AllValid s) where
         let b = before-due s.rule (task s p) k (full s (suc t)).tick ((full s (suc t)).job p k) c in
         let z = full-tick s (suc t) in
         claims-at t p k (apart (λ e. quiet (p, k, l, inl e)) (omega arith)) (omega arith)
-        (not-true-false ((full s t).job p k).ended (λ e. true≢false (sym (stays e) ∙ open-claims (suc t) p k c)))
+        (false_from_ne_true ((full s t).job p k).ended (λ e. true≢false (sym (stays e) ∙ open-claims (suc t) p k c)))
       where
         apart : {a : ℕ} → (a ≡ suc t → ⊥) → a ≤ suc t → a ≤ t
         apart n h = omega arith
@@ -133,14 +134,14 @@ module _ (s : Table) (ok : AllValid s) where
         let b = before-due s.rule (task s p) k (full s t).tick ((full s t).job p k) c in
         let z = full-tick s t in
         claims-at (suc t) p k (omega arith) (apart (λ e. quiet (p, k, l, inr (inl e))) (omega arith))
-        (not-true-false ((full s (suc t)).job p k).ended (λ e. quiet (p, k, l, inr (inr (ends_at s t p k e (open-claims t p k c))))))
+        (false_from_ne_true ((full s (suc t)).job p k).ended (λ e. quiet (p, k, l, inr (inr (ends_at s t p k e (open-claims t p k c))))))
       where
         apart : {a : ℕ} → (a ≡ suc t → ⊥) → t < a → suc t < a
         apart n h = omega arith
 
     claims-stay : task_claims s (full s (suc t)) p ≡ task_claims s (full s t) p
     claims-stay =
-        same_test (task_claims s (full s (suc t)) p) (task_claims s (full s t) p)
+        both_ways (task_claims s (full s (suc t)) p) (task_claims s (full s t) p)
         (λ e. let x = (claims-exact s ok (full s (suc t)) p l).0 e in (claims-exact s ok (full s t) p l).1 (x.0, claimed-before x.0 x.1))
         (λ e. let x = (claims-exact s ok (full s t) p l).0 e in (claims-exact s ok (full s (suc t)) p l).1 (x.0, claims-after x.0 x.1))
 

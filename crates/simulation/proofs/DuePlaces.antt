@@ -1,20 +1,17 @@
 -- The set of the places whose event a tick is, and the earliest event: their definitions, and one place more.
 use mathlib.Core.Path.{◌≡◌, refl, sym, ap, ap₂, ◌∙◌, subst}
-use mathlib.Core.Bool.{Bool, true, false, ◌&&◌, ◌||◌, or-false}
+use mathlib.Core.Bool.{Bool, true, false, ◌&&◌}
 use mathlib.Core.List.{List}
 use mathlib.Core.Logic.{⊎_elim}
 use Prim.Native.Nat.{ℕ, zero, suc, ◌+◌, ◌^◌, ◌≤◌, ◌<◌, min}
 use native.Mathlib.Nat.{eq-or-lt_of_le, not-suc-le-zero}
 use native.Mathlib.Numerals.{add-one}
 use native.Mathlib.Omega.{arith}
-use lib.Bits.{bit_or, or_lt}
 use lib.Dec.{eqb, ltb, leb}
 use lib.ListN.{get_or}
-use lib.Pow.{pow-lt}
-use borrow.Author.Tests.{eqb-true, eqb-false, eq-eqb, ne_eqb, lt-ltb, le-ltb, ltb-true, leb-true, leb-false}
+use borrow.Author.Tests.{ne_eqb, le-ltb, ltb-true, leb-true, leb-false}
 use Rattle.model.specs.Search.{bit}
-use Rattle.model.proofs.Bools.{same_test}
-use Rattle.model.proofs.Digits.{or-bit, bit-power, bit-none}
+use Rattle.model.proofs.Digits.{bit-none}
 use Rattle.simulation.proofs.Sets.{set-has, set-lt, set_past, set_is}
 use Rattle.simulation.specs.EventState.{due_at, earliest_of}
 
@@ -51,46 +48,6 @@ no-place-due t n ms away = due-one t n ms 0 (record { small = omega arith; bits 
     go p true e =
         ap₂ (λ (a b : Bool). a && b) e (ne_eqb (get_or ms p 0) t (away p (ltb-true p n e)))
     go p false e = ap (λ (b : Bool). b && eqb (get_or ms p 0) t) e
-
--- a place more changes nothing at the others
-below_step : (p i : ℕ) → (p ≡ i → ⊥) → ltb p i ≡ ltb p (i + 1)
-below_step p i ne =
-    same_test (ltb p i) (ltb p (i + 1))
-    (λ e. lt-ltb p (i + 1) (let h = ltb-true p i e in omega arith))
-    (λ e. lt-ltb p i (let h = ltb-true p (i + 1) e in omega arith))
-
-module _ (t i : ℕ) (ms : List ℕ) (set : ℕ) (h : DueTo t i ms set) where
-  pub due-more : i < 32 → get_or ms i 0 ≡ t → (m : ℕ) → m ≡ 2 ^ i → DueTo t (i + 1) ms (bit_or set m)
-  due-more l e m d = record {
-    small = or_lt 32 set m h.small (subst (λ (x : ℕ). x < 2 ^ 32) (sym d) (pow-lt l));
-    bits = λ p.
-        or-bit set m p ∙ (ap (λ (x : ℕ). bit set p || bit x p) d ∙ (ap (λ (b : Bool). bit set p || b) (bit-power i p) ∙ go p (eqb p i) refl));
-  }
-    where
-      or-on : (b : Bool) → b || true ≡ true
-      or-on true = refl
-      or-on false = refl
-
-      go : (p : ℕ) (x : Bool) → eqb p i ≡ x → bit set p || x ≡ ltb p (i + 1) && eqb (get_or ms p 0) t
-      go p true q =
-          let z : p ≡ i = eqb-true p i q in
-          or-on (bit set p)
-          ∙ sym (ap₂ (λ (a b : Bool). a && b) (lt-ltb p (i + 1) (omega arith)) (eq-eqb (get_or ms p 0) t (ap (λ (x : ℕ). get_or ms x 0) z ∙ e)))
-      go p false q = or-false (bit set p) ∙ (h.bits p ∙ ap (λ (b : Bool). b && eqb (get_or ms p 0) t) (below_step p i (eqb-false p i q)))
-
-  pub due-off : (get_or ms i 0 ≡ t → ⊥) → DueTo t (i + 1) ms set
-  due-off ne = record { small = h.small; bits = λ p. h.bits p ∙ go p (eqb p i) refl }
-    where
-      and-off : (a b : Bool) → b ≡ false → a && b ≡ false
-      and-off true b e = e
-      and-off false b e = refl
-
-      go : (p : ℕ) (x : Bool) → eqb p i ≡ x → ltb p i && eqb (get_or ms p 0) t ≡ ltb p (i + 1) && eqb (get_or ms p 0) t
-      go p true q =
-          let z : p ≡ i = eqb-true p i q in
-          let o : eqb (get_or ms p 0) t ≡ false = ne_eqb (get_or ms p 0) t (λ d. ne (ap (λ (x : ℕ). get_or ms x 0) (sym z) ∙ d)) in
-          and-off (ltb p i) (eqb (get_or ms p 0) t) o ∙ sym (and-off (ltb p (i + 1)) (eqb (get_or ms p 0) t) o)
-      go p false q = ap (λ (b : Bool). b && eqb (get_or ms p 0) t) (below_step p i (eqb-false p i q))
 
 -- THE EARLIEST EVENT
 

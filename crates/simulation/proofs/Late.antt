@@ -11,7 +11,9 @@ use Rattle.model.specs.Search.{any, least, bit}
 use Rattle.model.specs.Task.{Table, task, AllValid}
 use Rattle.model.specs.Lists.{full, Missed}
 use Rattle.model.specs.Verdict.{missed_at, missed_in}
-use Rattle.model.proofs.Bools.{and_left, and_right, and_both, same_test, not-true-false}
+use Rattle.model.proofs.Bools.{and_left, and_right, and_both}
+use Rattle.std.specs.Cmp.{both_ways}
+use Rattle.std.proofs.lemmas.Bool.{false_from_ne_true}
 use Rattle.model.proofs.Search.{any_some, any_of, least-any, least-lowest}
 use Rattle.simulation.specs.Machine.{Machine, overdue}
 use Rattle.model.proofs.Runs.{full-tick, missed-at}
@@ -40,7 +42,7 @@ module _ (s : Table) (ok : AllValid s) where
     -- the same of the tests
     pub late-exact : (p : ℕ) → p < length s.tasks → i ≤ p → overdue t m p ≡ missed_at s t p
     late-exact p l b =
-        same_test (overdue t m p) (missed_at s t p)
+        both_ways (overdue t m p) (missed_at s t p)
         (λ e.
         (missed-exact s ok t p l).1
         (late-missed p l b
@@ -62,7 +64,7 @@ module _ (s : Table) (ok : AllValid s) where
         ahead false w = w.ahead_of
 
     pub passed_none : (p : ℕ) → p < length s.tasks → p < i → missed_at s t p ≡ false
-    passed_none p l b = not-true-false (missed_at s t p) (λ e. passed-met p b ((missed-exact s ok t p l).0 e))
+    passed_none p l b = false_from_ne_true (missed_at s t p) (λ e. passed-met p b ((missed-exact s ok t p l).0 e))
 
     -- where the walk finds a place late, it is the first that misses at t
     pub late-first : i < length s.tasks → overdue t m i ≡ true → (missed_in s t ≡ true) × (least (length s.tasks) (missed_at s t) ≡ i)
@@ -87,7 +89,7 @@ module _ (s : Table) (ok : AllValid s) where
   pub ready-none : (t : ℕ) (m : Machine) → Ready s t m → missed_in s t ≡ false
   unfolding missed_in
   ready-none t m h =
-      not-true-false (any (length s.tasks) (missed_at s t))
+      false_from_ne_true (any (length s.tasks) (missed_at s t))
       (λ e.
       let x = any_some (length s.tasks) (missed_at s t) e in
       true≢false (sym x.2 ∙ passed_none t (length s.tasks) m h x.0 x.1 x.1))

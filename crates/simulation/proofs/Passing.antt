@@ -1,16 +1,16 @@
 -- k ticks of the granted places: the value at each place after them, and one granted place more.
-use mathlib.Core.Path.{◌≡◌, refl, sym, ap, ◌∙◌, fun_ext, subst}
+use mathlib.Core.Path.{◌≡◌, sym, ap, ◌∙◌, fun_ext, subst}
 use mathlib.Core.Bool.{Bool, true, false, not, ◌&&◌, cond, and-true}
 use Prim.Native.Nat.{ℕ, ◌-◌, ◌^◌, ◌≤◌, ◌<◌}
 use native.Mathlib.Omega.{arith}
 use lib.ListN.{get_or, set}
 use lib.Dec.{eqb}
-use borrow.Author.Tests.{eqb-true, eqb-false}
 use Rattle.model.specs.Search.{bit}
 use Rattle.model.proofs.Digits.{BitCleared, clear-bit}
 use Rattle.simulation.specs.Places.{map_places, set_where}
 use Rattle.simulation.specs.Machine.{Machine, machine, Sized}
 use Rattle.simulation.proofs.Places.{each-length, each_at, each_none, each-still, each_more}
+use Rattle.simulation.proofs.Served.{by_place}
 use Rattle.simulation.proofs.Sets.{set-has, set-lt, set_past, set_is}
 use Rattle.simulation.specs.Jump.{elapsed}
 
@@ -50,14 +50,6 @@ passed_none k f m h e = λ i. record { left = left i; event = m.event; next = m.
 -- the same are
 pub passed-same : (k : ℕ) (f g : ℕ → Bool) (m : Machine) → ((p : ℕ) → f p ≡ g p) → elapsed k f m ≡ elapsed k g m
 passed-same k f g m e = ap (λ (h : ℕ → Bool). elapsed k h m) (fun_ext e)
-
--- a property of the test of a place, from its two cases
-by_place : (q p : ℕ) (P : Bool → Type 0) → (q ≡ p → P true) → ((q ≡ p → ⊥) → P false) → P (eqb q p)
-by_place q p P here away = go (eqb q p) refl
-  where
-    go : (x : Bool) → eqb q p ≡ x → P x
-    go true e = here (eqb-true q p e)
-    go false e = away (eqb-false q p e)
 
 -- g grants the places that f grants, and place p
 module _ (k : ℕ) (f g : ℕ → Bool) (m : Machine) (p : ℕ) (off : f p ≡ false) (on : g p ≡ true) (other : (q : ℕ) → (q ≡ p → ⊥) → g q ≡ f q) where

@@ -15,7 +15,7 @@ use Rattle.model.specs.Grants.{Claimant, claimants, grants, some}
 use Rattle.model.specs.Row.{byte_of, row}
 use Rattle.model.specs.Claims.{claims, task_claims, widths, grants_of, book_row, in_row}
 use Rattle.model.specs.Lists.{full}
-use Rattle.model.proofs.Bools.{not-false-true}
+use Rattle.std.proofs.lemmas.Bool.{true_from_ne_false}
 use Rattle.simulation.specs.Machine.{Machine, GrantedOwed}
 use Rattle.model.proofs.Runs.{full-tick, full-claimed, full-row}
 use Rattle.simulation.proofs.Place.{claims-owed, related-claims}
@@ -138,7 +138,7 @@ module _ (s : Table) (ok : AllValid s) (t : ℕ) (m : Machine) (h : Ready s t m)
     -- a place that is granted cores claims
     pub granted-claims : (p : ℕ) → in_row s (full s t) p ≡ true → bit m.claiming p ≡ true
     granted-claims p e =
-        not-false-true (bit m.claiming p)
+        true_from_ne_false (bit m.claiming p)
         (λ q. absurd (false≢true (sym (ap some (grants-none s.rule ws (bit m.claiming) (unfenced_cores s) p q)) ∙ (row-places p ∙ e))))
 
     -- so a set of places that are in the row are owed ticks

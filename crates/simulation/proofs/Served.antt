@@ -37,7 +37,7 @@ pub served-same : (f g : ℕ → Bool) (m : Machine) → ((p : ℕ) → f p ≡ 
 served-same f g m e = ap (λ (h : ℕ → Bool). worked_tick h m) (fun_ext e)
 
 -- a property of the test of a place, from its two cases
-by_place : (q p : ℕ) (P : Bool → Type 0) → (q ≡ p → P true) → ((q ≡ p → ⊥) → P false) → P (eqb q p)
+pub by_place : (q p : ℕ) (P : Bool → Type 0) → (q ≡ p → P true) → ((q ≡ p → ⊥) → P false) → P (eqb q p)
 by_place q p P here away = go (eqb q p) refl
   where
     go : (x : Bool) → eqb q p ≡ x → P x

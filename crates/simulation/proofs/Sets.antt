@@ -5,8 +5,9 @@ use Prim.Native.Nat.{ℕ, zero, suc, ◌+◌, ◌*◌, ◌/◌, ◌%◌, ◌^◌
 use native.Mathlib.Nat.{not-suc-le-zero, le_of_suc-le-suc, pow-suc}
 use native.Mathlib.Omega.{arith}
 use lib.Bits.{bit_and, bit_or, bit_xor, and_zero_l, or_lt, xor_self, xor_zero_r}
-use lib.Dec.{eqb}
+use lib.Dec.{eqb, ltb}
 use lib.Pow.{pow-lt}
+use borrow.Author.Tests.{lt-ltb}
 use Rattle.model.specs.Search.{bit}
 use Rattle.model.proofs.Bools.{or_comm}
 use Rattle.model.proofs.Digits.{bit-zero, bit-suc, bit_past, bit-power, and-bit, or-bit, xor-bit, same_digits}
@@ -46,6 +47,10 @@ set_past n f i h = bit_past n (set_where n f) i (set-lt n f) h
 -- a number below 2 ^ n is the set of its places
 pub set_is : (n x : ℕ) (f : ℕ → Bool) → x < 2 ^ n → ((i : ℕ) → i < n → bit x i ≡ f i) → x ≡ set_where n f
 set_is n x f h e = same_digits n x (set_where n f) h (set-lt n f) (λ i l. e i l ∙ sym (set-has n f i l))
+
+-- .. of all places at which the test holds
+pub set-of-all : (f : ℕ → Bool) (x : ℕ) → x < 2 ^ 32 → ((p : ℕ) → bit x p ≡ ltb p 32 && f p) → x ≡ set_where 32 f
+set-of-all f x h e = set_is 32 x f h (λ p l. e p ∙ ap (λ (b : Bool). b && f p) (lt-ltb p 32 l))
 
 -- a set with one place more
 pub set-with : (x p : ℕ) → x < 2 ^ 32 → p < 32 → bit_or x (2 ^ p) ≡ set_where 32 (λ q. eqb q p || bit x q)

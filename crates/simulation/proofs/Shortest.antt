@@ -9,7 +9,7 @@ use native.Mathlib.Omega.{arith}
 use lib.Dec.{eqb, leb}
 use lib.ListN.{get_or}
 use borrow.Author.Tests.{eqb-true, eqb-false, leb-true, leb-false, le-leb, lt-leb}
-use Rattle.model.proofs.Bools.{same_test}
+use Rattle.std.specs.Cmp.{both_ways}
 use Rattle.simulation.specs.Jump.{least_left}
 
 -- k is the least of `most` and of what is left at the granted places
@@ -84,7 +84,7 @@ upto_is zero f most left = shortest-none (up_to 0 f) most left (λ p. none (f p)
 upto_is (suc n) f most left = go (upto_is n f most left) (f n) refl
   where
     away : (q : ℕ) → (q ≡ n → ⊥) → up_to (suc n) f q ≡ up_to n f q
-    away q ne = ap (λ (b : Bool). f q && b) (same_test (leb (suc q) (suc n)) (leb (suc q) n)
+    away q ne = ap (λ (b : Bool). f q && b) (both_ways (leb (suc q) (suc n)) (leb (suc q) n)
         (λ e. le-leb (suc q) n (let h = leb-true (suc q) (suc n) e in omega arith))
         (λ e. le-leb (suc q) (suc n) (let h = leb-true (suc q) n e in omega arith)))
 

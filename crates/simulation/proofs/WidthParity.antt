@@ -12,6 +12,7 @@ use Rattle.model.specs.Search.{bit}
 use Rattle.model.specs.Task.{Task, Table, task, ValidTask, AllValid, release, width_of, newest}
 use Rattle.model.specs.Jobs.{Job}
 use Rattle.model.specs.Lists.{full}
+use Rattle.model.proofs.Jobs.{release-one}
 use Rattle.model.proofs.Runs.{full-claimed}
 use Rattle.rule.specs.Widths.{width_in}
 use Rattle.simulation.specs.Machine.{Machine, started, worked_tick}
@@ -51,13 +52,6 @@ width-known τ k e h = ap (λ (b : Bool). cond b τ.even_width τ.odd_width) h �
 neither : (i k : ℕ) → (i < k → ⊥) → (k < i → ⊥) → i ≡ k
 neither i k less more = omega arith
 
--- two jobs with one release are one
-same-release : (τ : Task) → ValidTask τ → (i k : ℕ) → release τ i ≡ release τ k → i ≡ k
-same-release τ ok i k e = neither i k (apart i k e) (apart k i (sym e))
-  where
-    apart : (a b : ℕ) → release τ a ≡ release τ b → a < b → ⊥
-    apart a b q l = omega (arith, release-order τ (suc a) b l, ok.deadline-pos, ok.constrained)
-
 unended : {j j' : Job} → j ≡ j' → j'.ended ≡ false → j.ended ≡ true → ⊥
 unended e f t = true≢false (sym t ∙ (ap (λ (j : Job). j.ended) e ∙ f))
 
@@ -84,7 +78,7 @@ parity-release τ n n' e q two at h = record {
 -- the mark of a place that works is right for its job
 pub parity-works : (τ : Task) → ValidTask τ → (handled_to : ℕ) (js : ℕ → Job) (l m n : ℕ) (e : Bool) (w : PlaceWorks τ handled_to js l m n) → WidthParity τ n e → e ≡ even_job τ w.number
 parity-works τ ok handled_to js l m n e w h =
-    let k : h.number ≡ suc w.number = same-release τ ok h.number (suc w.number) (sym h.following ∙ w.following) in
+    let k : h.number ≡ suc w.number = release-one τ ok h.number (suc w.number) (sym h.following ∙ w.following) in
     h.mark ∙ (ap (λ (i : ℕ). even_job τ (suc i)) k ∙ even-two τ w.number)
 
 -- over the due events of tick t

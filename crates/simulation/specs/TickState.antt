@@ -16,6 +16,7 @@ use Rattle.simulation.specs.Places.{segment, set_where, second, third}
 use Rattle.simulation.specs.Machine.{Machine, machine_of, started, released_due, earliest, GrantedOwed, worked_tick}
 use Rattle.simulation.specs.declared.machine.Registers.{Registers}
 use Rattle.simulation.specs.declared.columns.Setting.{Setting}
+use Rattle.simulation.specs.declared.columns.Columns.{Columns}
 
 -- the set of the places whose two widths differ
 unfoldable pub paired_in : List Task → ℕ
@@ -47,6 +48,10 @@ numbers_by x v times = record {
   deadlines = segment second times;
   periods = segment third times;
 }
+
+-- .. of the columns of a table
+abbrev pub numbers_of : Columns → Numbers
+numbers_of x = numbers_by x.setting x.widths x.times
 
 -- .. of a table that was loaded, place by place
 abbrev pub loaded_numbers : Loaded → Numbers

@@ -1,14 +1,15 @@
 // The table's numbers, place by place, as the machine is stepped with them.
 ghost use Rattle.std.specs.Prelude.{◌≡◌};
-ghost use Rattle.simulation.specs.TickState.{numbers_by, loaded_numbers, paired_in};
+ghost use Rattle.simulation.specs.TickState.{numbers_of, loaded_numbers, paired_in};
 
 use crate::TRIPLE;
 use model::MOST_TASKS;
+use model::sets::places_where;
 use rule::PAIR;
 use table::{Loaded, Task};
 
 // The constants of a run, beside the tasks: the rule, the number of cores, the fence, the number of tasks, and the set of the places with two widths.
-// The rule is a number, since a table of any rule has columns (`numbers_by`).
+// The rule is a number, since a table of any rule has columns (`numbers_of`).
 #[derive(Clone, Copy)]
 pub struct Setting {
     pub rule: u32,
@@ -20,7 +21,8 @@ pub struct Setting {
 
 // The numbers of a table that its run is stepped with; `widths` has the first of each place before the second, `times` has the lengths first,
 // then the deadlines, then the periods.
-// One array of widths and one of times, for speed: a width is one read (docs/DECISIONS.md, 'Widths in code').
+// One array of widths, since rule's public functions and `widths_in` (rule/specs/Widths) speak of one list.
+// One of times, as one of places beside it (`machine::Machine`): `release` copies from one to the other.
 #[derive(Clone, Copy)]
 pub struct Columns {
     pub setting: Setting,
@@ -32,18 +34,12 @@ pub struct Columns {
 pub fn paired_in(tasks: [Task; MOST_TASKS]) -> u32
     ensures { result ≡ paired_in tasks }
 {
-    let mut paired: u32 = 0;
-    for (i, task) in tasks.iter().enumerate() {
-        if task.width != task.second {
-            paired |= 1u32 << i;
-        }
-    }
-    paired
+    places_where(MOST_TASKS, |i| tasks[i].width != tasks[i].second)
 }
 
 // The numbers of a table, place by place.
 pub fn columns_of(table: Loaded) -> Columns
-    ensures { numbers_by result.setting result.widths result.times ≡ loaded_numbers table }
+    ensures { numbers_of result ≡ loaded_numbers table }
 {
     let mut widths = [0u32; PAIR];
     let mut times = [0u32; TRIPLE];

@@ -8,23 +8,19 @@ ghost use Rattle.simulation.specs.EventState.{due_at, earliest_of};
 ghost use Rattle.simulation.specs.Jump.{handled, handled_all};
 
 use crate::{EVENT, NEXT, TRIPLE};
-use model::sets::Members;
+use model::sets::{Members, places_where};
 
 // The set of those of the first `count` places whose event is this tick.
+// A count beside the places that are lent, as in `earliest`.
 pub(crate) fn due_places(tick: u32, count: usize, places: &[u32; TRIPLE]) -> u32
     requires { count ≤ most_tasks }
     ensures { result ≡ due_at tick count (segment second places.now) }
 {
-    let mut set: u32 = 0;
-    for i in 0..count {
-        if places[EVENT + i] == tick {
-            set |= 1u32 << i;
-        }
-    }
-    set
+    places_where(count, |i| places[EVENT + i] == tick)
 }
 
 // The same where the next event, the earliest event, is known: before it no place is due.
+// Not one with `due_places`, which the start calls before an event is known: one test before a call of it.
 pub(crate) fn due_by(tick: u32, event: u32, count: usize, places: &[u32; TRIPLE]) -> u32
     requires { count ≤ most_tasks }
     ensures { result ≡ cond (eqb tick event) (due_at tick count (segment second places.now)) 0 }
@@ -36,6 +32,8 @@ pub(crate) fn due_by(tick: u32, event: u32, count: usize, places: &[u32; TRIPLE]
 }
 
 // The earliest event of the first `count` places.
+// The count stands beside the places: their array has three numbers of each, and no slice of it is the first `count`
+// places.
 pub(crate) fn earliest(count: usize, places: &[u32; TRIPLE]) -> u32
     requires { count ≤ most_tasks }
     ensures { result ≡ earliest_of count (segment second places.now) }
@@ -48,6 +46,7 @@ pub(crate) fn earliest(count: usize, places: &[u32; TRIPLE]) -> u32
 }
 
 // Handles a place at its event, this tick, where no tick is left, and returns the set of claimants: its next job is released, or it waits for its next release.
+// It asks what `crate::release` asks, which is public.
 pub(crate) fn handle_event(
     place: usize,
     tick: u32,

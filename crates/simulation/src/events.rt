@@ -7,14 +7,14 @@ ghost use Rattle.table.specs.Fit.{Fit};
 ghost use Rattle.table.specs.declared.Loaded.{Loaded};
 ghost use Rattle.simulation.specs.Places.{segment};
 ghost use Rattle.simulation.specs.Machine.{machine_of};
-ghost use Rattle.simulation.specs.TickState.{numbers_by};
+ghost use Rattle.simulation.specs.TickState.{numbers_of};
 ghost use Rattle.simulation.specs.EventState.{event_state_of, initial_event_state};
 ghost use Rattle.simulation.specs.Jump.{least_left, GrantedOwe, elapsed, JumpStarts, JumpOf};
 
 use crate::TRIPLE;
-use crate::columns::Setting;
+use crate::columns::Columns;
+use crate::machine::Machine;
 use model::sets::Members;
-use rule::PAIR;
 use table::Loaded;
 
 // The state of a run: the next event, its earliest event; the set of the places whose event this tick is; the set of claimants; the claimants for which
@@ -31,16 +31,9 @@ pub struct Registers {
     pub even: u32,
 }
 
-// The run: its registers, and the three numbers of each place.
-// One array for three numbers of each place, for speed (docs/DECISIONS.md, 'The machine').
-#[derive(Clone, Copy)]
-pub struct Machine {
-    pub registers: Registers,
-    pub places: [u32; TRIPLE],
-}
-
 // The run before tick 0: no place claims or is granted cores, and each task waits for its first release, which turns it to its first width.
-pub fn start(table: Loaded) -> Machine
+// Made of the ticks' start: only the registers of the events are added.
+pub fn start(table: Loaded) -> Machine<Registers>
     requires { Fit table }
     ensures { event_state_of result.registers result.places ≡ initial_event_state table }
 {
@@ -51,17 +44,14 @@ pub fn start(table: Loaded) -> Machine
     let due = crate::due::due_places(0, table.count, &places);
     let registers = Registers {
         tick: 0,
-        event: event,
-        due: due,
+        event,
+        due,
         claiming: 0,
         chosen: 0,
         granted: 0,
-        even: even,
+        even,
     };
-    Machine {
-        registers: registers,
-        places: places,
-    }
+    Machine { registers, places }
 }
 
 // The least of `most` and of the ticks left of the granted places.
@@ -76,6 +66,9 @@ fn shortest(granted: u32, most: u32, places: &[u32; TRIPLE]) -> u32
 }
 
 // This number of ticks of the granted places; returns the set of those that still claim after them.
+// Claimants by value beside the places that are lent, for speed (docs/DECISIONS.md, 'The machine').
+// In the clause they are one value (`machine_of`).
+// Not one with `ticks::work`, which at an end moves the event too.
 fn elapse(ticks: u32, granted: u32, claiming: u32, places: &mut [u32; TRIPLE]) -> u32
     requires { GrantedOwe ticks (bit granted) (machine_of places.old claiming) }
     ensures { machine_of places.new result ≡ elapsed ticks (bit granted) (machine_of places.old claiming) }
@@ -93,23 +86,18 @@ fn elapse(ticks: u32, granted: u32, claiming: u32, places: &mut [u32; TRIPLE]) -
 
 // A jump from a tick at which no job is late to the least event after it: the due places are handled, and a released place turns to its other width; the
 // choice is made where the claimants or their widths have changed; the ticks up to the next event or to the first end of a job that has cores pass.
-pub fn jump(
-    setting: Setting,
-    widths: &[u32; PAIR],
-    times: &[u32; TRIPLE],
-    registers: Registers,
-    places: &mut [u32; TRIPLE],
-) -> Registers
-    requires { (t : Loaded) × JumpStarts t (numbers_by setting widths.now times.now) (event_state_of registers places.old) }
-    ensures { JumpOf (numbers_by setting widths.now times.now)
-        (event_state_of registers places.old) (event_state_of result places.new) }
+// Not one with `ticks::step`: a jump passes up to the next event and keeps the due places. Only the choice is alike.
+pub fn jump(columns: &Columns, registers: Registers, places: &mut [u32; TRIPLE]) -> Registers
+    requires { (t : Loaded) × JumpStarts t (numbers_of columns.now) (event_state_of registers places.old) }
+    ensures { JumpOf (numbers_of columns.now) (event_state_of registers places.old) (event_state_of result places.new) }
 {
+    let setting = columns.setting;
     let tick = registers.tick;
     let mut claiming = registers.claiming;
     let mut event = registers.event;
     let mut even = registers.even;
     if 0 < registers.due {
-        claiming = crate::due::handle_due(tick, registers.due, claiming, times, places);
+        claiming = crate::due::handle_due(tick, registers.due, claiming, &columns.times, places);
         event = crate::due::earliest(setting.count, places);
         even ^= (claiming ^ registers.claiming) & setting.paired;
     }
@@ -117,7 +105,7 @@ pub fn jump(
     let mut granted = registers.granted;
     if (claiming != chosen) | (even != registers.even) {
         let free = cores::unfenced_cores(setting.cores, setting.fence);
-        granted = rule::choose(setting.rule, free, claiming, even, widths);
+        granted = rule::choose(setting.rule, free, claiming, even, &columns.widths);
         chosen = claiming;
     }
     let ticks = shortest(granted, event - tick, places);
@@ -125,11 +113,11 @@ pub fn jump(
     let landed = tick + ticks;
     Registers {
         tick: landed,
-        event: event,
+        event,
         due: crate::due::due_by(landed, event, setting.count, places),
         claiming: after,
-        chosen: chosen,
-        granted: granted,
-        even: even,
+        chosen,
+        granted,
+        even,
     }
 }

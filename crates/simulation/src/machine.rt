@@ -19,16 +19,19 @@ pub struct Registers {
     pub even: u32,
 }
 
-// The machine: its registers, and the three numbers of each place.
-// One array for three numbers of each place, for speed (docs/DECISIONS.md, 'The machine').
+// The machine, by ticks or by events: its registers, and the three numbers of each place.
+// One array for three numbers of each place, for speed: with 32 structs of three numbers the heavy tables of
+// bench/tables.py took 1.17 times as long by ticks and 1.32 times by events (the same text compiled as Rust,
+// alternating in one run, processor time, least of three).
 #[derive(Clone, Copy)]
-pub struct Machine {
-    pub registers: Registers,
+pub struct Machine<R> {
+    pub registers: R,
     pub places: [u32; TRIPLE],
 }
 
 // The machine before tick 0: no place claims or is granted cores, and each task waits for its first release, which turns it to its first width.
-pub fn start(table: Loaded) -> Machine
+// The events' start is made of this one, and adds the two registers that differ.
+pub fn start(table: Loaded) -> Machine<Registers>
     ensures { (tick_state_of result.registers result.places ≡ initial_tick_state table) × (length result.places ≡ triple) }
 {
     let mut places = [0u32; TRIPLE];

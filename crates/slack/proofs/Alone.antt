@@ -8,7 +8,8 @@ use native.Mathlib.Nat.{add-suc}
 use native.Mathlib.Omega.{arith}
 use lib.Dec.{eqb, ltb}
 use borrow.Author.Tests.{ltb-false, ltb-true}
-use Rattle.model.proofs.Bools.{and_both, not-true-false}
+use Rattle.model.proofs.Bools.{and_both}
+use Rattle.std.proofs.lemmas.Bool.{false_from_ne_true}
 use Rattle.model.proofs.Examples.{on, t}
 use Rattle.model.proofs.Grants.{runs-if}
 use Rattle.model.proofs.Jobs.{claims-if, mk, newest-is, next, next-ended}
@@ -84,7 +85,7 @@ module _ (m f : ℕ) (r : Rule) (τ : Task) (ok : ValidTask τ) (fits : (k : ℕ
       more before o =
           let after : (next τ.length false (served s (full s n) 0 k) j).ended ≡ false = subst (λ (i : Job). i.ended ≡ false) (full-next s n 0 k) o in
           let open' : j.ended ≡ false =
-          not-true-false j.ended (λ d. true≢false (sym (next-ended τ.length false (served s (full s n) 0 k) j d).0 ∙ after)) in
+          false_from_ne_true j.ended (λ d. true≢false (sym (next-ended τ.length false (served s (full s n) 0 k) j d).0 ∙ after)) in
           let runs = runs-there n k (omega arith) (omega arith) open' in
           let one : ((full s (suc n)).job 0 k).had ≡ suc j.had =
           ap (λ (i : Job). i.had) (full-next s n 0 k)

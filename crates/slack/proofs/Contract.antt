@@ -7,6 +7,7 @@ use native.Mathlib.Nat.{le_trans}
 use native.Mathlib.Omega.{arith}
 use lib.ListN.{get_or, length}
 use Rattle.model.proofs.Lists.{get_d-zeros}
+use Rattle.model.proofs.Refusals.{taken_refused}
 use Rattle.model.specs.Refusals as book
 use Rattle.model.specs.Lists.{NeverMissed}
 use Rattle.model.specs.Task.{AllValid, Table, task}
@@ -36,9 +37,6 @@ use Rattle.slack.proofs.GrownWords.{every-growth}
 use Rattle.slack.proofs.Listed.{figures-at, figures-length, figures-past}
 use Rattle.slack.proofs.Ordered.{gives-exact, ordered_words}
 use Rattle.slack.proofs.Figure.{slack-exact, slack-largest}
-
-taken_refused : {n p : ℕ} → book.taken ≡ book.refused n p → ⊥
-taken_refused e = let z : ◌≡◌ {A = ℕ} 0 1 = cc in omega arith
 
 module _ (ws : List ℕ) where
   abbrev s : Table

@@ -8,7 +8,7 @@ use native.Mathlib.Omega.{arith}
 use lib.Dec.{ltb}
 use lib.ListN.{length}
 use borrow.Author.Tests.{ltb-false, ltb-true}
-use Rattle.model.proofs.Bools.{not-false-true}
+use Rattle.std.proofs.lemmas.Bool.{true_from_ne_false}
 use Rattle.model.proofs.Search.{least-found, least-lowest, least-most}
 use Rattle.model.specs.Lists.{Missed, NeverMissed}
 use Rattle.model.specs.Search.{least}
@@ -40,7 +40,7 @@ module _ (s : Table) (ok : AllValid s) (p : ℕ) (l : p < length s.tasks) where
 
   pub past-deadline : (g : ℕ) → (task s p).deadline < (task s p).length + g → misses (grown s p g) ≡ true
   past-deadline g h =
-      not-false-true (misses (grown s p g))
+      true_from_ne_false (misses (grown s p g))
       (λ e. omega (arith, grown-within g (misses-never (grown s p g) (valid-grown s ok p g) e)))
 
   module _ (nm : NeverMissed s) (short : (task s p).deadline ≤ most_time) where

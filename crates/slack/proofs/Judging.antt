@@ -2,10 +2,10 @@
 use mathlib.Core.Bool.{Bool, cond, false, true}
 use mathlib.Core.List.{List}
 use mathlib.Core.Path.{◌≡◌, refl, subst, sym, ◌∙◌}
-use Prim.Native.Nat.{ℕ, suc, ◌+◌}
+use Prim.Native.Nat.{ℕ, suc, ◌+◌, ◌≤◌}
 use native.Mathlib.Omega.{arith}
 use lib.Dec.{eqb}
-use borrow.Author.Tests.{ne_eqb}
+use borrow.Author.Tests.{eqb-true, eqb-false, ne_eqb}
 use Rattle.model.specs.Firm.{firm}
 use Rattle.model.specs.Horizon.{horizon}
 use Rattle.model.specs.Task.{Task, greedy, limited, rule_of}
@@ -33,13 +33,13 @@ found-misses t fit m u v e = go u (subst (λ (b : ℕ). missed_before (loaded_ta
     go (At a b) q = sym (one_found (loaded_table t) (suc (horizon (loaded_table t))) a b q)
 
 -- by the rule's number: not for 3 and 4, and for any other where it is firm
-pub ordered-three : (τs : List Task) → ordered (rule_of 3) τs ≡ false
+pub ordered-none : (n : ℕ) (τs : List Task) → 3 ≤ n → n ≤ 4 → false ≡ ordered (rule_of n) τs
 unfolding ordered
-ordered-three τs = refl
-
-pub ordered-four : (τs : List Task) → ordered (rule_of 4) τs ≡ false
-unfolding ordered
-ordered-four τs = refl
+ordered-none n τs low high = go (eqb n 3) refl
+  where
+    go : (a : Bool) → eqb n 3 ≡ a → false ≡ ordered (rule_of n) τs
+    go true e = rw (eqb-true n 3 e) refl
+    go false e = let x = eqb-false n 3 e in let four : n ≡ 4 = omega arith in rw four refl
 
 pub ordered-firm : (n : ℕ) (τs : List Task) → ¬ (n ≡ 3) → ¬ (n ≡ 4) → ordered (rule_of n) τs ≡ firm (rule_of n) τs
 unfolding ordered firm

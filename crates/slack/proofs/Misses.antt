@@ -5,7 +5,7 @@ use mathlib.Core.Path.{sym, ◌∙◌, ◌≡◌}
 use Prim.Native.Nat.{◌<◌, suc, suc-le-suc, ℕ, ◌≤◌}
 use native.Mathlib.Omega.{arith}
 use lib.ListN.{length}
-use Rattle.model.proofs.Bools.{not-false-true, not-true-false}
+use Rattle.std.proofs.lemmas.Bool.{false_from_ne_true, true_from_ne_false}
 use Rattle.model.proofs.Faithful.{missed-in-exact}
 use Rattle.model.proofs.FullLength.{long-misses}
 use Rattle.model.proofs.Horizon.{horizon-enough}
@@ -32,11 +32,11 @@ module _ (s : Table) (ok : AllValid s) where
       (y.0, x.0, y.1)
 
   pub never-misses : NeverMissed s → misses s ≡ false
-  never-misses nm = not-true-false (misses s) (λ e. let x = misses-some e in nm x.0 x.1 x.2)
+  never-misses nm = false_from_ne_true (misses s) (λ e. let x = misses-some e in nm x.0 x.1 x.2)
 
   -- THEOREM: the test is true exactly if some deadline is ever missed
   pub misses-exact : (misses s ≡ true) ↔ ((p t : ℕ) × Missed s p t)
-  misses-exact = (misses-some, λ x. not-false-true (misses s) (λ e. misses-never e x.0 x.1 x.2))
+  misses-exact = (misses-some, λ x. true_from_ne_false (misses s) (λ e. misses-never e x.0 x.1 x.2))
 
 -- a table that never misses has each length within its deadline
 pub within-deadline : (s : Table) → NeverMissed s → (p : ℕ) → p < length s.tasks → (task s p).length ≤ (task s p).deadline

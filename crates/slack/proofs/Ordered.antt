@@ -2,7 +2,7 @@
 use mathlib.Core.Bool.{false, false≢true, not, true}
 use mathlib.Core.List.{List}
 use mathlib.Core.Logic.{◌↔◌, inl, inr}
-use mathlib.Core.Path.{ap, refl, subst, sym, ◌∙◌, ◌≡◌}
+use mathlib.Core.Path.{refl, subst, sym, ◌∙◌, ◌≡◌}
 use Prim.Native.Nat.{ℕ, suc, zero, ◌≤◌}
 use native.Mathlib.Omega.{arith}
 use borrow.Author.Tests.{not-true}
@@ -10,7 +10,7 @@ use Rattle.model.proofs.Bools.{and_both, and_left, and_right}
 use Rattle.model.proofs.Verdict.{monotonic-exact}
 use Rattle.model.specs.Lists.{NeverMissed}
 use Rattle.model.specs.Task.{AllValid, Rule, Table, greedy, idling, lending, limited, rule_of}
-use Rattle.table.proofs.Passed.{passed-rule}
+use Rattle.table.proofs.Passed.{passed-rule, rule-of}
 use Rattle.table.specs.Numbers.{NoneApplies}
 use Rattle.table.specs.Words.{rule, table_of}
 use Rattle.slack.specs.Answer.{has_slack}
@@ -54,10 +54,6 @@ unfolding has_slack
 gives-never s e = rw e
 
 -- BY THE RULE'S NUMBER
-
-rule-of : (ws : List ℕ) (n : ℕ) → rule ws ≡ n → (table_of ws).rule ≡ rule_of n
-unfolding table_of
-rule-of ws n e = ap rule_of e
 
 pub ordered_words : (ws : List ℕ) → NoneApplies ws → Ordered (table_of ws) ↔ OrderedWords ws
 ordered_words ws none = (by_number (rule ws) refl (passed-rule ws none).0 (passed-rule ws none).1, found)

@@ -1,69 +1,62 @@
 // A table that passed, with the C of one task grown: whether it misses, and how far one task may grow.
 ghost use Rattle.std.specs.Prelude.{true, ◌≡◌, ◌+◌, ◌≤◌, ◌<◌};
-ghost use Rattle.model.specs.Sizes.{most_tasks};
-ghost use Rattle.model.specs.Task.{rule_of, task};
+ghost use Rattle.model.specs.Task.{task};
 ghost use Rattle.table.specs.Limits.{most_time};
-ghost use Rattle.table.specs.Task.{tasks_of};
-ghost use Rattle.table.specs.Fit.{loaded_table, Fit};
+ghost use Rattle.table.specs.Fit.{loaded_table};
 ghost use Rattle.slack.specs.Answer.{slack_in, has_slack};
 ghost use Rattle.slack.specs.Longer.{grown};
 ghost use Rattle.slack.specs.Ordered.{ordered};
 ghost use Rattle.slack.specs.Slack.{misses, slack};
 
 use model::MOST_TASKS;
-use table::{Loaded, Task};
+use table::Fitting;
 
 // Whether a deadline is missed.
-fn misses(table: Loaded) -> bool
-    requires { Fit table }
-    ensures { result ≡ misses (loaded_table table) }
+fn misses(table: Fitting) -> bool
+    ensures { result ≡ misses (loaded_table table.loaded) }
 {
-    judge::fastest::first_miss(table, table.horizon + 1).is_some()
+    judge::fastest::first_miss(table.loaded, table.loaded.horizon + 1).is_some()
 }
 
 // Whether a deadline is missed with the task at a place longer by `growth` ticks.
-fn misses_longer(table: Loaded, place: usize, growth: u32) -> bool
-    requires { Fit table × (place < table.count) × ((task (loaded_table table) place).length + growth ≤ most_time) }
-    ensures { result ≡ misses (grown (loaded_table table) place growth) }
+// The place is a number: a task by reference would not say which one of the table grows.
+fn misses_longer(table: Fitting, place: usize, growth: u32) -> bool
+    requires { (place < table.loaded.count) × ((task (loaded_table table.loaded) place).length + growth ≤ most_time) }
+    ensures { result ≡ misses (grown (loaded_table table.loaded) place growth) }
 {
-    let mut longer = table;
+    let mut longer = table.loaded;
     longer.tasks[place].length += growth;
-    misses(longer)
+    misses(Fitting { loaded: longer })
 }
 
 // Whether the rule and the widths are those that slack is given for.
-fn is_ordered(rule: u32, tasks: [Task; MOST_TASKS], count: usize) -> bool
-    requires { count ≤ most_tasks }
-    ensures { result ≡ ordered (rule_of rule) (tasks_of tasks count) }
+// The rule is a number, as the table has it.
+// No plainer with an enum: the rule comes as the number that public functions take; it would be made for this test.
+fn is_ordered(table: Fitting) -> bool
+    ensures { result ≡ ordered (loaded_table table.loaded).rule (loaded_table table.loaded).tasks }
 {
-    if rule == 3 {
-        return false;
+    let loaded = &table.loaded;
+    match loaded.rule {
+        3 | 4 => false,
+        _ => judge::is_firm(loaded.rule, &loaded.tasks[..loaded.count]),
     }
-    if rule == 4 {
-        return false;
-    }
-    judge::is_firm(rule, tasks, count)
 }
 
 // Whether slack is given for a table: it is so ordered, and accepted.
-pub(crate) fn is_given(table: Loaded) -> bool
-    requires { Fit table }
-    ensures { result ≡ has_slack (loaded_table table) }
+pub(crate) fn is_given(table: Fitting) -> bool
+    ensures { result ≡ has_slack (loaded_table table.loaded) }
 {
-    let tasks = table.tasks;
-    if is_ordered(table.rule, tasks, table.count) {
-        return !misses(table);
-    }
-    false
+    is_ordered(table) && !misses(table)
 }
 
 // The slack of the task at a place: bisection between a growth that fits and one that misses, from none and from one past the deadline.
 // A bisection by hand: the library's is over a slice, and here a number is sought.
-fn slack_at(table: Loaded, place: usize) -> u32
-    requires { Fit table × (place < table.count) × (has_slack (loaded_table table) ≡ true) }
-    ensures { result ≡ slack (loaded_table table) place }
+// Not one bisection with that of `interference`, which asks at the middle of another range.
+fn slack_at(table: Fitting, place: usize) -> u32
+    requires { (place < table.loaded.count) × (has_slack (loaded_table table.loaded) ≡ true) }
+    ensures { result ≡ slack (loaded_table table.loaded) place }
 {
-    let task = table.tasks[place];
+    let task = table.loaded.tasks[place];
     let mut fits: u32 = 0;
     let mut late = task.deadline - task.length + 1;
     while fits + 1 < late {
@@ -78,12 +71,12 @@ fn slack_at(table: Loaded, place: usize) -> u32
 }
 
 // The slack of each task, and zeros past the count.
-pub(crate) fn figures(table: Loaded) -> [u32; MOST_TASKS]
-    requires { Fit table × (has_slack (loaded_table table) ≡ true) }
-    ensures { result ≡ slack_in (loaded_table table) }
+pub(crate) fn figures(table: Fitting) -> [u32; MOST_TASKS]
+    requires { has_slack (loaded_table table.loaded) ≡ true }
+    ensures { result ≡ slack_in (loaded_table table.loaded) }
 {
     let mut figures = [0u32; MOST_TASKS];
-    for place in 0..table.count {
+    for place in 0..table.loaded.count {
         figures[place] = slack_at(table, place);
     }
     figures

@@ -4,6 +4,7 @@
 ghost use Rattle.slack.specs.Answer.{SlackOf, answered};
 
 use model::{MOST_TASKS, Refusal};
+use table::Fitting;
 
 mod growth; // growth.rt: a table with one task longer, and the slack of a task
 
@@ -12,7 +13,7 @@ mod growth; // growth.rt: a table with one task longer, and the slack of a task
 pub fn slack(words: &[u32]) -> Result<[u32; MOST_TASKS], Refusal>
     ensures { SlackOf words.now (answered result) }
 {
-    let table = table::load(words)?;
+    let table = Fitting::load(words)?;
     if growth::is_given(table) {
         Ok(growth::figures(table))
     } else {

@@ -9,16 +9,13 @@ use lib.ListN.{length, take, drop, drop_of_length-le, length-drop, take-append-d
 use lib.Seq.{drop-cons, drop-drop, take_all}
 use lib.Dec.{leb, ltb}
 use borrow.Author.Tests.{leb-true, leb-false, ltb-true, ltb-false}
+use Rattle.std.proofs.lemmas.List.{nil_from_length}
 use Rattle.text.specs.Format.{newline}
 use Rattle.text.specs.Input.{line_length}
 use Rattle.text.proofs.Lines.{line-split, line-stop, line-within}
 use Rattle.splitter.specs.Split.{InputEnd, nothing, unknown, lines_from}
 use Rattle.splitter.specs.Parts.{Comes, ends, OneLine, LineOf}
 use Rattle.splitter.proofs.Splits.{lines-last, lines-line, lines_more, lines_none}
-
-pub empty_of : (l : List ℕ) → length l ≡ 0 → l ≡ []
-empty_of [] e = refl
-empty_of (b ∷ l) e = absurd (omega (arith, e))
 
 -- a text from a place on, where its line has ended: the line, its newline, and the text after it
 pub line-here :
@@ -72,7 +69,7 @@ module _ (bs : List ℕ) (end most : ℕ) (ended : Bool) (q : end ≡ 0 + line_l
   last_line h n nothing (_ ∷ _) c = elim c [ ]
   last_line h n unknown more c = elim c [ ]
 
-  pub line-left : end ≡ length bs → LineOf bs most ended (record { whole = (ended && ltb 0 end) || leb most end; end = end; next = end })
+  line-left : end ≡ length bs → LineOf bs most ended (record { whole = (ended && ltb 0 end) || leb most end; end = end; next = end })
   line-left h = record {
     end = end-within;
     next = end-within;
@@ -103,6 +100,13 @@ module _ (bs : List ℕ) (end most : ℕ) (ended : Bool) (q : end ≡ 0 + line_l
           → (length bs < most) × OneLine bs × (ended ≡ true → bs ≡ [])
       waits true x true y u z w = absurd (true≢false w)
       waits true x false y true z w = absurd (true≢false w)
-      waits true x false y false z w = (short z, one_line h, λ _. empty_of bs (omega (arith, h, ltb-false 0 end y)))
+      waits true x false y false z w = (short z, one_line h, λ _. nil_from_length bs (omega (arith, h, ltb-false 0 end y)))
       waits false x t y true z w = absurd (true≢false w)
       waits false x t y false z w = (short z, one_line h, λ v. absurd (false≢true (sym x ∙ v)))
+
+  -- .. and it is handed on, or it waits
+  pub line-whole : end ≡ length bs → ((ended && ltb 0 end) || leb most end) ≡ true → LineOf bs most ended (record { whole = true; end = end; next = end })
+  line-whole h e = subst (λ (b : Bool). LineOf bs most ended (record { whole = b; end = end; next = end })) e (line-left h)
+
+  pub line-waits : end ≡ length bs → ((ended && ltb 0 end) || leb most end) ≡ false → LineOf bs most ended (record { whole = false; end = length bs; next = length bs })
+  line-waits h e = subst (LineOf bs most ended) (λ i. record { whole = e i; end = h i; next = h i }) (line-left h)

@@ -12,15 +12,10 @@ use borrow.Author.Tests.{leb-true, leb-false}
 use Rattle.text.specs.Format.{newline}
 use Rattle.text.specs.Input.{line_length}
 use Rattle.text.proofs.Lines.{line-stop, line-within, mark-none}
-use Rattle.splitter.specs.declared.Part.{Part}
 use Rattle.splitter.specs.Split.{too_many, InputEnd, nothing, unknown, lines_from, is_dashes, closed, growing, unclosed, split_from, split, TooLong}
-use Rattle.splitter.specs.Parts.{Comes, ends, SplitInto, TableOf, unclosed_part}
+use Rattle.splitter.specs.Parts.{Part, Comes, ends, SplitInto, TableOf, unclosed_part}
 use Rattle.splitter.proofs.Splits.{split-more, split-dashes, split-line, split-end, split-long, lines_none}
 use Rattle.splitter.proofs.Lines.{line-here}
-
--- all that states from a place on
-pub part-rest : (bs : List ℕ) (from : ℕ) → take (length bs - from) (drop from bs) ≡ drop from bs
-part-rest bs from = take_all (length bs - from) (drop from bs) (omega (arith, length-drop from bs))
 
 -- the bytes up to a place, a line and its newline are the bytes up to the next place
 table-next :

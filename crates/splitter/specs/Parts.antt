@@ -1,8 +1,19 @@
 -- The parts of an input that are handed on: the table's text, and then each line.
-use Rattle.std.specs.Prelude.{Bool, false, true, ◌&&◌, ◌||◌, cond, List, [], ◌∷◌, ◌++◌, ◌⊎◌, ◌≡◌, ℕ, ◌<◌, ◌≤◌, length, take, drop, leb}
+use Rattle.std.specs.Prelude.{Option, Some, None, Bool, false, true, ◌&&◌, ◌||◌, cond, List, [], ◌∷◌, ◌++◌, ◌⊎◌, ◌≡◌, ℕ, ◌<◌, ◌≤◌, length, take, drop, leb}
 use Rattle.text.specs.Format.{most_bytes}
-use Rattle.splitter.specs.declared.Part.{Part}
+use Rattle.splitter.specs.declared.Part as code
 use Rattle.splitter.specs.Split.{too_many, InputEnd, nothing, unknown, lines_from, is_dashes, Split, closed, growing, split, TooLong}
+
+-- a part of the bytes: whether it is at their front, where it ends, and where what comes after it begins
+pub record Part : Type 0 where
+  pub whole : Bool
+  pub end : ℕ
+  pub next : ℕ
+
+-- as code returns it: where there is none yet, all bytes are looked at
+abbrev pub part_in : List ℕ → Option code.Part → Part
+part_in bytes (Some p) = record { whole = true; end = p.end; next = p.next }
+part_in bytes None = record { whole = false; end = length bytes; next = length bytes }
 
 -- what may come after some bytes: where the input has ended nothing, and else any bytes
 pub data Comes : Bool → InputEnd → List ℕ → Type 0 where

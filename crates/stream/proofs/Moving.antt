@@ -2,25 +2,20 @@
 -- Assumes nothing.
 use mathlib.Core.Bool.{true, false, false≢true}
 use mathlib.Core.List.{List, [], ◌++◌}
-use mathlib.Core.Path.{◌≡◌, refl, sym, ap, ◌∙◌}
-use Prim.Native.Nat.{ℕ, ◌+◌, ◌-◌, ◌≤◌, ◌<◌}
+use mathlib.Core.Path.{◌≡◌, refl, sym, ap, subst, ◌∙◌}
+use Prim.Native.Nat.{ℕ, ◌+◌}
 use native.Mathlib.Omega.{arith}
 use lib.ListN.{length, take, length-append}
 use lib.Seq.{take-take}
-use borrow.Rule.Slice.PartMut.{put_mid, take_put}
-use Rattle.stream.specs.declared.Reading.{Reading}
-use Rattle.stream.specs.declared.Sent.{Sent}
-use Rattle.stream.specs.Reading.{ReadAfter}
-use Rattle.stream.specs.Sent.{saturated, SentOf}
+use Rattle.std.specs.Prelude.{Result, Ok, Err}
+use Rattle.std.specs.Result.{IsErr, IsErrAnd}
+use Rattle.std.proofs.lemmas.Result.{err_from_is_err_and}
+use Rattle.stream.specs.declared.Cut.{Cut}
+use Rattle.stream.specs.declared.Filled.{Filled}
+use Rattle.stream.specs.Reading.{Reading, ReadAfter, ReadOnceOf, FilledOf, read_once, filled}
+use Rattle.stream.specs.Sent.{saturated, Sent, SentOf, sent_of}
 
 -- READING
-
--- what is before the part that is lent to a read is as it was
-pub part-behind :
-    (held : ℕ) (before part : List ℕ) (r : Reading) → held ≤ length before → length (put_mid held (length before - held) before part) ≡ length before
-    → held ≤ r.held → r.held ≤ length before → ReadAfter held before (put_mid held (length before - held) before part) r
-part-behind held before part r h same least most =
-    record { kept = take_put held (length before - held) before part h; same = same; least = least; most = most }
 
 -- a read after the bytes of others
 pub behind-on :
@@ -33,10 +28,39 @@ behind-on {held} {before} {middle} {after} {r} {s} p q = record {
   most = omega (arith, p.same, q.most);
 }
 
+-- a buffer after reads that held so many bytes at last, and one more
+module _ {E : Type 0} (held end : ℕ) (before middle after : List ℕ) (so-far : ReadAfter held before middle (record { held = end; ended = false; failed = false }))
+    (read : Result ℕ E) (h : ReadOnceOf end middle after (read_once end read)) where
+  -- it gave bytes, or the input has ended
+  pub read-on : (n : ℕ) → read ≡ Ok n → ReadAfter held before after (record { held = n; ended = false; failed = false })
+  read-on n is =
+      let p = behind-on so-far (subst (λ (x : Result ℕ E). ReadAfter end middle after (read_once end x)) is h.behind) in
+      record { kept = p.kept; same = p.same; least = p.least; most = p.most }
+
+  -- the input has ended
+  pub read-all : (n : ℕ) → read ≡ Ok n → n ≡ end → FilledOf held before after (record { held = end; ended = true; failed = false })
+  read-all n is e =
+      let p = read-on n is in
+      record {
+        behind = record { kept = p.kept; same = p.same; least = so-far.least; most = so-far.most };
+        full = λ f _. absurd (false≢true (sym f));
+      }
+
+  -- it failed
+  pub read-failed : {D : Type 0} (e : E) → read ≡ Err e → (r : Result Filled D) → IsErr r → FilledOf held before after (filled held r)
+  read-failed e is (Ok n) k = absurd (false≢true k)
+  read-failed e is (Err d) k =
+      let p = behind-on so-far (subst (λ (x : Result ℕ E). ReadAfter end middle after (read_once end x)) is h.behind) in
+      record {
+        behind = record { kept = p.kept; same = p.same; least = omega arith; most = omega (arith, so-far.least, so-far.most) };
+        full = λ _ well. absurd (false≢true (sym well));
+      }
+
 -- WRITING
 
-pub sent-part : (n k count : ℕ) (bytes : List ℕ) → k < length bytes → count ≡ saturated (n + k) → SentOf n bytes (record { count = count; whole = false })
-sent-part n k count bytes h e = record { all = λ w. absurd (false≢true w); part = λ w. (k, h, e) }
+-- what the exit of a `?` returns where writes did not take all
+pub cut-sent : (r : Result ℕ Cut) (e : Cut) → IsErrAnd r (λ x. x ≡ e) → sent_of r ≡ record { count = e.0; whole = false }
+cut-sent r e h = let (x, is, same) = err_from_is_err_and {Q = λ x. x ≡ e} r h in ap sent_of (is ∙ ap Err same)
 
 pub sent-all : (n k count : ℕ) (bytes : List ℕ) → k ≡ length bytes → count ≡ saturated (n + k) → SentOf n bytes (record { count = count; whole = true })
 sent-all n k count bytes h e = record { all = λ w. e ∙ ap (λ (m : ℕ). saturated (n + m)) h; part = λ w. absurd (false≢true (sym w)) }

@@ -2,3 +2,4 @@
 pub mod Reading
 pub mod Sent
 pub mod Answered
+pub mod Received

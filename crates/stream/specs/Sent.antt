@@ -1,8 +1,18 @@
 -- The number of bytes passed to writes that took them.
-use Rattle.std.specs.Prelude.{true, false, List, [], ◌∷◌, ◌++◌, ◌≡◌, ℕ, ◌+◌, ◌<◌, min, length}
+use Rattle.std.specs.Prelude.{Bool, true, false, Result, Ok, Err, List, [], ◌∷◌, ◌++◌, ◌≡◌, ℕ, ◌+◌, ◌<◌, min, length}
 use Prim.Native.Char.{code}
 use Prim.Native.String.{String}
-use Rattle.stream.specs.declared.Sent.{Sent}
+use Rattle.stream.specs.declared.Cut.{Cut}
+
+-- the number of bytes that writes have taken, and whether they took all that they were last passed
+pub record Sent : Type 0 where
+  pub count : ℕ
+  pub whole : Bool
+
+-- as code returns it
+abbrev pub sent_of : Result ℕ Cut → Sent
+sent_of (Ok n) = record { count = n; whole = true }
+sent_of (Err e) = record { count = e.0; whole = false }
 
 -- a count that stops at the largest number that it can be
 abbrev pub saturated : ℕ → ℕ

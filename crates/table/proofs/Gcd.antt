@@ -27,7 +27,7 @@ same_end a b x y s e =
     let both = s.back x (dvd_refl x) (subst⁻¹ (λ (n : ℕ). x ∣ n) e (dvd-zero x)) in
     record { left = both.0; right = both.1; greatest = λ d p q. (s.kept d p q).0 }
 
--- there is one greatest common divisor
+-- a law of the definition, which nothing cites: there is one greatest common divisor
 pub gcd-unique : (a b g h : ℕ) → Gcd a b g → Gcd a b h → g ≡ h
 gcd-unique a b g h p q = dvd_antisymm (q.greatest g p.left p.right) (p.greatest h q.left q.right)
 

@@ -6,6 +6,7 @@ pub mod Pigeonhole
 pub mod Walk
 pub mod Tasks
 pub mod Places
+pub mod Records
 pub mod FirstOut
 pub mod Order
 pub mod Exact

@@ -1,18 +1,18 @@
 -- What code gives at each stage of `load` is the value by the definitions.
 use mathlib.Core.Path.{◌≡◌, refl, sym, ap, ◌∙◌}
-use mathlib.Core.Bool.{Bool, cond, true, false, true≢false as true-false}
+use mathlib.Core.Bool.{Bool, cond, true, false}
 use mathlib.Core.List.{List, [], ◌∷◌, map}
-use lib.Dec.{eqb}
-use Prim.Native.Nat.{ℕ, suc, ◌+◌, ◌-◌, min, ◌≤◌, ◌<◌}
+use lib.Dec.{eqb, ltb}
+use Prim.Native.Nat.{ℕ, ◌+◌, ◌-◌, min, ◌≤◌, ◌<◌}
 use native.Mathlib.Omega.{arith}
 use lib.ListN.{length, get_or, drop, replicate, length-map}
 use lib.Seq.{take_at, drop_at}
-use borrow.Author.Tests.{eqb-true, eqb-false, ne_eqb, lt-ltb, le-ltb, ltb-false}
+use borrow.Author.Tests.{eqb-true, eqb-false, ne_eqb, ltb-false}
 use Rattle.model.specs.Task as model
 use Rattle.model.specs.Horizon.{last_s, hyperperiod, horizon}
 use Rattle.model.specs.Sizes.{most_tasks}
 use Rattle.table.specs.declared.Task.{Task}
-use Rattle.table.specs.Answer.{Passed}
+use Rattle.table.specs.Answer.{Answer, Passed}
 use Rattle.model.specs.declared.refusal.Refusal.{Refusal}
 use Rattle.model.specs.Refusal.{numbered, number_of, position_of}
 use Rattle.table.specs.declared.Loaded.{Loaded}
@@ -21,11 +21,11 @@ use Rattle.table.specs.Answer.{Past, Again, Whole}
 use Rattle.table.specs.Task.{task_of, tasks_of, no_task, InLimits}
 use Rattle.table.specs.Words.{core_count, rule, fence, count, table_of}
 use Rattle.table.specs.Limits.{task_number, task_out, width_out, times_out, horizon_out, most_horizon}
-use Rattle.table.specs.Answer.{Ending, Refused, answer_in, header_answer, chain_answer, header_number, first_out, width_limit, by_horizon, by_tasks, ending_of, by_walk, answer_of}
+use Rattle.table.specs.Answer.{Ending, Refused, answer_in, header_answer, chain_answer, header_number, first_out, tasks_answer, width_limit, by_horizon, by_tasks, ending_of, by_walk, answer_of}
 use Rattle.table.specs.Load.{code_task, code_tasks, passing, refusal, loaded_by, table_with, load_of}
 use Rattle.table.proofs.Places.{tasks-length, task-at}
 use Rattle.table.proofs.Tasks.{table-length}
-use Rattle.table.proofs.FirstOut.{out-lowest}
+use Rattle.table.proofs.FirstOut.{none-out}
 use Rattle.table.proofs.Inside.{inside-test}
 use Rattle.table.proofs.Hyperperiods.{exceeds-capped, capped-exact}
 
@@ -78,30 +78,39 @@ made m f r tasks count start period there whole e g near =
 
 -- THE TASKS
 
-module _ (s : model.Table) (l : Loaded) (place : ℕ) (out : first_out (width_limit s) s.tasks ≡ place) where
-  pub by_number : place < length s.tasks → loaded_by (by_tasks s) l ≡ refusal (task_number (width_limit s) (model.task s place)) (suc place)
+-- 7 or 8 of a task, and where there is none the horizon decides
+module _ (s : model.Table) (l : Loaded) where
+  pub by-number : (n p : ℕ) → Refused n p ≡ tasks_answer (width_limit s) s.tasks → refusal n p ≡ loaded_by (by_tasks s) l
   unfolding by_tasks
-  by_number h = rw (out, lt-ltb place (length s.tasks) h)
+  by-number n p = go (ltb (first_out (width_limit s) s.tasks) (length s.tasks)) _ _
+    where
+      go : (t : Bool) (m q : ℕ) → Refused n p ≡ cond t (Refused m q) Passed → refusal n p ≡ loaded_by (cond t (Refused m q) (by_horizon s)) l
+      go true m q e = ap (λ (a : Answer). loaded_by a l) e
+      go false m q e = absurd (cc)
 
-  pub by-none : length s.tasks ≤ place → loaded_by (by_tasks s) l ≡ loaded_by (by_horizon s) l
+  pub by-none : Passed ≡ tasks_answer (width_limit s) s.tasks → loaded_by (by_horizon s) l ≡ loaded_by (by_tasks s) l
   unfolding by_tasks
-  by-none h = rw (out, le-ltb place (length s.tasks) h)
+  by-none = go (ltb (first_out (width_limit s) s.tasks) (length s.tasks)) _ _
+    where
+      go : (t : Bool) (m q : ℕ) → Passed ≡ cond t (Refused m q) Passed → loaded_by (by_horizon s) l ≡ loaded_by (cond t (Refused m q) (by_horizon s)) l
+      go true m q e = absurd (cc)
+      go false m q e = refl
 
 -- the number of a task that is turned down: 7 by a width, else 8
 pub width-number : (m : ℕ) (τ : model.Task) → width_out m τ ≡ true → task_number m τ ≡ 7
 width-number m τ e = rw e
 
-pub time-number : (m : ℕ) (τ : model.Task) → task_out m τ ≡ true → width_out m τ ≡ false → task_number m τ ≡ 8
-time-number m τ o e = go (times_out τ) refl
-  where
-    go : (t : Bool) → times_out τ ≡ t → task_number m τ ≡ 8
-    go true f = rw (e, f)
-    go false f = absurd (true-false (sym o ∙ rw (e, f)))
+pub time-number : (m : ℕ) (τ : model.Task) → width_out m τ ≡ false → times_out τ ≡ true → task_number m τ ≡ 8
+time-number m τ e f = rw (e, f)
+
+pub in-number : (m : ℕ) (τ : model.Task) → width_out m τ ≡ false → times_out τ ≡ false → task_out m τ ≡ false
+in-number m τ e f = rw (e, f)
 
 -- where no task is turned down, each is within its limits
-pub in-limits : (m : ℕ) (tasks : List Task) (count : ℕ) → count ≤ first_out m (tasks_of tasks count) → InLimits tasks count
-in-limits m tasks count l p h =
-    let i = inside-test m (task_of (get_or tasks p no_task)) (ap (task_out m) (sym (task-at tasks count p h)) ∙ out-lowest m (tasks_of tasks count) p (omega arith)) in
+pub in-limits : (m : ℕ) (tasks : List Task) (count : ℕ) → count ≤ length tasks → Passed ≡ tasks_answer m (tasks_of tasks count) → InLimits tasks count
+in-limits m tasks count there e p h =
+    let l : p < length (tasks_of tasks count) = omega (arith, tasks-length tasks count there) in
+    let i = inside-test m (task_of (get_or tasks p no_task)) (ap (task_out m) (sym (task-at tasks count p h)) ∙ none-out m (tasks_of tasks count) e p l) in
     record { offset-most = i.offset-most; period-least = i.period-from.0; period-most = i.period-from.1 }
 
 -- THE HEADER AND THE WALK

@@ -8,7 +8,7 @@ use lib.Dec.{eqb, ltb}
 use lib.Seq.{ext_get_or}
 use borrow.Author.Tests.{eqb-true, eqb-false}
 use Rattle.model.specs.Task.{Table, absent_task, rule_of}
-use Rattle.model.proofs.Bools.{not-true-false}
+use Rattle.std.proofs.lemmas.Bool.{false_from_ne_true}
 use Rattle.model.proofs.Search.{any_same}
 use Rattle.table.specs.Answer.{Answer}
 use Rattle.table.specs.Answer.{Passed, Refused}
@@ -173,8 +173,8 @@ module _ (ws us : List ℕ) (s : SameOnChain ws us) where
   off-chain-table e =
       let none = (passed-exact ws).0 e in
       same-table
-      (not-true-false (out_of_range_at ws (last_step ws)) (λ x. none 5 0 ((five-decides ws).0 x)))
-      (not-true-false (repeated_at ws (last_step ws)) (λ x. none 6 0 ((six-decides ws).0 x)))
+      (false_from_ne_true (out_of_range_at ws (last_step ws)) (λ x. none 5 0 ((five-decides ws).0 x)))
+      (false_from_ne_true (repeated_at ws (last_step ws)) (λ x. none 6 0 ((six-decides ws).0 x)))
 
   -- so every value that is made from the answer and the table, and in a refusal from the answer alone, is the same
   pub off-chain-by :

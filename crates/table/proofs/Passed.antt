@@ -1,15 +1,15 @@
 -- What a table has that passes all numbers.
-use mathlib.Core.Path.{◌≡◌, refl, subst, sym}
+use mathlib.Core.Path.{◌≡◌, ap, refl, subst, sym}
 use mathlib.Core.Bool.{Bool, true, false, cond}
 use mathlib.Core.List.{List}
 use mathlib.Core.Logic.{⊎_elim}
 use Prim.Native.Nat.{ℕ, suc, ◌-◌, ◌≤◌, ◌<◌}
 use native.Mathlib.Omega.{arith}
 use lib.ListN.{length}
-use Rattle.model.specs.Task.{task, AllValid}
+use Rattle.model.specs.Task.{task, AllValid, rule_of}
 use Rattle.model.specs.Fence.{unfenced_count}
 use Rattle.model.specs.Horizon.{horizon}
-use Rattle.model.proofs.Bools.{not-true-false}
+use Rattle.std.proofs.lemmas.Bool.{false_from_ne_true}
 use Rattle.model.specs.Sizes.{most_cores, most_tasks}
 use Rattle.table.specs.Answer.{Past, Again, Whole}
 use Rattle.table.specs.Words.{head, core_count, rule, fence, visited, count, task_at, table_of}
@@ -44,6 +44,13 @@ whole-count ws h = go (out_of_range_at ws (last_step ws)) refl (repeated_at ws (
     go false p true a e = let z : ◌≡◌ {A = ℕ} 0 1 = cc in absurd (omega arith)
     go false p false a e = let fine = header-passes ws h in count-from ws fine.words-in fine.headed p a
 
+-- THE RULE
+
+-- the table's rule, by its number
+pub rule-of : (ws : List ℕ) (n : ℕ) → rule ws ≡ n → (table_of ws).rule ≡ rule_of n
+unfolding table_of
+rule-of ws n e = ap rule_of e
+
 -- WHAT PASSES
 
 module _ (ws : List ℕ) (none : NoneApplies ws) where
@@ -52,8 +59,8 @@ module _ (ws : List ℕ) (none : NoneApplies ws) where
   passed-count =
       let n = table-length ws in
       rw n (count-from ws (λ h. none 1 0 (one h)) (λ h. none 4 0 (four h))
-      (not-true-false (out_of_range_at ws (last_step ws)) (λ e. none 5 0 ((five-decides ws).0 e)))
-      (not-true-false (repeated_at ws (last_step ws)) (λ e. none 6 0 ((six-decides ws).0 e))))
+      (false_from_ne_true (out_of_range_at ws (last_step ws)) (λ e. none 5 0 ((five-decides ws).0 e)))
+      (false_from_ne_true (repeated_at ws (last_step ws)) (λ e. none 6 0 ((six-decides ws).0 e))))
 
   -- the walk comes to the end of the chain, and meets another record at each of its places
   pub passed-reached : Reaches ws (count ws)
@@ -62,8 +69,8 @@ module _ (ws : List ℕ) (none : NoneApplies ws) where
       (sym
       (ends_there ws (last_step ws) (last-reached ws)
       (last-ends ws
-      (not-true-false (out_of_range_at ws (last_step ws)) (λ e. none 5 0 ((five-decides ws).0 e)))
-      (not-true-false (repeated_at ws (last_step ws)) (λ e. none 6 0 ((six-decides ws).0 e))))))
+      (false_from_ne_true (out_of_range_at ws (last_step ws)) (λ e. none 5 0 ((five-decides ws).0 e)))
+      (false_from_ne_true (repeated_at ws (last_step ws)) (λ e. none 6 0 ((six-decides ws).0 e))))))
       (last-reached ws)
 
   -- 1 to 64 cores

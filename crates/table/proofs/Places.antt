@@ -13,3 +13,7 @@ tasks-length tasks count h = length-map (take count tasks) task_of ∙ length-ta
 
 pub task-at : (tasks : List Task) (count p : ℕ) → p < count → get_or (tasks_of tasks count) p absent_task ≡ task_of (get_or tasks p no_task)
 task-at tasks count p h = get_or-map task_of (take count tasks) p no_task ∙ ap task_of (get_or-take count tasks p no_task h)
+
+-- the default task is none
+pub none-is : (t : Task) → (t.offset ≡ 0) × ((t.width ≡ 0) × ((t.length ≡ 0) × ((t.deadline ≡ 0) × ((t.period ≡ 0) × (t.second ≡ 0))))) → t ≡ no_task
+none-is t e = λ i. record { offset = e.0 i; width = e.1.0 i; length = e.1.1.0 i; deadline = e.1.1.1.0 i; period = e.1.1.1.1.0 i; second = e.1.1.1.1.1 i }

@@ -1,17 +1,15 @@
 -- S: the ticks since an offset by arithmetic alone, the next S, and how large an S can be.
 use mathlib.Core.Path.{◌≡◌, ap, subst⁻¹}
-use mathlib.Core.List.{List}
+use mathlib.Core.List.{List, map}
 use Prim.Native.Nat.{ℕ, zero, suc, ◌+◌, ◌*◌, ◌-◌, ◌/◌, ◌%◌, ◌≤◌, ◌<◌}
 use native.Mathlib.Nat.{div-mul-le_self, le_trans}
 use native.Mathlib.Numerals.{add-one}
 use native.Mathlib.Omega.{arith}
-use lib.ListN.{length, get_or}
+use lib.ListN.{length, get_or, get_or-map}
 use Rattle.model.specs.Task as model
-use Rattle.model.specs.Horizon.{release_from, S, last_s}
-use Rattle.model.specs.Sizes.{most_tasks}
+use Rattle.model.specs.Horizon.{release_from, S}
 use Rattle.table.specs.declared.Task.{Task}
-use Rattle.table.specs.Task.{task_of, tasks_of, no_task, TimesWithin, InLimits}
-use Rattle.table.proofs.Places.{tasks-length, task-at}
+use Rattle.table.specs.Task.{task_of, no_task, TimesWithin, InLimits}
 use Rattle.table.specs.Limits.{most_time}
 
 -- the ticks of t since an offset, by arithmetic alone: with 2^26 added first, the quotient by 2^26 is 1 if t has
@@ -23,24 +21,19 @@ since t offset = (t + 67108864 - offset) % 67108864 * ((t + 67108864 - offset) /
 pub release-bound : (τ : model.Task) (t : ℕ) → release_from τ t ≤ τ.offset + (t - τ.offset + (τ.period - 1))
 release-bound τ t = omega (arith, div-mul-le_self (t - τ.offset + (τ.period - 1)) τ.period)
 
-module _ (tasks : List Task) (count : ℕ) (limits : InLimits tasks count) where
+module _ (tasks : List Task) (limits : InLimits tasks (length tasks)) where
   -- each position adds less than a period to S
-  pub S-bound : (p : ℕ) → p < count → S (tasks_of tasks count) p ≤ suc p * most_time
+  pub S-bound : (p : ℕ) → p < length tasks → S (map task_of tasks) p ≤ suc p * most_time
   unfolding S
   S-bound zero h =
-      subst⁻¹ (λ (τ : model.Task). τ.offset ≤ 1 * most_time) (task-at tasks count 0 h) (omega (arith, (limits 0 h).offset-most))
+      subst⁻¹ (λ (τ : model.Task). τ.offset ≤ 1 * most_time) (get_or-map task_of tasks 0 no_task) (omega (arith, (limits 0 h).offset-most))
   S-bound (suc p) h =
       let within : TimesWithin (get_or tasks (suc p) no_task) = limits (suc p) h in
-      let before : S (tasks_of tasks count) p ≤ suc p * most_time = S-bound p (omega arith) in
-      subst⁻¹ (λ (τ : model.Task). release_from τ (S (tasks_of tasks count) p) ≤ suc (suc p) * most_time) (task-at tasks count (suc p) h)
-      (le_trans (release-bound (task_of (get_or tasks (suc p) no_task)) (S (tasks_of tasks count) p)) (omega arith))
-
-  -- the last S of at most 32 tasks is at most 32,000,000
-  pub last_s-bound : 1 ≤ count → count ≤ most_tasks → count ≤ length tasks → last_s (tasks_of tasks count) ≤ 32000000
-  last_s-bound some few there =
-      rw (tasks-length tasks count there) (omega (arith, S-bound (count - 1) (omega arith)))
+      let before : S (map task_of tasks) p ≤ suc p * most_time = S-bound p (omega arith) in
+      subst⁻¹ (λ (τ : model.Task). release_from τ (S (map task_of tasks) p) ≤ suc (suc p) * most_time) (get_or-map task_of tasks (suc p) no_task)
+      (le_trans (release-bound (task_of (get_or tasks (suc p) no_task)) (S (map task_of tasks) p)) (omega arith))
 
   -- S of the next place
-  pub S-next : (i : ℕ) → i + 1 < count → S (tasks_of tasks count) (i + 1) ≡ release_from (task_of (get_or tasks (i + 1) no_task)) (S (tasks_of tasks count) i)
+  pub S-next : (i : ℕ) → S (map task_of tasks) (i + 1) ≡ release_from (task_of (get_or tasks (i + 1) no_task)) (S (map task_of tasks) i)
   unfolding S
-  S-next i l = rw (add-one i) (ap (λ (τ : model.Task). release_from τ (S (tasks_of tasks count) i)) (task-at tasks count (suc i) (omega arith)))
+  S-next i = rw (add-one i) (ap (λ (τ : model.Task). release_from τ (S (map task_of tasks) i)) (get_or-map task_of tasks (suc i) no_task))

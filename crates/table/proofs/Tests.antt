@@ -47,7 +47,7 @@ all_there (suc m) f h =
     omega (arith, pow-suc 2 m, pow_pos m)
 
 -- .. and 2^m − 1 has them all
-there-all : (m c : ℕ) → c < m → bit (2 ^ m - 1) c ≡ true
+pub there-all : (m c : ℕ) → c < m → bit (2 ^ m - 1) c ≡ true
 there-all zero c l = absurd (omega arith)
 there-all (suc m) zero l =
     let odd = (odd-half (2 ^ suc m - 1) (2 ^ m - 1) (omega (arith, pow-suc 2 m, pow_pos m))).0 in

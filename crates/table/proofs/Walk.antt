@@ -9,7 +9,7 @@ use native.Mathlib.Nat.{eq-or-lt_of_le}
 use lib.Dec.{eqb}
 use borrow.Author.Tests.{eq-eqb, ne_eqb}
 use Rattle.model.specs.Search.{any}
-use Rattle.model.proofs.Bools.{not-true-false, not-false-true}
+use Rattle.std.proofs.lemmas.Bool.{false_from_ne_true, true_from_ne_false}
 use Rattle.model.proofs.Search.{least-any, least-lowest, none-at, least-is}
 use Rattle.table.specs.Words.{records, visited, count}
 use Rattle.table.specs.Numbers.{EndAt, OutOfRangeAt, RepeatedAt, Reaches, Applies, five, six}
@@ -26,7 +26,7 @@ goes_on ws j e =
 
 pub goes-on-test : (ws : List ℕ) (j : ℕ) → (¬ EndAt ws j) × (¬ OutOfRangeAt ws j) × (¬ RepeatedAt ws j) → stops_at ws j ≡ false
 goes-on-test ws j n =
-    not-true-false (stops_at ws j) (λ e. ⊎_elim (λ x. n.0 x) (λ y. ⊎_elim (λ x. n.1 x) (λ x. n.2 x) y) ((stops-decides ws j).0 e))
+    false_from_ne_true (stops_at ws j) (λ e. ⊎_elim (λ x. n.0 x) (λ y. ⊎_elim (λ x. n.1 x) (λ x. n.2 x) y) ((stops-decides ws j).0 e))
 
 -- where it goes on at step k, it comes to the next
 pub reaches_more : (ws : List ℕ) (k : ℕ) → Reaches ws k → (¬ EndAt ws k) × (¬ OutOfRangeAt ws k) × (¬ RepeatedAt ws k) → Reaches ws (suc k)
@@ -54,7 +54,7 @@ last-reached ws = λ j l. goes_on ws j (least-lowest (suc (records ws)) (stops_a
 
 pub last-stops : (ws : List ℕ) → stops_at ws (last_step ws) ≡ true
 unfolding last_step
-last-stops ws = least-any (suc (records ws)) (stops_at ws) (not-false-true (any (suc (records ws)) (stops_at ws)) never)
+last-stops ws = least-any (suc (records ws)) (stops_at ws) (true_from_ne_false (any (suc (records ws)) (stops_at ws)) never)
   where
     never : any (suc (records ws)) (stops_at ws) ≡ false → ⊥
     never e =

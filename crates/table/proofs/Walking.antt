@@ -5,6 +5,7 @@ use mathlib.Core.List.{List, [], ◌∷◌, ◌++◌, map, append_assoc}
 use mathlib.Core.Logic.{inl, inr}
 use Prim.Native.Nat.{ℕ, suc, ◌+◌, ◌-◌, ◌≤◌, ◌<◌}
 use native.Mathlib.Omega.{arith}
+use native.Mathlib.Numerals.{add-one}
 use native.Mathlib.Nat.{zero-add, not-suc-le-zero}
 use lib.Dec.{eqb}
 use lib.ListN.{length, get_or, set, replicate, length-set, length-map, get_or-replicate}
@@ -125,7 +126,7 @@ module _ (ws : List ℕ) (tasks : List Task) (seen : List Bool) (k at : ℕ) (w 
               ∙ sym (ap (λ (b : Bool). any k (λ j. eqb (visited ws j) (suc n)) || b) (ne_eqb (visited ws k) (suc n) s) ∙ or-false (any k (λ j. eqb (visited ws j) (suc n))))
 
       -- one step on
-      pub walking-more : Walking ws (set tasks k (code_task (task_of_record ws at))) (set seen (at - 1) true) (suc k) (next ws at)
+      walking-more : Walking ws (set tasks k (code_task (task_of_record ws at))) (set seen (at - 1) true) (suc k) (next ws at)
       unfolding visited
       walking-more = record {
         reached = goes;
@@ -134,6 +135,10 @@ module _ (ws : List ℕ) (tasks : List Task) (seen : List Bool) (k at : ℕ) (w 
         marks = length-set seen (at - 1) true ∙ w.marks;
         marked = marked_more;
       }
+
+      -- as code takes it: with this task and this next number
+      pub walking-step : (task : Task) (after : ℕ) → task ≡ code_task (task_of_record ws at) → after ≡ next ws at → Walking ws (set tasks k task) (set seen (at - 1) true) (k + 1) after
+      walking-step task after e f = rw (e, f, add-one k) walking-more
 
   -- the three ends
   walk_of : stops_at ws k ≡ true → ending_of ws ≡ cond (out_of_range_at ws k) Past (cond (repeated_at ws k) Again Whole)

@@ -56,6 +56,11 @@ last_step ws = least (suc (records ws)) (stops_at ws)
 unfoldable pub first_out : ℕ → List Task → ℕ
 first_out m τs = least (length τs) (λ p. task_out m (get_or τs p absent_task))
 
+-- 7 or 8 with the first such position, or passed
+abbrev pub tasks_answer : ℕ → List Task → Answer
+tasks_answer m τs =
+    cond (ltb (first_out m τs) (length τs)) (Refused (task_number m (get_or τs (first_out m τs) absent_task)) (suc (first_out m τs))) Passed
+
 -- 9, or passed
 unfoldable pub by_horizon : Table → Answer
 by_horizon s = cond (horizon_out (horizon s)) (Refused 9 0) Passed

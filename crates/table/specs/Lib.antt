@@ -7,5 +7,6 @@ pub mod Answer
 pub mod Gcd
 pub mod Load
 pub mod Fit
+pub mod Fitting
 pub mod OffChain
 pub mod UnfencedWords

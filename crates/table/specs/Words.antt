@@ -71,6 +71,18 @@ count ws = least (suc (records ws)) (λ k. eqb (visited ws k) 0)
 unfoldable pub chain : List ℕ → List ℕ
 chain ws = map (visited ws) (up_from 0 (count ws))
 
+-- the task of the seven words of a record
+abbrev pub task_in : List ℕ → Task
+task_in r =
+    record {
+      offset = get_or r 1 0;
+      odd_width = get_or r 2 0;
+      length = get_or r 3 0;
+      deadline = get_or r 4 0;
+      period = get_or r 5 0;
+      even_width = get_or r 6 0;
+    }
+
 -- a task's position is its place on the chain, from 1, the highest priority (scope: position; the field: rank in fixed task priority order): the task at p
 abbrev pub task_at : List ℕ → ℕ → Task
 task_at ws p = task_of_record ws (visited ws (p - 1))

@@ -1,7 +1,6 @@
 // The walk along the chain: numbers 5 and 6, and the tasks in priority order.
-ghost use Rattle.std.specs.Prelude.{◌≡◌, ◌≤◌};
-ghost use Rattle.table.specs.Task.{no_task};
-ghost use Rattle.table.specs.Words.{records, task_of_record};
+ghost use Rattle.std.specs.Prelude.{◌≡◌};
+ghost use Rattle.table.specs.Words.{task_in};
 ghost use Rattle.table.specs.Answer.{header_number};
 ghost use Rattle.table.specs.Load.{code_task, WalkOf};
 
@@ -16,33 +15,20 @@ pub struct Chain {
     pub tasks: [Task; MOST_TASKS],
 }
 
-// No task: the value past the count.
-pub(crate) fn no_task() -> Task
-    ensures { result ≡ no_task }
-{
-    Task {
-        offset: 0,
-        width: 0,
-        length: 0,
-        deadline: 0,
-        period: 0,
-        second: 0,
-    }
-}
+impl From<[u32; RECORD]> for Task {
+    ghost from_gives = { λ words task. task ≡ code_task (task_in words) };
 
-// The task of a record.
-fn task_of(words: &[u32], number: usize) -> Task
-    requires { (1 ≤ number) × (number ≤ records words.now) }
-    ensures { result ≡ code_task (task_of_record words.now number) }
-{
-    let at = HEADER + (number - 1) * RECORD;
-    Task {
-        offset: words[at + 1],
-        width: words[at + 2],
-        length: words[at + 3],
-        deadline: words[at + 4],
-        period: words[at + 5],
-        second: words[at + 6],
+    // The task of a record; its first word is the next one's number.
+    fn from(words: [u32; RECORD]) -> Task {
+        let [_, offset, width, length, deadline, period, second] = words;
+        Task {
+            offset,
+            width,
+            length,
+            deadline,
+            period,
+            second,
+        }
     }
 }
 
@@ -52,14 +38,13 @@ pub(crate) fn walk(words: &[u32]) -> Result<Chain, Refusal>
     requires { header_number words.now ≡ 0 }
     ensures { WalkOf words.now result }
 {
-    let records = (words.len() - HEADER) / RECORD;
-    let none = no_task();
-    let mut tasks = [none; MOST_TASKS];
+    let (records, _) = words[HEADER..].as_chunks::<RECORD>();
+    let mut tasks = [Task::default(); MOST_TASKS];
     let mut seen = [false; MOST_TASKS];
     let mut count: usize = 0;
     let mut at = words[0] as usize;
     while at != 0 {
-        if records < at {
+        if records.len() < at {
             return Err(Refusal::NoRecord);
         }
         let index = at - 1;
@@ -67,8 +52,9 @@ pub(crate) fn walk(words: &[u32]) -> Result<Chain, Refusal>
             return Err(Refusal::RecordAgain);
         }
         seen[index] = true;
-        tasks[count] = task_of(words, at);
-        at = words[HEADER + index * RECORD] as usize;
+        let record = records[index];
+        tasks[count] = Task::from(record);
+        at = record[0] as usize;
         count += 1;
     }
     Ok(Chain { count, tasks })

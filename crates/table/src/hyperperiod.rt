@@ -1,19 +1,15 @@
 // P, the least common multiple of the periods, 2T for a task whose widths differ (scope: P; the field: hyperperiod).
-ghost use Rattle.std.specs.Prelude.{◌≡◌, ◌+◌, ◌≤◌, min};
+ghost use Rattle.std.specs.Prelude.{◌≡◌, ◌+◌, length, map, min};
 ghost use Rattle.model.specs.Horizon.{hyperperiod};
-ghost use Rattle.model.specs.Sizes.{most_tasks};
 ghost use Rattle.model.specs.Task.{cycle};
-ghost use Rattle.table.specs.Task.{task_of, tasks_of, InLimits};
+ghost use Rattle.table.specs.Task.{task_of, InLimits};
 ghost use Rattle.table.specs.Gcd.{Gcd};
 ghost use Rattle.table.specs.Limits.{most_horizon};
 
 use crate::Task;
 use crate::limits::MOST_HORIZON;
-use model::MOST_TASKS;
 
-// The longest horizon, in 64 bits, and one tick more.
-pub(crate) const LIMIT: u64 = MOST_HORIZON as u64;
-
+// A tick more than the longest horizon.
 const PAST: u32 = MOST_HORIZON + 1;
 
 // The greatest common divisor.
@@ -35,7 +31,7 @@ pub(crate) fn gcd(a: u64, b: u64) -> u64
 fn cycle(task: Task) -> u64
     ensures { result ≡ cycle (task_of task) }
 {
-    let period = task.period as u64;
+    let period = u64::from(task.period);
     if task.width == task.second {
         period
     } else {
@@ -45,16 +41,15 @@ fn cycle(task: Task) -> u64
 
 // P, or one more than the longest horizon where it is above that.
 // One more than the limit and no Option, since the clause is `min (hyperperiod ..) (most_horizon + 1)`, and pages name it.
-pub fn hyperperiod(tasks: [Task; MOST_TASKS], count: usize) -> u32
-    requires fact_1 { count ≤ most_tasks }
-    requires fact_2 { InLimits tasks count }
-    ensures { result ≡ min (hyperperiod (tasks_of tasks count)) (most_horizon + 1) }
+pub fn hyperperiod(tasks: &[Task]) -> u32
+    requires { InLimits tasks.now (length tasks.now) }
+    ensures { result ≡ min (hyperperiod (map task_of tasks.now)) (most_horizon + 1) }
 {
     let mut multiple: u64 = 1;
-    for task in &tasks[..count] {
+    for task in tasks {
         let span = cycle(*task);
         multiple = multiple / gcd(multiple, span) * span;
-        if LIMIT < multiple {
+        if u64::from(MOST_HORIZON) < multiple {
             return PAST;
         }
     }

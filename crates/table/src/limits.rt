@@ -17,6 +17,7 @@ pub const MOST_HORIZON: u32 = 1_000_000_000;
 pub const HIGH: u64 = 4_294_967_296;
 
 // Whether the core count is not 1 to 64 (number 2).
+// No plainer as one with `rule_out`: a call that names both ends is longer than the expression.
 pub fn cores_out(cores: u32) -> bool
     ensures { result ≡ cores_out cores }
 {
@@ -24,7 +25,7 @@ pub fn cores_out(cores: u32) -> bool
 }
 
 // Whether the rule is not 1 to 4 (number 3).
-// Numbers, since this is the test of which numbers are a rule.
+// Numbers, since this is the test of which numbers are a rule. No plainer as one with `cores_out`.
 pub fn rule_out(rule: u32) -> bool
     ensures { result ≡ rule_out rule }
 {
@@ -35,7 +36,7 @@ pub fn rule_out(rule: u32) -> bool
 pub fn fence_of(low: u32, high: u32) -> u64
     ensures { result ≡ fence_of low high }
 {
-    low as u64 + high as u64 * HIGH
+    u64::from(low) + u64::from(high) * HIGH
 }
 
 // Whether the fence contains a core past the count, or all cores (number 19).
@@ -53,7 +54,7 @@ pub(crate) fn width_out(wide: u32, task: Task) -> bool
 }
 
 // Whether a task's O, C, T or D is outside its limits (number 8).
-fn times_out(task: Task) -> bool
+pub(crate) fn times_out(task: Task) -> bool
     ensures { result ≡ times_out (task_of task) }
 {
     (MOST_TIME < task.offset)
@@ -63,7 +64,7 @@ fn times_out(task: Task) -> bool
 }
 
 // The number that turns a task down on this number of unfenced cores: 7, else 8; 0 where neither does.
-// A number and 0 for none, since `task_number` of specs/ answers so, and pages name it.
+// A number and 0 for none: what may not change, `task_number` of specs/Limits, of which `task_out` there is made.
 pub fn task_number(wide: u32, task: Task) -> u32
     ensures { result ≡ task_number wide (task_of task) }
 {

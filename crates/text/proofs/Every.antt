@@ -1,12 +1,12 @@
 -- A test on every element of a list: each element, and the list's parts.
-use mathlib.Core.Bool.{Bool, true, false, false≢true}
+use mathlib.Core.Bool.{Bool, true}
 use mathlib.Core.List.{List, [], ◌∷◌, ◌++◌}
 use mathlib.Core.Path.{◌≡◌, refl}
 use Prim.Native.Nat.{ℕ, zero, suc, ◌<◌}
 use native.Mathlib.Nat.{not-suc-le-zero, le_of_suc-le-suc}
 use native.Mathlib.Omega.{arith}
 use lib.ListN.{length, get_or}
-use Rattle.model.proofs.Bools.{and_left, and_right, and_both, not-true-false}
+use Rattle.model.proofs.Bools.{and_left, and_right, and_both}
 use Rattle.text.specs.Decimal.{all}
 
 -- each element passes
@@ -21,10 +21,6 @@ pub all_of : {A : Type 0} (f : A → Bool) (xs : List A) (d : A) → ((i : ℕ) 
 unfolding all
 all_of f [] d h = refl
 all_of f (x ∷ xs) d h = and_both (f x) (all f xs) (h 0 (omega arith)) (all_of f xs d (λ i l. h (suc i) (omega arith)))
-
--- one that fails is enough for not all to pass
-pub all-not : {A : Type 0} (f : A → Bool) (xs : List A) (d : A) (i : ℕ) → i < length xs → f (get_or xs i d) ≡ false → all f xs ≡ false
-all-not f xs d i l e = not-true-false (all f xs) (λ q. let z : false ≡ true = cc (all-at f xs d q i l) in false≢true z)
 
 -- one more at the end
 pub all_more : {A : Type 0} (f : A → Bool) (xs : List A) (x : A) → all f xs ≡ true → f x ≡ true → all f (xs ++ (x ∷ [])) ≡ true

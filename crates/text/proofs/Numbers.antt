@@ -10,7 +10,8 @@ use lib.ListN.{length, get_or, take, length-take}
 use lib.Seq.{take-suc}
 use lib.Dec.{leb}
 use borrow.Author.Tests.{leb-true, le-leb}
-use Rattle.model.proofs.Bools.{and_left, and_right, and_both, not-true-false}
+use Rattle.model.proofs.Bools.{and_left, and_right, and_both}
+use Rattle.std.proofs.lemmas.Bool.{false_from_ne_true}
 use Rattle.text.specs.Decimal.{all, is_digit, Digit, Digits, value}
 use Rattle.text.specs.Format.{Number, is_number, largest}
 use Rattle.text.specs.Input.{parse_number}
@@ -45,7 +46,7 @@ pub found-value : (l : List ℕ) → Number l → Some (value l) ≡ parse_numbe
 found-value l n = rw ((number-exact l).1 n)
 
 pub found_nothing : (l : List ℕ) → (Number l → ⊥) → None ≡ parse_number l
-found_nothing l h = rw (not-true-false (is_number l) (λ e. h ((number-exact l).0 e)))
+found_nothing l h = rw (false_from_ne_true (is_number l) (λ e. h ((number-exact l).0 e)))
 
 -- .. by the value of its digits, which are few, converted to 32 bits
 pub number-of :

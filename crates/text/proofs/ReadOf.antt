@@ -1,14 +1,15 @@
 -- The value of `read` implies its contract.
 use mathlib.Core.Bool.{true≢false, false≢true}
-use mathlib.Core.List.{List}
+use mathlib.Core.List.{List, []}
 use mathlib.Core.Path.{◌≡◌, refl, ap, sym, subst⁻¹, ◌∙◌}
 use Prim.Native.Nat.{ℕ, ◌-◌}
 use native.Mathlib.Omega.{arith}
 use lib.ListN.{length, take, replicate}
 use lib.Seq.{take-append_seam, drop-append_seam}
+use Rattle.std.proofs.Common.{Option, Some, None}
 use Rattle.text.specs.Format.{most_numbers, Words, read_words, no_text, words_of, numbers_in}
-use Rattle.text.specs.Input.{pad_numbers, input_of, ReadOf}
-use Rattle.text.specs.declared.Input.{Input}
+use Rattle.text.specs.declared.words.Words as code
+use Rattle.text.specs.Input.{Input, pad_numbers, input_of, read_in, ReadOf}
 use Rattle.text.proofs.Exact.{text-exact, no-text-exact}
 
 -- of a text's numbers
@@ -53,3 +54,11 @@ numbers-read r bs e = ap (λ (i : Input). take i.count i.words) e ∙ go (words_
     go : (w : Words) → take (input_of w).count (input_of w).words ≡ numbers_in w
     go (read_words ws) = take-append_seam ws _
     go no_text = refl
+
+-- .. as code returns them
+pub some-read : (r : Option code.Words) (w : code.Words) (bs : List ℕ) → r ≡ Some w → read_in r ≡ input_of (words_of bs) → take w.count w.words ≡ numbers_in (words_of bs)
+some-read r w bs n e = ap (λ (o : Option code.Words). take (read_in o).count (read_in o).words) (sym n) ∙ numbers-read (read_in r) bs e
+
+-- .. and what is no table's text has none
+pub none-read : (r : Option code.Words) (bs : List ℕ) → r ≡ None → read_in r ≡ input_of (words_of bs) → [] ≡ numbers_in (words_of bs)
+none-read r bs n e = ap (λ (o : Option code.Words). take (read_in o).count (read_in o).words) (sym n) ∙ numbers-read (read_in r) bs e

@@ -10,8 +10,7 @@ use lib.Dec.{leb}
 use borrow.Author.Tests.{le-leb, lt-leb}
 use Rattle.text.specs.Decimal.{all, value}
 use Rattle.text.specs.Format.{Words, read_words, no_text, words_of, is_number, lines, most_numbers}
-use Rattle.text.specs.Input.{line_length, pad_numbers, input_of}
-use Rattle.text.specs.declared.Input.{Input}
+use Rattle.text.specs.Input.{Input, line_length, pad_numbers, input_of}
 use Rattle.text.proofs.Lines.{lines-first}
 
 -- the answer where ws have been read and the lines ls are left

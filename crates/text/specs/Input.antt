@@ -1,8 +1,19 @@
--- The result of `read` on the bytes, and of its two helpers.
-use Rattle.std.specs.Prelude.{true, false, cond, Option, Some, None, List, [], ◌∷◌, ◌++◌, ◌↔◌, ◌≡◌, ℕ, suc, ◌-◌, ◌≤◌, length, take, drop, replicate, eqb}
+-- The result of `read` on the bytes, and of its helpers.
+use Rattle.std.specs.Prelude.{Bool, true, false, cond, Option, Some, None, List, [], ◌∷◌, ◌++◌, ◌↔◌, ◌≡◌, ℕ, suc, ◌-◌, ◌≤◌, length, take, drop, replicate, eqb}
 use Rattle.text.specs.Decimal.{value}
 use Rattle.text.specs.Format.{newline, most_numbers, is_number, Words, read_words, no_text, words_of, IsText}
-use Rattle.text.specs.declared.Input.{Input}
+use Rattle.text.specs.declared.words.Words as code
+
+-- what was read: whether it is a table's text, and its numbers with their count
+pub record Input : Type 0 where
+  pub accepted : Bool
+  pub count : ℕ
+  pub words : List ℕ
+
+-- as code returns it: of other bytes all is zero
+abbrev pub read_in : Option code.Words → Input
+read_in (Some w) = record { accepted = true; count = w.count; words = w.words }
+read_in None = record { accepted = false; count = 0; words = replicate most_numbers 0 }
 
 -- the number of bytes before the first byte `mark`, or in all where there is none
 unfoldable pub length_to : ℕ → List ℕ → ℕ

@@ -1,8 +1,9 @@
 // Numbers written in decimal.
-// By hand: the bytes go into the caller's slice from a place on. The library's text without a heap, `InlineText`, has its own buffer.
-ghost use Rattle.std.specs.Prelude.{◌≡◌, ◌+◌, ◌≤◌, length};
+ghost use Rattle.std.specs.Prelude.{◌≡◌, ◌++◌, ◌+◌, ◌≤◌, length};
 ghost use Rattle.text.specs.Decimal.{digit_count, decimal};
 ghost use Rattle.text.specs.Written.{Put};
+
+use crate::row;
 
 // The number of digits of a number.
 fn digits(number: u64) -> usize
@@ -12,6 +13,8 @@ fn digits(number: u64) -> usize
 }
 
 // Writes a number in decimal into the line from `at` on; returns where it ends.
+// By hand: of a lent slice `write!` promises how many bytes it wrote, and not which; `InlineText` has its own buffer.
+// A line and a place are no struct: public functions take both, and each of their callers would build one anew.
 pub fn put(line: &mut [u8], at: usize, number: u64) -> usize
     requires { at + digit_count number ≤ length line.old }
     ensures { Put line.old at (decimal number) line.new result }
@@ -23,4 +26,14 @@ pub fn put(line: &mut [u8], at: usize, number: u64) -> usize
         left /= 10;
     }
     at + count
+}
+
+// Writes a word and a number after it; returns where they end.
+// A line and a place, as in `put`.
+pub fn put_after(line: &mut [u8], at: usize, word: &[u8], number: u64) -> usize
+    requires { at + length (word.now ++ decimal number) ≤ length line.old }
+    ensures { Put line.old at (word.now ++ decimal number) line.new result }
+{
+    let start = row::put(line, at, word);
+    put(line, start, number)
 }

@@ -17,7 +17,7 @@ pub fn end_from(bytes: &[u8], from: usize, mark: u8) -> usize
 }
 
 // The number of a line of one to ten digits, up to 4,294,967,295.
-// By hand: `parse` takes a plus sign, and more than ten digits.
+// By hand: `parse` takes a plus sign, and more than ten digits. A sentence's numbers have other limits: no zero in front, below 2^64.
 pub fn number(line: &[u8]) -> Option<u32>
     ensures { result ≡ parse_number line.now }
 {

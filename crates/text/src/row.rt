@@ -1,5 +1,4 @@
 // The text of a row: its tick and its cores, in decimal.
-// By hand: the bytes go into the caller's slice from a place on. The library's text without a heap, `InlineText`, has its own buffer.
 ghost use Rattle.std.specs.Prelude.{[], ◌∷◌, ◌++◌, ◌+◌, ◌≤◌, length, take, drop};
 ghost use Rattle.text.specs.Decimal.{decimal};
 ghost use Rattle.text.specs.Format.{newline};
@@ -16,17 +15,27 @@ pub const CELLS: usize = ROW * (1 + 3) + 1;
 // The most bytes that a line can take: a tick and the cells of its row.
 pub const LINE: usize = crate::DIGITS + CELLS;
 
+// Writes bytes into the line from `at` on; returns where they end.
+// A line and a place, as in `decimal::put`.
+pub fn put(line: &mut [u8], at: usize, bytes: &[u8]) -> usize
+    requires { at + length bytes.now ≤ length line.old }
+    ensures { Put line.old at bytes.now line.new result }
+{
+    let end = at + bytes.len();
+    line[at..end].copy_from_slice(bytes);
+    end
+}
+
 // Writes `count` bytes, those of `from` that begin at `start`, into `to` from `at` on; returns where they end.
 pub fn copy(from: &[u8], start: usize, count: usize, to: &mut [u8], at: usize) -> usize
     requires { (start + count ≤ length from.now) × (at + count ≤ length to.old) }
     ensures { Put to.old at (take count (drop start from.now)) to.new result }
 {
-    let end = at + count;
-    to[at..end].copy_from_slice(&from[start..start + count]);
-    end
+    put(to, at, &from[start..start + count])
 }
 
 // Writes a byte's value in decimal into the text from `at` on; returns where it ends.
+// By hand, as `decimal::put`; digit by digit, since each row of a printed table has up to 64 of them.
 fn put_byte(text: &mut [u8], at: usize, number: u8) -> usize
     requires { at + 3 ≤ length text.old }
     ensures { (Put text.old at (decimal number) text.new result) × (result ≤ at + 3) }
@@ -44,6 +53,7 @@ fn put_byte(text: &mut [u8], at: usize, number: u8) -> usize
 }
 
 // Writes the positions of the first `cores` cores, a space before each, and a newline; returns where they end.
+// By hand, as `decimal::put`: the bytes go into the caller's slice.
 pub fn put_cells(row: [u8; ROW], cores: usize, text: &mut [u8]) -> usize
     requires { (cores ≤ most_cores) × (longest_cells ≤ length text.old) }
     ensures { (Put text.old 0 (fields (take cores row) ++ (newline ∷ [])) text.new result) × (result ≤ longest_cells) }
@@ -57,11 +67,12 @@ pub fn put_cells(row: [u8; ROW], cores: usize, text: &mut [u8]) -> usize
     at + 1
 }
 
-// Writes the line of a row: the tick, and the text of its cores; returns where it ends.
-pub fn put_row(line: &mut [u8], tick: u32, text: &[u8], count: usize) -> usize
-    requires { (count ≤ length text.now) × (count ≤ longest_cells) × (longest_line ≤ length line.old) }
-    ensures { (Put line.old 0 (decimal tick ++ take count text.now) line.new result) × (result ≤ longest_line) }
+// Writes the line of a row: the tick, and the text of its cores; returns where it ends. The room as in `first::put_pair`.
+// By hand, as `decimal::put`.
+pub fn put_row(line: &mut [u8], tick: u32, text: &[u8]) -> usize
+    requires { (length text.now ≤ longest_cells) × (longest_line ≤ length line.old) }
+    ensures { (Put line.old 0 (decimal tick ++ text.now) line.new result) × (result ≤ longest_line) }
 {
     let at = decimal::put(line, 0, tick as u64);
-    copy(text, 0, count, line, at)
+    put(line, at, text)
 }

@@ -8,47 +8,45 @@ use Rattle.plan.proofs.Cases.{above, beyond, too_short, long-enough}
 use Rattle.plan.proofs.by_table.Goals as goal
 
 pub returns-then-b-a : goal.returns-then-b-a
-returns-then-b-a c = let x = c.args in (above (loaded_table x.table) x.a x.b (length x.out.now) c.if-b-a.true, refl)
+returns-then-b-a c = let x = c.args in (above (loaded_table x.fitting.loaded) x.a x.b (length x.out.now) c.if-b-a.true, refl)
 
 pub returns-then-table-b : goal.returns-then-table-b
 returns-then-table-b c =
     let x = c.args in
-    (beyond (loaded_table x.table) x.a x.b (length x.out.now) c.if-b-a.false (omega (arith, c.if-table-b.true, c.requires.0.horizon)), refl)
+    (beyond (loaded_table x.fitting.loaded) x.a x.b (length x.out.now) c.if-b-a.false (omega (arith, c.if-table-b.true, x.fitting.fit.horizon)), refl)
 
 pub overflow_mul-bytes : goal.overflow_mul-bytes
 overflow_mul-bytes c =
     let x = c.args in
-    let short : x.b - x.a ≤ 1000000000 = omega (arith, c.if-table-b.false, c.requires.0.limit) in
-    omega (arith, mul-le-mul short c.requires.1)
+    let short : x.b - x.a ≤ 1000000000 = omega (arith, c.if-table-b.false, x.fitting.fit.limit) in
+    omega (arith, mul-le-mul short x.fitting.fit.narrow)
 
 pub returns-then-out-bytes : goal.returns-then-out-bytes
 returns-then-out-bytes c =
     let x = c.args in
-    (too_short (loaded_table x.table) x.a x.b (length x.out.now) c.if-b-a.false (omega (arith, c.if-table-b.false, c.requires.0.horizon)) c.if-out-bytes.true, refl)
+    (too_short (loaded_table x.fitting.loaded) x.a x.b (length x.out.now) c.if-b-a.false (omega (arith, c.if-table-b.false, x.fitting.fit.horizon)) c.if-out-bytes.true, refl)
 
 pub write-requires : goal.write-requires
 write-requires c =
     let x = c.args in (
-      c.requires.0,
-      c.requires.1,
       c.if-table-b.false,
-      never-found (loaded_table x.table) x.b (sym c.first_miss.ensures.value ∙ ap miss_of c.in-None.is),
+      never-found (loaded_table x.fitting.loaded) x.b (sym c.first_miss.ensures.value ∙ ap miss_of c.in-None.is),
       c.if-out-bytes.false,
     )
 
 pub returns-in-None : goal.returns-in-None
 returns-in-None c =
     let x = c.args in
-    let none = never-found (loaded_table x.table) x.b (sym c.first_miss.ensures.value ∙ ap miss_of c.in-None.is) in (
-      long-enough (loaded_table x.table) x.a x.b (length x.out.now) c.if-b-a.false (omega (arith, c.if-table-b.false, c.requires.0.horizon)) c.if-out-bytes.false false none,
+    let none = never-found (loaded_table x.fitting.loaded) x.b (sym c.first_miss.ensures.value ∙ ap miss_of c.in-None.is) in (
+      long-enough (loaded_table x.fitting.loaded) x.a x.b (length x.out.now) c.if-b-a.false (omega (arith, c.if-table-b.false, x.fitting.fit.horizon)) c.if-out-bytes.false false none,
       c.write.ensures,
     )
 
 pub returns-in-Some : goal.returns-in-Some
 returns-in-Some c =
     let x = c.args in
-    let some = one_found (loaded_table x.table) x.b _ _ (sym c.first_miss.ensures.value ∙ ap miss_of c.in-Some.is) in (
-      long-enough (loaded_table x.table) x.a x.b (length x.out.now) c.if-b-a.false
-          (omega (arith, c.if-table-b.false, c.requires.0.horizon)) c.if-out-bytes.false true some,
+    let some = one_found (loaded_table x.fitting.loaded) x.b _ _ (sym c.first_miss.ensures.value ∙ ap miss_of c.in-Some.is) in (
+      long-enough (loaded_table x.fitting.loaded) x.a x.b (length x.out.now) c.if-b-a.false
+          (omega (arith, c.if-table-b.false, x.fitting.fit.horizon)) c.if-out-bytes.false true some,
       refl,
     )

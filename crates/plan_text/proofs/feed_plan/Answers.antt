@@ -1,43 +1,38 @@
 -- Each line is taken, waited for, or the last (Feeding).
-use Rattle.std.proofs.Common.{refl, sym, ◌∙◌, arith}
-use Rattle.std.proofs.lemmas.Bool.{not-false, not-true}
-use mathlib.Core.Path.{subst⁻¹}
-use Rattle.plan_text.specs.Check.{FedBy}
+use Rattle.std.proofs.Common.{refl, arith}
 use Rattle.plan_text.proofs.Feeding.{line-ends, moves, next-within, plan-ended, plan-waits, taken_next, taken-over, taken-waits}
+use Rattle.plan_text.proofs.Answers.{last-ends}
 use Rattle.plan_text.proofs.feed_plan.Goals as goal
 
 pub loop-at-init : goal.loop-at-init
 loop-at-init c = ((c.requires, λ e more _. refl), c.extent_of-extent.ensures)
 
-pub returns-then-not-part : goal.returns-then-not-part
-returns-then-not-part c =
+pub returns-in_default : goal.returns-in_default
+returns-in_default c =
     let a = c.args in
     let l = c.loop-at in
-    subst⁻¹ (FedBy _ _ _ _) c.going.ensures
-    (taken-waits a.start a.from a.ended a.bytes.now l.rows l.at c.line-part.result l.invariant.0 c.line-part.ensures (not-true _ c.if-not-part.true) c.loop-at-test.true)
+    taken-waits a.start a.from a.ended a.bytes.now l.rows l.at _ l.invariant.0 c.in_default.ensures refl c.loop-at-test.true
 
 pub overflow_add-at : goal.overflow_add-at
 overflow_add-at c =
     let a = c.args in
     let l = c.loop-at in
-    omega (arith, line-ends a.start a.from a.ended a.bytes.now l.rows l.at c.line-part.result l.invariant.0 c.line-part.ensures)
+    omega (arith, line-ends a.start a.from a.ended a.bytes.now l.rows l.at _ l.invariant.0 c.in-Some.ensures)
 
 pub slice_bounds-step-end : goal.slice_bounds-step-end
 slice_bounds-step-end c =
     let a = c.args in
     let l = c.loop-at in
-    omega (arith, line-ends a.start a.from a.ended a.bytes.now l.rows l.at c.line-part.result l.invariant.0 c.line-part.ensures)
+    omega (arith, line-ends a.start a.from a.ended a.bytes.now l.rows l.at _ l.invariant.0 c.in-Some.ensures)
 
-pub step-reply-requires : goal.step-reply-requires
-step-reply-requires c = c.loop-at.invariant.1
+pub step-requires : goal.step-requires
+step-requires c = c.loop-at.invariant.1
 
-pub returns-then-not-is_more : goal.returns-then-not-is_more
-returns-then-not-is_more c =
+pub returns-in-Err : goal.returns-in-Err
+returns-in-Err c =
     let a = c.args in
     let l = c.loop-at in
-    subst⁻¹ (FedBy _ _ _ _) c.over.ensures
-    (taken-over a.start a.from a.ended a.bytes.now l.rows l.at c.line-part.result l.invariant.0 c.line-part.ensures c.step-reply.result (not-false _ c.if-not-part.false) c.step-reply.ensures.0
-    (sym c.is_more.ensures ∙ c.if-not-is_more.true))
+    taken-over a.start a.from a.ended a.bytes.now l.rows l.at _ l.invariant.0 c.in-Some.ensures _ _ refl c.in-Err.ensures.0 (last-ends c.in-Err.answer)
 
 pub loop-at-smaller : goal.loop-at-smaller
 loop-at-smaller c =
@@ -45,29 +40,26 @@ loop-at-smaller c =
     let l = c.loop-at in
     omega (
       arith,
-      next-within a.start a.from a.ended a.bytes.now l.rows l.at c.line-part.result l.invariant.0 c.line-part.ensures,
-      moves a.start a.from a.ended a.bytes.now l.rows l.at c.line-part.result l.invariant.0 c.line-part.ensures c.loop-at-test.true,
+      next-within a.start a.from a.ended a.bytes.now l.rows l.at _ l.invariant.0 c.in-Some.ensures,
+      moves a.start a.from a.ended a.bytes.now l.rows l.at _ l.invariant.0 c.in-Some.ensures c.loop-at-test.true,
     )
 
 pub loop-at-preserved : goal.loop-at-preserved
 loop-at-preserved c =
     let a = c.args in
     let l = c.loop-at in (
-      taken_next a.start a.from a.ended a.bytes.now l.rows l.at c.line-part.result l.invariant.0 c.line-part.ensures c.step-reply.result (not-false _ c.if-not-part.false) c.step-reply.ensures.0
-          (sym c.is_more.ensures ∙ c.if-not-is_more.false),
-      c.step-reply.ensures.1,
+      taken_next a.start a.from a.ended a.bytes.now l.rows l.at _ l.invariant.0 c.in-Some.ensures _ refl c.in-Ok.ensures.0 refl,
+      c.in-Ok.ensures.1,
     )
 
 pub returns-then-ended : goal.returns-then-ended
 returns-then-ended c =
     let a = c.args in
     let l = c.loop-at in
-    subst⁻¹ (FedBy _ _ _ _) c.over-then-ended.ensures
-    (plan-ended a.start a.from a.ended a.bytes.now l.rows l.at l.invariant.0 (omega (arith, c.loop-at-test.false)) _ c.if-ended.true c.end_rows.ensures)
+    plan-ended a.start a.from a.ended a.bytes.now l.rows l.at l.invariant.0 (omega (arith, c.loop-at-test.false)) _ _ c.if-ended.true c.end_rows.ensures
 
-pub returns : goal.returns
-returns c =
+pub returns-else-ended : goal.returns-else-ended
+returns-else-ended c =
     let a = c.args in
     let l = c.loop-at in
-    subst⁻¹ (FedBy _ _ _ _) c.going-2.ensures
-    (plan-waits a.start a.from a.ended a.bytes.now l.rows l.at l.invariant.0 (omega (arith, c.loop-at-test.false)) c.if-ended.false)
+    plan-waits a.start a.from a.ended a.bytes.now l.rows l.at l.invariant.0 (omega (arith, c.loop-at-test.false)) c.if-ended.false

@@ -1,5 +1,5 @@
 -- What `response_bounds` answers decides between a line for each task, none, and the refusal.
-use Rattle.std.proofs.Common.{arith, sym, subst, ◌∙◌}
+use Rattle.std.proofs.Common.{rules, arith, sym, subst, ◌∙◌}
 use Rattle.text.proofs.Writing.{put_front}
 use Rattle.model.proofs.Exits.{err-as}
 use Rattle.query.specs.Query.{PutOf, bounds_text}
@@ -11,12 +11,12 @@ returns-in_err-tested c =
     let r = c.response_bounds in
     let e = c.in_err-tested.field-0.0 in
     subst (PutOf (bounds_text c.args.words.now) c.args.lines.now) (sym (err-as c.from_residual.result e c.from_residual.ensures.1))
-    (c.requires, bounds-err c.args.words.now r.result r.ensures e c.in_err-tested.was)
+    (search rules, bounds-err c.args.words.now r.result r.ensures e c.in_err-tested.was)
 
 pub put_answer-requires : goal.put_answer-requires
 put_answer-requires c =
     let r = c.response_bounds in
-    ((bounds-some c.args.words.now r.result r.ensures c.in_ok-tested.tested c.in_ok-tested.was c.in-Some.figures c.in-Some.is).0, c.requires)
+    (bounds-some c.args.words.now r.result r.ensures c.in_ok-tested.tested c.in_ok-tested.was c.in-Some.figures c.in-Some.is).0
 
 pub returns-in-Some : goal.returns-in-Some
 returns-in-Some c =
@@ -27,5 +27,5 @@ returns-in-Some c =
 pub returns-in-None : goal.returns-in-None
 returns-in-None c =
     let r = c.response_bounds in
-    let p = c.copy.ensures in
+    let p = c.put.ensures in
     (omega (arith, p.ends), put_front p ∙ bounds-no c.args.words.now r.result r.ensures c.in_ok-tested.tested c.in_ok-tested.was c.in-None.is)

@@ -1,5 +1,5 @@
 -- The answer of `conflict` gives the positions kept, or the refusal.
-use Rattle.std.proofs.Common.{sym, subst, ◌∙◌}
+use Rattle.std.proofs.Common.{rules, sym, subst, ◌∙◌}
 use Rattle.model.proofs.Exits.{err-as}
 use Rattle.text.proofs.Writing.{put_front}
 use Rattle.query.specs.Query.{PutOf, conflict_text}
@@ -11,7 +11,7 @@ returns-in_err-kept c =
     let r = c.conflict in
     let e = c.in_err-kept.field-0.0 in
     subst (PutOf (conflict_text c.args.words.now) c.args.line.now) (sym (err-as c.from_residual.result e c.from_residual.ensures.1))
-    (c.requires, conflict-err c.args.words.now r.result r.ensures e c.in_err-kept.was)
+    (search rules, conflict-err c.args.words.now r.result r.ensures e c.in_err-kept.was)
 
 pub returns : goal.returns
 returns c =

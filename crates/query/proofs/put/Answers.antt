@@ -6,9 +6,6 @@ use Rattle.query.proofs.put.Goals as goal
 pub returns-in-Ok : goal.returns-in-Ok
 returns-in-Ok c = subst (PutOf (answer_to c.args.question c.args.words.now) c.put_given.new.lines) c.in-Ok.is c.put_given.ensures
 
-pub put_refusal-requires : goal.put_refusal-requires
-put_refusal-requires c = (subst (PutOf (answer_to c.args.question c.args.words.now) c.put_given.new.lines) c.in-Err.is c.put_given.ensures).0
-
 pub returns-in-Err : goal.returns-in-Err
 returns-in-Err c =
     let p = subst (PutOf (answer_to c.args.question c.args.words.now) c.put_given.new.lines) c.in-Err.is c.put_given.ensures in

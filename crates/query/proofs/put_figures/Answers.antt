@@ -1,11 +1,10 @@
 -- A position has two digits at most and a number ten, so that there is space for a line of one number more.
 use mathlib.Core.List.{List}
-use mathlib.Core.Path.{◌≡◌, ◌∙◌}
+use mathlib.Core.Path.{◌≡◌, ap, ◌∙◌}
 use Prim.Native.Nat.{ℕ, ◌+◌, ◌*◌, ◌≤◌, ◌<◌}
-use lib.ListN.{length, take, get_or, length-take}
-use lib.Seq.{length-take-le}
+use lib.ListN.{length, take}
+use lib.Seq.{take-length}
 use Rattle.std.proofs.Common.{rules, arith, subst}
-use Rattle.std.proofs.lemmas.List.{get_or-take}
 use Rattle.text.specs.Decimal.{decimal}
 use Rattle.text.specs.Written.{Put}
 use Rattle.text.proofs.Decimals.{count_most, decimal-length}
@@ -32,13 +31,6 @@ number-end :
 number-end l m s at place middle end p past before short most long =
     (omega (arith, past, before), put-length p (omega (arith, past, before, short, most, long)) ∙ long)
 
--- a place that has a number is below the count, and the number is that of all figures
-below : (figures : List ℕ) (count place : ℕ) → place < length (take count figures) → place < count
-below figures count place h = omega (arith, length-take count figures)
-
-figure-at : (figures : List ℕ) (count place : ℕ) → place < length (take count figures) → get_or (take count figures) place 0 ≡ get_or figures place 0
-figure-at figures count place h = get_or-take count figures place 0 (below figures count place h)
-
 pub loop-place-init : goal.loop-place-init
 unfolding figure_lines
 loop-place-init c = (put-none _ 0, omega arith)
@@ -46,21 +38,24 @@ loop-place-init c = (put-none _ 0, omega arith)
 pub put-middle-requires : goal.put-middle-requires
 put-middle-requires c =
     let l = c.loop-place in
-    let short : l.place < 32 = omega (arith, c.requires.0, below c.args.figures c.args.count l.place c.loop-place-test.true) in
-    omega (arith, l.invariant.1, c.requires.1, short, count_most 1 (l.place + 1) (omega (arith, short)))
+    let long : length l.lines ≡ 701 = search rules in
+    let short : l.place < 32 = omega (arith, c.requires, c.loop-place-test.true) in
+    omega (arith, l.invariant.1, long, short, count_most 1 (l.place + 1) (omega (arith, short)))
 
 pub put_field-end-requires : goal.put_field-end-requires
 put_field-end-requires c =
     let l = c.loop-place in
-    let short : l.place < 32 = omega (arith, c.requires.0, below c.args.figures c.args.count l.place c.loop-place-test.true) in
-    let m = position-end _ _ l.at l.place _ c.put-middle.ensures short l.invariant.1 (omega (arith, c.requires.1)) in
+    let long : length l.lines ≡ 701 = search rules in
+    let short : l.place < 32 = omega (arith, c.requires, c.loop-place-test.true) in
+    let m = position-end _ _ l.at l.place _ c.put-middle.ensures short l.invariant.1 long in
     omega (arith, m.0, m.1, l.invariant.1, short)
 
 pub bounds-lines-end : goal.bounds-lines-end
 bounds-lines-end c =
     let l = c.loop-place in
-    let short : l.place < 32 = omega (arith, c.requires.0, below c.args.figures c.args.count l.place c.loop-place-test.true) in
-    let m = position-end _ _ l.at l.place _ c.put-middle.ensures short l.invariant.1 (omega (arith, c.requires.1)) in
+    let long : length l.lines ≡ 701 = search rules in
+    let short : l.place < 32 = omega (arith, c.requires, c.loop-place-test.true) in
+    let m = position-end _ _ l.at l.place _ c.put-middle.ensures short l.invariant.1 long in
     let f = c.put_field-end.ensures in
     let e = number-end _ _ _ l.at l.place _ _ f.0 f.1 m.0 short l.invariant.1 m.1 in
     omega (arith, e.0, e.1, l.invariant.1, short)
@@ -69,24 +64,25 @@ pub loop-place-preserved : goal.loop-place-preserved
 loop-place-preserved c =
     let l = c.loop-place in
     let a = c.args in
-    let k = below a.figures a.count l.place c.loop-place-test.true in
-    let short : l.place < 32 = omega (arith, c.requires.0, k) in
-    let m = position-end _ _ l.at l.place _ c.put-middle.ensures short l.invariant.1 (omega (arith, c.requires.1)) in
+    let long : length l.lines ≡ 701 = search rules in
+    let short : l.place < 32 = omega (arith, c.requires, c.loop-place-test.true) in
+    let m = position-end _ _ l.at l.place _ c.put-middle.ensures short l.invariant.1 long in
     let f = c.put_field-end.ensures in
     let e = number-end _ _ _ l.at l.place _ _ f.0 f.1 m.0 short l.invariant.1 m.1 in
     let n = c.put_field-end.result in
     let room : n < 701 = omega (arith, e.0, l.invariant.1, short) in
-    let len : length a.figures ≡ 32 = search rules in
-    let g = rw (figure-at a.figures a.count l.place c.loop-place-test.true) at f.0 in
+    let first : length a.lines.now ≡ 701 = search rules in
     let p =
-    put-line a.lines.now l.lines c.put-middle.new.line c.put_field-end.new.line l.at c.put-middle.result n l.place a.figures l.invariant.0
-    (omega (arith, short, len)) c.put-middle.ensures g (omega (arith, f.0.ends)) (omega (arith, c.requires.1)) in
+    put-line a.lines.now l.lines c.put-middle.new.line c.put_field-end.new.line l.at c.put-middle.result n l.place a.figures.now l.invariant.0
+    c.loop-place-test.true c.put-middle.ensures f.0 (omega (arith, f.0.ends)) (omega (arith, room, first)) in
     (p, omega (arith, e.0, l.invariant.1))
 
 pub returns : goal.returns
 returns c =
     let l = c.loop-place in
     let a = c.args in
-    let len : length a.figures ≡ 32 = search rules in
-    let over : l.place ≡ a.count = omega (arith, c.loop-place-test.false, c.loop-place.auto.place-end, length-take-le a.count a.figures (omega (arith, len, c.requires.0))) in
-    (subst (λ (k : ℕ). Put a.lines.now 0 (figure_lines 0 (take k a.figures)) l.lines l.at) over l.invariant.0, omega (arith, l.invariant.1, over, c.requires.0))
+    let over : l.place ≡ length a.figures.now = omega (arith, c.loop-place-test.false, c.loop-place.auto.place-end) in (
+      subst (λ (xs : List ℕ). Put a.lines.now 0 (figure_lines 0 xs) l.lines l.at) (ap (λ (k : ℕ). take k a.figures.now) over ∙ take-length a.figures.now)
+          l.invariant.0,
+      omega (arith, l.invariant.1, over, c.requires),
+    )

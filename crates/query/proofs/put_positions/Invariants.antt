@@ -1,9 +1,6 @@
--- The positions of the set up to a place are written, 11 bytes for each at most.
-use Rattle.std.proofs.Common.{◌*◌, ◌≤◌}
-use Rattle.text.specs.Written.{Put}
-use Rattle.query.specs.Positions.{positions_below, spaced}
+-- The positions of some members are put, and the iterator has the others.
+use Rattle.query.proofs.Positions.{Placing}
 use Rattle.query.proofs.put_positions.Given as goal
 
 abbrev pub invariant-loop-place : goal.invariant-loop-place
-invariant-loop-place l =
-    Put l.initial.line 0 (spaced (positions_below l.place l.set)) l.line l.at × (l.at ≤ 11 * l.place)
+invariant-loop-place l = Placing l.set l.place-iterator.rest l.initial.line l.line l.at

@@ -4,5 +4,5 @@ use Rattle.rule.specs.Widths.{widths_in}
 use Rattle.rule.proofs.Lending.{Lending}
 use Rattle.rule.proofs.lend.Given as goal
 
-abbrev pub invariant-loop-i : goal.invariant-loop-i
-invariant-loop-i l = Lending (take l.count (widths_in l.even l.widths)) l.reserved l.holders l.fn.seekers l.count l.sets l.seeking l.i
+abbrev pub invariant-loop-place : goal.invariant-loop-place
+invariant-loop-place l = Lending (take l.count (widths_in l.even l.widths)) l.reserved l.holders l.fn.seekers l.count l.sets l.seeking l.place

@@ -7,4 +7,4 @@ use Rattle.rule.proofs.mark.Given as goal
 abbrev pub invariant-loop-core : goal.invariant-loop-core
 invariant-loop-core l =
     (l.core-iterator.rest < 2 ^ 64)
-    × (marked l.out l.mark (members l.core-iterator.rest) ≡ marked l.fn.row l.mark (members l.fn.set))
+    × (marked l.row l.mark (members l.core-iterator.rest) ≡ marked l.fn.row l.mark (members l.fn.set))

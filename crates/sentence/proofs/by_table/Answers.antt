@@ -24,24 +24,24 @@ first_of t m o u p e =
     (subst (FirstMiss (loaded_table t) u) same f.0, omega (arith, f.1), some)
 
 pub overflow_sub-miss : goal.overflow_sub-miss
-overflow_sub-miss c = (first_of c.args.table (miss_of c.first_miss.result) c.first_miss.ensures _ _ (ap miss_of c.in-Some.is)).2
+overflow_sub-miss c = (first_of c.args.fitting.loaded (miss_of c.first_miss.result) c.first_miss.ensures _ _ (ap miss_of c.in-Some.is)).2
 
 pub write_miss-requires : goal.write_miss-requires
 write_miss-requires c =
-    let f = first_of c.args.table (miss_of c.first_miss.result) c.first_miss.ensures _ _ (ap miss_of c.in-Some.is) in
-    (c.requires.0, f.0, f.1, c.requires.1)
+    let f = first_of c.args.fitting.loaded (miss_of c.first_miss.result) c.first_miss.ensures _ _ (ap miss_of c.in-Some.is) in
+    (f.0, f.1, c.requires)
 
 pub returns-in-None : goal.returns-in-None
 returns-in-None c = (
-  by-never (loaded_table c.args.table) (length c.args.buffer.now)
-      (never-found _ _ (sym (to-horizon c.args.table c.requires.0 (miss_of c.first_miss.result) c.first_miss.ensures) ∙ ap miss_of c.in-None.is)),
+  by-never (loaded_table c.args.fitting.loaded) (length c.args.buffer.now)
+      (never-found _ _ (sym (to-horizon c.args.fitting.loaded c.args.fitting.fit (miss_of c.first_miss.result) c.first_miss.ensures) ∙ ap miss_of c.in-None.is)),
   refl,
 )
 
 pub returns-in-Some : goal.returns-in-Some
 returns-in-Some c =
-    let t = c.args.table in
-    let e = sym (to-horizon t c.requires.0 (miss_of c.first_miss.result) c.first_miss.ensures) ∙ ap miss_of c.in-Some.is in
+    let t = c.args.fitting.loaded in
+    let e = sym (to-horizon t c.args.fitting.fit (miss_of c.first_miss.result) c.first_miss.ensures) ∙ ap miss_of c.in-Some.is in
     let same = found-facts (loaded_table t) _ _ e in
     let done = c.write_miss.ensures in (
       done.0 ∙ ap (λ (f : Facts). by_buffer f (length c.args.buffer.now)) same ∙ by-found (loaded_table t) (length c.args.buffer.now) (one_found _ _ _ _ e),

@@ -28,19 +28,19 @@ short t tick place fit first late within =
 pub put-length-requires : goal.put-length-requires
 put-length-requires c =
     subst (λ (f : Facts). length (sentence_text f) ≤ 700) (sym c.count-facts.ensures)
-    (short c.args.table c.args.tick c.args.place c.requires.0 c.requires.1 c.requires.2 c.requires.3)
+    (short c.args.fitting.loaded c.args.tick c.args.place c.args.fitting.fit c.requires.0 c.requires.1 c.requires.2)
 
 pub returns-then-buffer-length : goal.returns-then-buffer-length
 returns-then-buffer-length c =
-    let f = facts_at (loaded_table c.args.table) c.args.tick c.args.place in
+    let f = facts_at (loaded_table c.args.fitting.loaded) c.args.tick c.args.place in
     let aside = subst (λ (g : Facts). Put (replicate 700 0) 0 (sentence_text g) c.put-length.new.line c.put-length.result) c.count-facts.ensures c.put-length.ensures in
     let measured = text-length _ _ _ _ aside in
     (too_short f (length c.args.buffer.now) (omega (arith, measured, c.if-buffer-length.true)), refl)
 
 pub returns : goal.returns
 returns c =
-    let f = facts_at (loaded_table c.args.table) c.args.tick c.args.place in
+    let f = facts_at (loaded_table c.args.fitting.loaded) c.args.tick c.args.place in
     let aside = subst (λ (g : Facts). Put (replicate 700 0) 0 (sentence_text g) c.put-length.new.line c.put-length.result) c.count-facts.ensures c.put-length.ensures in
     let measured = text-length _ _ _ _ aside in
-    let done = text-copied _ _ _ _ aside _ _ _ c.copy.ensures in
+    let done = text-copied _ _ _ _ aside _ _ _ c.put.ensures in
     (ap Length done.0 ∙ long-enough f (length c.args.buffer.now) (omega (arith, measured, c.if-buffer-length.false)), done.1)

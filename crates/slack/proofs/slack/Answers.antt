@@ -2,8 +2,7 @@
 use Rattle.std.proofs.Common.{Bool, ◌∙◌, ap, sym, subst}
 use Rattle.model.proofs.Exits.{err-as}
 use Rattle.table.specs.Fit.{loaded_table}
-use Rattle.table.proofs.Contract.{load-ok}
-use Rattle.table.proofs.Fit.{fit}
+use Rattle.table.specs.Fitting.{loaded_in}
 use Rattle.slack.specs.Answer.{SlackOf, answered, given_slack, no_slack, slack_in, slack_answer}
 use Rattle.slack.proofs.Contract.{loaded-promise, refused_all}
 use Rattle.slack.proofs.slack.Goals as goal
@@ -12,26 +11,19 @@ pub returns-in_err-table : goal.returns-in_err-table
 returns-in_err-table c =
     let is = err-as c.from_residual.result c.in_err-table.field-0.0 c.from_residual.ensures.1 in
     subst (λ r. SlackOf c.args.words.now (answered r)) (sym is)
-    (refused_all c.args.words.now c.load.result c.load.ensures c.in_err-table.field-0.0 c.in_err-table.was)
-
-pub is_given-requires : goal.is_given-requires
-is_given-requires c =
-    let (h, none, e) = load-ok c.args.words.now c.load.result c.load.ensures c.in_ok-table.table c.in_ok-table.was in
-    fit c.args.words.now c.in_ok-table.table h none
+    (refused_all c.args.words.now (loaded_in c.load.result) c.load.ensures c.in_err-table.field-0.0 (ap loaded_in c.in_err-table.was))
 
 pub figures-requires : goal.figures-requires
-figures-requires c =
-    let (h, none, e) = load-ok c.args.words.now c.load.result c.load.ensures c.in_ok-table.table c.in_ok-table.was in
-    (fit c.args.words.now c.in_ok-table.table h none, sym c.is_given.ensures ∙ c.if-is_given.true)
+figures-requires c = sym c.is_given.ensures ∙ c.if-is_given.true
 
 pub returns-then-is_given : goal.returns-then-is_given
 returns-then-is_given c =
-    let s = loaded_table c.in_ok-table.table in
-    loaded-promise c.args.words.now c.load.result c.load.ensures c.in_ok-table.table c.in_ok-table.was (given_slack c.figures.result)
+    let s = loaded_table c.in_ok-table.table.loaded in
+    loaded-promise c.args.words.now (loaded_in c.load.result) c.load.ensures c.in_ok-table.table.loaded (ap loaded_in c.in_ok-table.was) (given_slack c.figures.result)
     (ap given_slack c.figures.ensures ∙ ap (λ (b : Bool). slack_answer b (slack_in s)) (sym c.if-is_given.true ∙ c.is_given.ensures))
 
 pub returns-else-is_given : goal.returns-else-is_given
 returns-else-is_given c =
-    let s = loaded_table c.in_ok-table.table in
-    loaded-promise c.args.words.now c.load.result c.load.ensures c.in_ok-table.table c.in_ok-table.was (no_slack 23 0)
+    let s = loaded_table c.in_ok-table.table.loaded in
+    loaded-promise c.args.words.now (loaded_in c.load.result) c.load.ensures c.in_ok-table.table.loaded (ap loaded_in c.in_ok-table.was) (no_slack 23 0)
     (ap (λ (b : Bool). slack_answer b (slack_in s)) (sym c.if-is_given.false ∙ c.is_given.ensures))

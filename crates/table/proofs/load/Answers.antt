@@ -47,27 +47,27 @@ bounds-words-2 c =
 narrow : (ws : List ℕ) → header_number ws ≡ 0 → InRange 1 most_cores (core_count ws)
 narrow ws fine = stable (in_range 1 most_cores (core_count ws)) (InRange 1 most_cores (core_count ws)) (from-decides 1 most_cores (core_count ws)) (header-passes ws fine).cores-in
 
-pub by_tasks-requires-clause-fact_1 : goal.by_tasks-requires-clause-fact_1
-by_tasks-requires-clause-fact_1 c =
+pub by_tasks-requires-clause-cores : goal.by_tasks-requires-clause-cores
+by_tasks-requires-clause-cores c =
     let fine = header-passed c.args.words.now (ap answer_in (sym c.in_ok-check.was) ∙ c.check.ensures) in
     (narrow c.args.words.now fine).1
 
-pub by_tasks-requires-clause-fact_2 : goal.by_tasks-requires-clause-fact_2
-by_tasks-requires-clause-fact_2 c =
+pub by_tasks-requires-clause-some : goal.by_tasks-requires-clause-some
+by_tasks-requires-clause-some c =
     let fine = header-passed c.args.words.now (ap answer_in (sym c.in_ok-check.was) ∙ c.check.ensures) in
     let walked = c.in_ok-chain.ensures in
     let many = whole-count c.args.words.now fine (chain-whole _ walked.answer) in
     omega (arith, many.0, walked.holds.0)
 
-pub by_tasks-requires-clause-fact_3 : goal.by_tasks-requires-clause-fact_3
-by_tasks-requires-clause-fact_3 c =
+pub by_tasks-requires-clause-few : goal.by_tasks-requires-clause-few
+by_tasks-requires-clause-few c =
     let fine = header-passed c.args.words.now (ap answer_in (sym c.in_ok-check.was) ∙ c.check.ensures) in
     let walked = c.in_ok-chain.ensures in
     let many = whole-count c.args.words.now fine (chain-whole _ walked.answer) in
     omega (arith, many.1, walked.holds.0)
 
-pub by_tasks-requires-clause-fact_4 : goal.by_tasks-requires-clause-fact_4
-by_tasks-requires-clause-fact_4 c =
+pub by_tasks-requires-clause-tasks : goal.by_tasks-requires-clause-tasks
+by_tasks-requires-clause-tasks c =
     let walked = c.in_ok-chain.ensures in
     walked.holds.1 ∙ ap code_tasks (sym (walked-tasks c.args.words.now c.in_ok-chain.chain.tasks c.in_ok-chain.chain.count walked.holds.1 walked.holds.0))
 

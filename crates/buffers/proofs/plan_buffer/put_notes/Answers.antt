@@ -11,4 +11,4 @@ pub loop-i-preserved : goal.loop-i-preserved
 loop-i-preserved c =
     let a = c.args in
     let len : length a.noted ≡ places = search rules in
-    next-note a.noted c.loop-i.i a.words.now c.loop-i.words (omega arith) (omega arith) c.loop-i.invariant c.of_phase.ensures c.put_note.ensures
+    next-note a.noted c.loop-i.i a.words.now c.loop-i.words (omega arith) (omega arith) c.loop-i.invariant c.put_note.ensures

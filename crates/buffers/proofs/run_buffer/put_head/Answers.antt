@@ -1,5 +1,5 @@
 -- `buffers::run_buffer::put_head`: the six stores are the head's words.
-use Rattle.std.proofs.Common.{◌≡◌, ◌≤◌, ℕ, List, ◌∷◌, length, drop, ◌∙◌}
+use Rattle.std.proofs.Common.{◌≡◌, refl, ◌≤◌, ℕ, List, ◌∷◌, length, drop, ◌∙◌}
 use Rattle.std.proofs.Math.ListN.{set}
 use Rattle.run.specs.declared.Run.{Run}
 use Rattle.buffers.specs.Encoding.{head_words, places_words, count_word, low_word, high_word, encode_to, overwritten}
@@ -16,4 +16,4 @@ answer_written ws r n l h k x y z =
 pub returns : goal.returns
 returns c =
     let a = c.args in
-    answer_written a.words.now a.run _ _ _ c.requires c.count_word.ensures c.low_word.ensures c.high_word.ensures
+    answer_written a.words.now a.run _ _ _ c.requires c.count_word.ensures refl refl

@@ -1,12 +1,10 @@
 -- `buffers::run_buffer::put_run`: one place more is written.
-use Rattle.std.proofs.Common.{◌≡◌, ◌++◌, ◌+◌, ◌-◌, ◌≤◌, ◌<◌, ℕ, List, ◌∷◌, length, get_or, take, drop, sym, ap, ap₂, ◌∙◌, arith, rules}
+use Rattle.std.proofs.Common.{◌≡◌, ◌++◌, ◌+◌, ◌-◌, ◌≤◌, ◌<◌, ℕ, List, ◌∷◌, length, get_or, take, drop, sym, ap, ◌∙◌, arith, rules}
 use borrow.Rule.Slice.PartMut.{put_mid}
 use Rattle.run.specs.declared.Run.{Run}
-use Rattle.phase.specs.declared.Task.{Task}
 use Rattle.phase.specs.Task.{past_end}
 use Rattle.run.proofs.Written.{take_more}
-use Rattle.buffers.specs.declared.run_buffer.PhaseWords.{PhaseWords}
-use Rattle.buffers.specs.Encoding.{each_words, places, words_to, of_phase, parity_word, place_with, place_words, places_words}
+use Rattle.buffers.specs.Encoding.{each_words, places, words_to, place_words, places_words}
 use Rattle.buffers.specs.Encoding.{count_word, low_word, high_word, encode_to, overwritten}
 use Rattle.buffers.proofs.Places.{words_more}
 use Rattle.buffers.proofs.Inverse.{length_to}
@@ -18,12 +16,6 @@ unfolding encode_to
 one_more r i h =
     ap (λ (l : List ℕ). r.rule ∷ (r.cores ∷ (count_word r.count ∷ (low_word r.fence ∷ (high_word r.fence ∷ (r.withdrawn ∷ l))))))
     (ap places_words (take_more r.tasks i past_end h) ∙ words_more (take i r.tasks) (get_or r.tasks i past_end))
-
--- a place's words, by those of its parity and its phase
-whole :
-    (t : Task) {n : ℕ} {ph : PhaseWords} {behind ys : List ℕ} → ys ≡ place_with t n ph ++ behind → n ≡ parity_word t.even → ph ≡ of_phase t.phase
-    → ys ≡ place_words t ++ behind
-whole t {behind = behind} e p q = e ∙ ap₂ (λ (n : ℕ) (ph : PhaseWords). place_with t n ph ++ behind) p q
 
 next_place :
     (words w ys : List ℕ) (r : Run) (i : ℕ) → i < length r.tasks → words ≡ overwritten i r w → words_to i ≤ length words
@@ -39,5 +31,4 @@ loop-i-preserved c =
     let a = c.args in
     let i = c.loop-i.i in
     let len : length a.run.tasks ≡ places = search rules in
-    next_place c.loop-i.words a.words.now _ a.run i (omega arith) c.loop-i.invariant (omega arith)
-    (whole (get_or a.run.tasks i past_end) c.put_place.ensures c.parity_word.ensures c.of_phase.ensures)
+    next_place c.loop-i.words a.words.now _ a.run i (omega arith) c.loop-i.invariant (omega arith) c.put_place.ensures

@@ -1,14 +1,13 @@
--- `capi::figures::sivorandra_slack`: the slack and the answer are written where there is space.
-use Rattle.std.proofs.Common.{◌≡◌, refl, sym, ap, ◌∙◌, ◌++◌, List, ℕ, drop, replicate, Result, Ok, Err}
+-- `capi::figures::sivorandra_slack`: the figures and the answer are written where there is space.
+use Rattle.std.proofs.Common.{◌≡◌, refl, List, ℕ, replicate, Result, Ok, Err, rules}
 use Rattle.std.specs.Result.{result_unwrap_or}
 use Rattle.model.specs.Sizes.{most_tasks}
 use Rattle.model.specs.declared.refusal.Refusal.{Refusal}
 use Rattle.table.specs.Answer.{answer_in}
-use Rattle.slack.specs.Answer.{SlackAnswer}
 use Rattle.slack.specs.Answer as called
 use Rattle.buffers.specs.AnswerWords.{of_given}
 use Rattle.capi.specs.Figures.{figures_call}
-use Rattle.capi.proofs.Calls.{both, words_of, answered, as-found}
+use Rattle.capi.proofs.Calls.{lending}
 use Rattle.capi.proofs.figures.sivorandra_slack.Goals as goal
 
 -- its answer in words, and its figures
@@ -20,18 +19,9 @@ figures-of : (r : Result (List ℕ) Refusal) → result_unwrap_or r (replicate m
 figures-of (Ok xs) = refl
 figures-of (Err e) = refl
 
-pub returns-then-fit : goal.returns-then-fit
-unfolding figures_call
-returns-then-fit c =
-    let r = c.slack-found.result in
-    both
-    (c.put_figures.ensures
-    ∙ (ap (λ (l : List ℕ). l ++ drop most_tasks c.args.figures.now) (c.unwrap_or-slack.ensures ∙ figures-of r)
-    ∙ ap (λ (v : SlackAnswer). v.slack ++ drop most_tasks c.args.figures.now) c.slack-found.ensures.value))
-    (words_of c.args.answer.now c.put.ensures
-    (c.encoded-encoded.ensures ∙ (answer-of r ∙ ap (λ (v : SlackAnswer). of_given v.answer 0) c.slack-found.ensures.value)))
-    ∙ answered _ _ (sym c.fit.ensures ∙ c.if-fit.true)
-
 pub returns : goal.returns
 unfolding figures_call
-returns c = as-found _ _ (sym c.fit.ensures ∙ c.if-fit.false)
+returns c =
+    let a = c.args in
+    lending a.figures.now a.answer.now most_tasks c.answered.ensures.fits c.answered.ensures.short _ _
+    (λ e w gave. (search (rules, figures-of), search (rules, answer-of)))

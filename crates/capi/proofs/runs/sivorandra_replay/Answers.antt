@@ -10,7 +10,7 @@ pub returns-in-Some : goal.returns-in-Some
 returns-in-Some c =
     let a = c.args in
     let v = replayed_in c.replay-replayed.result in
-    let given = by-some (fitted v) (of_replayed v) c.in-Some.encoded (sym c.replayed.ensures ∙ c.in-Some.is) in
+    let given = by-some (fitted v) (of_replayed v) c.in-Some.encoded (sym c.of_replayed.ensures ∙ c.in-Some.is) in
     replay-room a.words.now a.entries.now a.numbers.now a.row.now a.answer.now _ c.replay-replayed.ensures given.0
     (sym c.fit.ensures ∙ c.if-fit.true) (words_of a.answer.now c.put.ensures given.1)
 
@@ -19,7 +19,7 @@ returns-in_default c =
     let a = c.args in
     let v = replayed_in c.replay-replayed.result in
     replay-unfit a.words.now a.entries.now a.numbers.now a.row.now a.answer.now _ c.replay-replayed.ensures
-    (by-none (fitted v) (of_replayed v) (sym c.replayed.ensures ∙ c.in_default.is))
+    (by-none (fitted v) (of_replayed v) (sym c.of_replayed.ensures ∙ c.in_default.is))
 
 pub returns-else-fit : goal.returns-else-fit
 returns-else-fit c =

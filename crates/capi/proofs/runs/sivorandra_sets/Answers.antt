@@ -1,35 +1,31 @@
 -- `capi::runs::sivorandra_sets`: the sets and the answer are written where there is space.
-use Rattle.std.proofs.Common.{◌≡◌, refl, sym, ap, ◌∙◌, ◌++◌, List, ℕ, drop, replicate, Result, Ok, Err}
+use Rattle.std.proofs.Common.{◌≡◌, refl, List, ℕ, replicate, Result, Ok, Err, rules}
 use Rattle.std.specs.Result.{result_unwrap_or}
 use Rattle.model.specs.Sizes.{most_tasks}
 use Rattle.model.specs.declared.refusal.Refusal.{Refusal}
 use Rattle.table.specs.Answer.{answer_in}
-use Rattle.run.specs.Sets.{Sets, sets_asked}
+use Rattle.run.specs.Sets.{sets_asked}
 use Rattle.buffers.specs.AnswerWords.{of_answer, of_given}
+use Rattle.buffers.specs.Encoding.{decode}
+use Rattle.buffers.specs.Runs.{sets_from}
+use Rattle.buffers.proofs.Keeping.{asked-as}
 use Rattle.capi.specs.Runs.{sets_call}
-use Rattle.capi.proofs.Calls.{both, words_of, answered, as-found}
+use Rattle.capi.proofs.Calls.{lending}
 use Rattle.capi.proofs.runs.sivorandra_sets.Goals as goal
 
--- their answer in words, and the sets
+-- its answer in words, and the sets
 answer-of : (r : Result (List ℕ) Refusal) → of_given (answer_in r) 0 ≡ of_answer (sets_asked r).answer
 answer-of (Ok xs) = refl
 answer-of (Err e) = refl
 
-sets-of : (r : Result (List ℕ) Refusal) → result_unwrap_or r (replicate most_tasks 0) ≡ (sets_asked r).sets
-sets-of (Ok xs) = refl
-sets-of (Err e) = refl
-
-pub returns-then-fit : goal.returns-then-fit
-unfolding sets_call
-returns-then-fit c =
-    let r = c.sets_of-shown.result in
-    both
-    (c.put_figures.ensures
-    ∙ (ap (λ (l : List ℕ). l ++ drop most_tasks c.args.sets.now) (c.unwrap_or-found.ensures ∙ sets-of r)
-    ∙ ap (λ (v : Sets). v.sets ++ drop most_tasks c.args.sets.now) c.sets_of-shown.ensures))
-    (words_of c.args.answer.now c.put.ensures (c.encoded-encoded.ensures ∙ (answer-of r ∙ ap (λ (v : Sets). of_answer v.answer) c.sets_of-shown.ensures)))
-    ∙ answered _ _ (sym c.fit.ensures ∙ c.if-fit.true)
+found-of : (r : Result (List ℕ) Refusal) → result_unwrap_or r (replicate most_tasks 0) ≡ (sets_asked r).sets
+found-of (Ok xs) = refl
+found-of (Err e) = refl
 
 pub returns : goal.returns
 unfolding sets_call
-returns c = as-found _ _ (sym c.fit.ensures ∙ c.if-fit.false)
+returns c =
+    let a = c.args in
+    let asked = asked-as sets_asked (λ d. sets_from d a.empties) (λ r x p. search rules) refl (decode a.run.now) c.ask-shown.ensures in
+    lending a.sets.now a.answer.now most_tasks c.answered.ensures.fits c.answered.ensures.short _ _
+    (λ e w gave. (search (rules, found-of, asked), search (rules, answer-of, asked)))

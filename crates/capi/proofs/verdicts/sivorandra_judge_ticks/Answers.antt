@@ -1,16 +1,9 @@
 -- `capi::verdicts::sivorandra_judge_ticks`: the verdict is the judge's, and its three words are written where there is space.
-use Rattle.std.proofs.Common.{sym, ap, ◌∙◌}
-use Rattle.buffers.specs.AnswerWords.{answer_written, of_verdict}
+use Rattle.std.proofs.Common.{rules}
 use Rattle.capi.specs.Calls.{judge_call}
-use Rattle.capi.proofs.Calls.{one, answered, as-found}
+use Rattle.capi.proofs.Calls.{answering}
 use Rattle.capi.proofs.verdicts.sivorandra_judge_ticks.Goals as goal
 
 pub returns : goal.returns
 unfolding judge_call
-returns c =
-    let written = c.put_verdict.ensures.1 ∙ ap (λ v. answer_written (of_verdict v) c.args.answer.now) c.judge.ensures.value in
-    rw c.put_verdict.ensures.0 (one written ∙ answered _ _ (sym c.fit.ensures ∙ c.if-not-fit.false))
-
-pub returns-then-not-fit : goal.returns-then-not-fit
-unfolding judge_call
-returns-then-not-fit c = as-found _ _ (sym c.fit.ensures ∙ c.if-not-fit.true)
+returns c = answering c.args.answer.now c.answered.ensures.fits c.answered.ensures.short _ (λ w gave. search rules)

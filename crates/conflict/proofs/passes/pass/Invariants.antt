@@ -5,4 +5,4 @@ use Rattle.conflict.specs.Conflict.{pass}
 use Rattle.conflict.proofs.passes.pass.Given as goal
 
 abbrev pub invariant-loop-place : goal.invariant-loop-place
-invariant-loop-place l = pass (table_of l.words) l.place l.left ≡ pass (table_of l.words) l.fn.count l.fn.kept
+invariant-loop-place l = pass (table_of l.whole.words.now) l.place l.left ≡ pass (table_of l.whole.words.now) l.fn.count l.whole.kept

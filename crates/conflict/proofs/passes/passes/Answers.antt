@@ -20,7 +20,7 @@ loop-kept-init c =
     subst (Going s) (sym (c.all-kept.ensures ∙ ap (λ (n : ℕ). 2 ^ n - 1) c.requires.count)) (going_start s)
 
 pub pass-left-requires : goal.pass-left-requires
-pass-left-requires c = (c.requires.passes, few c.args.words.now c.args.count c.requires.passes c.requires.count)
+pass-left-requires c = few c.args.words.now c.args.count c.requires.passes c.requires.count
 
 pub returns-then-left-kept : goal.returns-then-left-kept
 returns-then-left-kept c =

@@ -1,6 +1,6 @@
 -- The run begins before tick 0.
 use mathlib.Core.Path.{sym, subst}
-use Rattle.simulation.specs.TickState.{numbers_by}
+use Rattle.simulation.specs.TickState.{numbers_of}
 use Rattle.simulation.specs.EventState.{event_state_of, StateRepresents}
 use Rattle.simulation.proofs.AreEvents.{initial-represents}
 use Rattle.judge.specs.RunOn.{JumpsBegin}
@@ -9,8 +9,8 @@ use Rattle.judge.proofs.by_events.first_miss.Goals as goal
 use Rattle.judge.proofs.by_events.first_miss.Goals.{After-start-machine}
 
 -- where the run begins
-begins : (c : After-start-machine) → let r = c.columns_of-columns.result in let m = c.start-machine.result in
-    JumpsBegin c.args.table (numbers_by r.setting r.widths r.times) (event_state_of m.registers m.places) c.args.end
+begins : (c : After-start-machine) → let m = c.start-machine.result in
+    JumpsBegin c.args.table (numbers_of c.columns_of-columns.result) (event_state_of m.registers m.places) c.args.end
 begins c = record {
   fit = c.requires.0;
   numbers = c.columns_of-columns.ensures;
@@ -18,8 +18,8 @@ begins c = record {
   early = c.requires.1;
 }
 
-pub run_on-ran-requires : goal.run_on-ran-requires
-run_on-ran-requires c = (c.args.table, begins (goal.at.run_on-ran-requires c).After-start-machine)
+pub run_on-requires : goal.run_on-requires
+run_on-requires c = (c.args.table, begins (goal.at.run_on-requires c).After-start-machine)
 
 pub returns : goal.returns
-returns c = as-jumps c.args.table c.requires.0 _ _ (c.run_on-ran.ensures.missed c.args.table (begins (goal.at.returns c).After-start-machine))
+returns c = as-jumps c.args.table c.requires.0 _ _ (c.run_on.ensures.missed c.args.table (begins (goal.at.returns c).After-start-machine))

@@ -11,7 +11,7 @@ use Rattle.table.specs.declared.Loaded.{Loaded}
 use Rattle.table.specs.Fit.{loaded_table}
 use Rattle.simulation.specs.Machine.{machine_of}
 use Rattle.simulation.specs.Places.{segment}
-use Rattle.simulation.specs.TickState.{Numbers, numbers_by}
+use Rattle.simulation.specs.TickState.{Numbers, numbers_of}
 use Rattle.simulation.specs.EventState.{EventState, event_state_of}
 use Rattle.simulation.specs.Jump.{jumped, JumpStarts}
 use Rattle.simulation.proofs.Parts.{front_at}
@@ -49,8 +49,8 @@ left_at c = front_at c.jumps.places c.in-Some.place (inside c)
 -- where the walk has ended no deadline of the tick is missed, so a jump may begin
 begins :
     (c : In-None) (t : Loaded)
-    → JumpsBegin t (numbers_by c.args.setting c.args.widths.now c.args.times.now) (event_state_of c.args.start c.args.places.now) c.args.end
-    → JumpStarts t (numbers_by c.args.setting c.args.widths.now c.args.times.now) (event_state_of c.jumps.registers c.jumps.places)
+    → JumpsBegin t (numbers_of c.args.columns.now) (event_state_of c.args.start c.args.places.now) c.args.end
+    → JumpStarts t (numbers_of c.args.columns.now) (event_state_of c.jumps.registers c.jumps.places)
 begins c t b =
     let h = c.jumps.invariant.1 t b in
     record {
@@ -62,7 +62,7 @@ begins c t b =
     }
 
 pub jumps-init : goal.jumps-init
-jumps-init c = (no_jump (numbers_by c.args.setting c.args.widths.now c.args.times.now) (event_state_of c.args.start c.args.places.now) c.args.end, λ t b. b.represents)
+jumps-init c = (no_jump (numbers_of c.args.columns.now) (event_state_of c.args.start c.args.places.now) c.args.end, λ t b. b.represents)
 
 pub loop-place-init : goal.loop-place-init
 loop-place-init c =

@@ -2,7 +2,7 @@ use Prim.Native.Nat.{ℕ, ◌-◌, ◌<◌}
 use mathlib.Core.Path.{◌≡◌}
 use Rattle.table.specs.declared.Loaded.{Loaded}
 use Rattle.simulation.specs.Machine.{machine_of}
-use Rattle.simulation.specs.TickState.{Numbers, numbers_by}
+use Rattle.simulation.specs.TickState.{Numbers, numbers_of}
 use Rattle.simulation.specs.EventState.{EventState, event_state_of, StateRepresents}
 use Rattle.judge.specs.RunOn.{jumps_on, JumpsBegin}
 use Rattle.judge.proofs.LateByEvents.{RemainingDue}
@@ -17,7 +17,7 @@ pub record JumpsTo (n : Numbers) (s : EventState) (end : ℕ) (s' : EventState) 
 -- some jumps were taken, and of every table whose run begins so
 abbrev pub invariant-jumps : goal.invariant-jumps
 invariant-jumps l =
-    let n = numbers_by l.setting l.widths l.times in
+    let n = numbers_of l.columns in
     let s = event_state_of l.initial.registers l.initial.places in
     JumpsTo n s l.end (event_state_of l.registers l.places)
     × ((t : Loaded) → JumpsBegin t n s l.end → StateRepresents t (event_state_of l.registers l.places))

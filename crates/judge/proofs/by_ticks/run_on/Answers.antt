@@ -10,7 +10,7 @@ use Rattle.table.specs.declared.Loaded.{Loaded}
 use Rattle.table.specs.Fit.{loaded_table}
 use Rattle.simulation.specs.Machine.{machine_of}
 use Rattle.simulation.specs.Places.{segment, second}
-use Rattle.simulation.specs.TickState.{Numbers, numbers_by, TickState, tick_state_of, Steppable, next_tick_state}
+use Rattle.simulation.specs.TickState.{Numbers, numbers_of, TickState, tick_state_of, Steppable, next_tick_state}
 use Rattle.simulation.proofs.Parts.{part_at}
 use Rattle.simulation.proofs.Steps.{tick-on}
 use Rattle.simulation.proofs.RefinesTick.{steppable, refines_on}
@@ -44,7 +44,7 @@ unfolding ticks_on
 ticks-init c =
     let s = tick_state_of c.args.start c.args.places.now in
     let z : s.tick - s.tick ≡ 0 = omega arith in
-    (ap (λ (k : ℕ). ticks_on (numbers_by c.args.setting c.args.widths.now c.args.times.now) k s) (sym z), omega arith, λ t b. (b.refines, b.within))
+    (ap (λ (k : ℕ). ticks_on (numbers_of c.args.columns.now) k s) (sym z), omega arith, λ t b. (b.refines, b.within))
 
 pub loop-place-init : goal.loop-place-init
 loop-place-init c =
@@ -73,7 +73,7 @@ loop-place-preserved c =
 
 -- where the walk has ended or was not needed no deadline of the tick is missed
 met : (c : Joined-registers) (t : Loaded)
-    → TicksBegin t (numbers_by c.args.setting c.args.widths.now c.args.times.now) (tick_state_of c.args.start c.args.places.now) c.args.end
+    → TicksBegin t (numbers_of c.args.columns.now) (tick_state_of c.args.start c.args.places.now) c.args.end
     → (q : ℕ) → ¬ Missed (loaded_table t) q c.ticks.registers.tick
 met c t b =
     let s = tick_state_of c.ticks.registers c.ticks.places in
@@ -100,7 +100,7 @@ ticks-preserved c =
     let s = tick_state_of c.ticks.registers c.ticks.places in
     let on = tick-on _ _ _ c.step-registers.ensures in
     let risen = c.ticks.invariant.1 in (
-      ticks-more (numbers_by c.args.setting c.args.widths.now c.args.times.now) (tick_state_of c.args.start c.args.places.now) s _
+      ticks-more (numbers_of c.args.columns.now) (tick_state_of c.args.start c.args.places.now) s _
           (c.ticks.registers.tick - c.args.start.tick) _ c.ticks.invariant.0 c.step-registers.ensures (omega arith),
       omega arith,
       λ t b. (
@@ -113,7 +113,7 @@ pub returns-then-registers-end : goal.returns-then-registers-end
 returns-then-registers-end c = record {
   run =
       c.ticks.invariant.0
-      ∙ ap (λ (u : ℕ). ticks_on (numbers_by c.args.setting c.args.widths.now c.args.times.now) (u - c.args.start.tick) (tick_state_of c.args.start c.args.places.now))
+      ∙ ap (λ (u : ℕ). ticks_on (numbers_of c.args.columns.now) (u - c.args.start.tick) (tick_state_of c.args.start c.args.places.now))
       c.if-registers-end.true;
   missed = λ t b.
       by-none (loaded_table t) b.fit.valid _ (λ q u h. (c.ticks.invariant.2 t b).0.before.met q u (omega (arith, c.if-registers-end.true)));

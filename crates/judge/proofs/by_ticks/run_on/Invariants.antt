@@ -2,7 +2,7 @@ use Prim.Native.Nat.{◌-◌, ◌≤◌}
 use mathlib.Core.Path.{◌≡◌}
 use Rattle.table.specs.declared.Loaded.{Loaded}
 use Rattle.simulation.specs.Machine.{machine_of}
-use Rattle.simulation.specs.TickState.{numbers_by, tick_state_of}
+use Rattle.simulation.specs.TickState.{numbers_of, tick_state_of}
 use Rattle.simulation.proofs.RefinesTick.{RefinesTick}
 use Rattle.judge.specs.RunOn.{ticks_on, TicksBegin}
 use Rattle.judge.proofs.LateByTicks.{RemainingClaimants}
@@ -11,7 +11,7 @@ use Rattle.judge.proofs.by_ticks.run_on.Given as goal
 -- so many ticks were taken, and of every table whose run begins so
 abbrev pub invariant-ticks : goal.invariant-ticks
 invariant-ticks l =
-    let n = numbers_by l.setting l.widths l.times in
+    let n = numbers_of l.columns in
     let s = tick_state_of l.initial.registers l.initial.places in
     (tick_state_of l.registers l.places ≡ ticks_on n (l.registers.tick - l.initial.registers.tick) s) × (l.initial.registers.tick ≤ l.registers.tick)
     × ((t : Loaded) → TicksBegin t n s l.end → RefinesTick t (tick_state_of l.registers l.places) × (l.registers.tick ≤ l.end))

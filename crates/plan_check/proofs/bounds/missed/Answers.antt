@@ -12,5 +12,5 @@ pub returns : goal.returns
 unfolding missed
 returns c =
     let r = c.args.run in
-    any_from_yields_List (λ t. late_in t.deadline t.phase) _ _ _ c.any.ensures.ran (YieldsList-from_slice (take r.count r.tasks) cc) (λ x b q k. search (rules, tests))
+    any_from_yields_List (λ t. late_in t.parameters.deadline t.phase) _ _ _ c.any.ensures.ran (YieldsList-from_slice (take r.count r.tasks) cc) (λ x b q k. search (rules, tests))
     ∙ any_of_first _ r.tasks r.count past_end (omega arith)

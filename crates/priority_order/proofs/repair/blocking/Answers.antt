@@ -6,7 +6,8 @@ use lib.ListN.{length, length-take}
 use Rattle.model.specs.Horizon.{horizon}
 use Rattle.model.specs.Task.{Table}
 use Rattle.model.specs.Verdict.{FirstMiss}
-use Rattle.std.specs.Prelude.{Result, Ok, Some}
+use Rattle.std.specs.Prelude.{Option, None, Result, Ok, Err, Some}
+use Rattle.std.specs.Result.{result_ok}
 use Rattle.judge.specs.declared.Miss.{Miss as MissOf}
 use Rattle.priority_order.specs.Repair.{late_with}
 use Rattle.model.specs.declared.refusal.Refusal.{Refusal}
@@ -19,6 +20,7 @@ use Rattle.sentence.specs.Facts.{Facts}
 use Rattle.sentence.specs.Waiting.{facts_at}
 use Rattle.priority_order.specs.Orders.{Permutation, reordered, OrderIn}
 use Rattle.priority_order.specs.Repair.{most_ran, LateIn}
+use Rattle.priority_order.proofs.Known.{order_in}
 use Rattle.priority_order.proofs.Reordering.{reordered-length}
 use Rattle.priority_order.proofs.Repairing.{MissIn, late-miss, miss-in}
 use native.Mathlib.Omega.{arith}
@@ -51,49 +53,61 @@ module _ (us : List ℕ) (r : Result Loaded Refusal) (loads : LoadOf us r) (t : 
   fits : Fit t
   fits = let (h, none, e) = load-ok us r loads t is in fit us t h none
 
+-- .. as code has it
+loaded : (r : Result Loaded Refusal) (o : Option Loaded) (t : Loaded) → o ≡ result_ok r → o ≡ Some t → r ≡ Ok t
+loaded (Ok u) o t e f = let same : u ≡ t = cc in rw same
+loaded (Err x) o t e f = let z : ◌≡◌ {A = ℕ} 0 1 = cc in absurd (omega arith)
+
+refused : (r : Result Loaded Refusal) (o : Option Loaded) → o ≡ result_ok r → o ≡ None → (e : Refusal) × (r ≡ Err e)
+refused (Ok u) o e f = let z : ◌≡◌ {A = ℕ} 0 1 = cc in absurd (omega arith)
+refused (Err x) o e f = (x, refl)
+
 pub slice_bounds-part-end : goal.slice_bounds-part-end
 slice_bounds-part-end c =
-    let ws = c.args.words.now in
-    let e = same_length ws c.args.count (the_late c.args.miss c.args.order) c.requires.0 refl c.requires.1 in
+    let ws = c.args.order.words.now in
+    let e = same_length ws c.args.order.count (the_late c.args.miss c.args.order.places) (order_in c.args.order) refl c.requires in
     omega (arith, length-take (length ws) c.reordered-part.result, ap {B = ℕ} length c.reordered-part.ensures, e)
 
 pub slice_bounds-load-end : goal.slice_bounds-load-end
 slice_bounds-load-end c =
-    sym (ap {B = ℕ} length c.reordered-part.ensures ∙ same_length c.args.words.now c.args.count (the_late c.args.miss c.args.order) c.requires.0 refl c.requires.1)
+    sym (ap {B = ℕ} length c.reordered-part.ensures ∙ same_length c.args.order.words.now c.args.order.count (the_late c.args.miss c.args.order.places) (order_in c.args.order) refl c.requires)
 
 pub overflow_sub-miss : goal.overflow_sub-miss
-overflow_sub-miss c = omega (arith, (missed c.args.words.now c.args.count (the_late c.args.miss c.args.order) c.requires.0 refl c.requires.1).some)
+overflow_sub-miss c = omega (arith, (missed c.args.order.words.now c.args.order.count (the_late c.args.miss c.args.order.places) (order_in c.args.order) refl c.requires).some)
 
 pub count-facts-requires : goal.count-facts-requires
 count-facts-requires c =
-    let ws = c.args.words.now in
-    let x = the_late c.args.miss c.args.order in
-    let m = missed ws c.args.count x c.requires.0 refl c.requires.1 in
+    let ws = c.args.order.words.now in
+    let x = the_late c.args.miss c.args.order.places in
+    let m = missed ws c.args.order.count x (order_in c.args.order) refl c.requires in
     let us = reordered ws x.order in
-    let t = c.in-Ok.table in
+    let t = c.in_ok-table.table in
     let loads = subst (λ (us : List ℕ). LoadOf us c.load.result) c.reordered-part.ensures c.load.ensures in
-    let same = table us c.load.result loads t c.in-Ok.is in
+    let is = loaded c.load.result c.ok.result t c.ok.ensures.value c.in_ok-table.was in
+    let same = table us c.load.result loads t is in
     let p : x.position ≡ suc (x.position - 1) = omega (arith, m.some) in
-    let f = fits us c.load.result loads t c.in-Ok.is in (
+    let f = fits us c.load.result loads t is in (
       f,
       subst (λ (a : Table). FirstMiss a x.tick (suc (x.position - 1))) (sym same) (subst (FirstMiss _ x.tick) p m.first),
       rw f.horizon (subst (λ (a : Table). x.tick ≤ horizon a) (sym same) m.within),
     )
 
-pub returns-in-Ok : goal.returns-in-Ok
-returns-in-Ok c =
-    let ws = c.args.words.now in
-    let x = the_late c.args.miss c.args.order in
+pub returns : goal.returns
+returns c =
+    let ws = c.args.order.words.now in
+    let x = the_late c.args.miss c.args.order.places in
     let loads = subst (λ (us : List ℕ). LoadOf us c.load.result) c.reordered-part.ensures c.load.ensures in
-    let same = table (reordered ws x.order) c.load.result loads c.in-Ok.table c.in-Ok.is in
+    let is = loaded c.load.result c.ok.result c.in_ok-table.table c.ok.ensures.value c.in_ok-table.was in
+    let same = table (reordered ws x.order) c.load.result loads c.in_ok-table.table is in
     c.most_ran.ensures
     ∙ (ap (λ (f : Facts). most_ran f.others) c.count-facts.ensures ∙ ap (λ (a : Table). most_ran (facts_at a x.tick (x.position - 1)).others) same)
 
 -- its words pass
-pub returns-in-Err : goal.returns-in-Err
-returns-in-Err c =
-    let ws = c.args.words.now in
-    let m = missed ws c.args.count (the_late c.args.miss c.args.order) c.requires.0 refl c.requires.1 in
+pub returns-in_err-table : goal.returns-in_err-table
+returns-in_err-table c =
+    let ws = c.args.order.words.now in
+    let m = missed ws c.args.order.count (the_late c.args.miss c.args.order.places) (order_in c.args.order) refl c.requires in
     let loads = subst (λ (us : List ℕ). LoadOf us c.load.result) c.reordered-part.ensures c.load.ensures in
-    let (says, first) = load-err (reordered ws c.args.order) c.load.result loads _ c.in-Err.is in
+    let (e, is) = refused c.load.result c.ok.result c.ok.ensures.value c.in_err-table.was in
+    let (says, first) = load-err (reordered ws c.args.order.places) c.load.result loads e is in
     absurd (m.passes _ _ first.0)

@@ -10,7 +10,7 @@ use Rattle.refinement.specs.Entries.{entry_of, answers, run_after_list}
 use Rattle.refinement.specs.Listing.{entry_count, entry_at}
 use Rattle.refinement.specs.Replay.{EntryAnswer, code, codes}
 use Rattle.run.proofs.Written.{written-more}
-use Rattle.refinement.proofs.Listed.{after_more, codes-more, length-codes, entries-more, length-entries}
+use Rattle.refinement.proofs.Listed.{after_more, codes-more, length-codes, entries-more, length-entries, entry-chunk}
 use Rattle.refinement.proofs.Codes.{small-answer}
 use Rattle.refinement.proofs.replays.enter_all.Goals as goal
 use Rattle.refinement.proofs.replays.enter_all.Goals.{in-Ok, in-Err}
@@ -30,9 +30,11 @@ answer-of r s x e y is gives same = ap (advanced r) (sym is) ∙ (gives ∙ ap (
 pub code-requires : goal.code-requires
 code-requires c =
     let l = c.loop-i in
-    let x = entry_at c.args.entries.now l.i in
+    let es = c.args.entries.now in
+    let x = entry_at es l.i in
+    let same = ap (entry_of l.run) (entry-chunk es c.as_chunks.result.0.now c.as_chunks.ensures.front l.i (omega (arith, c.as_chunks.ensures.front_len))) in
     subst (λ (a : Advanced). EntryAnswer (answer_meaning a.answer))
-    (sym (answer-of l.last l.last x c.enter.result (Err c.in-Err.refusal) c.in-Err.is c.enter.ensures refl)) (small-answer l.last x)
+    (sym (answer-of l.run l.run x c.enter.result (Err c.in-Err.refusal) c.in-Err.is (c.enter.ensures ∙ same) refl)) (small-answer l.run x)
 
 -- one entry more, with its answer as number k and the next run r
 module _ (run : Run) (es numbers₀ numbers : List ℕ) (i : ℕ) (room : i < length numbers₀) where
@@ -59,19 +61,20 @@ loop-i-preserved c =
     let es = a.entries.now in
     let x = entry_at es l.i in
     let after = run_after_list a.run (first es l.i) in
+    let same = ap (entry_of l.run) (entry-chunk es c.as_chunks.result.0.now c.as_chunks.ensures.front l.i (omega (arith, c.as_chunks.ensures.front_len))) in
     elim c.match-enter.branch [
       | in-Ok w ↦
-          let ans = answer-of l.last after x c.enter.result (Ok w.in-Ok.next) w.in-Ok.is c.enter.ensures l.invariant.after in
+          let ans = answer-of l.run after x c.enter.result (Ok w.in-Ok.next) w.in-Ok.is (c.enter.ensures ∙ same) l.invariant.after in
           record {
-            after = more-run a.run es a.numbers.now l.numbers l.i (omega arith) c.match-enter.last (w.last-is ∙ ap (λ (b : Advanced). b.run) ans);
+            after = more-run a.run es a.numbers.now l.numbers l.i (omega arith) c.match-enter.run (w.run-is ∙ ap (λ (b : Advanced). b.run) ans);
             written =
                 w.numbers-is
                 ∙ more-codes a.run es a.numbers.now l.numbers l.i (omega arith) l.invariant.written 0 (ap (λ (b : Advanced). code (answer_meaning b.answer)) ans);
           }
       | in-Err w ↦
-          let ans = answer-of l.last after x c.enter.result (Err w.in-Err.refusal) w.in-Err.is c.enter.ensures l.invariant.after in
+          let ans = answer-of l.run after x c.enter.result (Err w.in-Err.refusal) w.in-Err.is (c.enter.ensures ∙ same) l.invariant.after in
           record {
-            after = more-run a.run es a.numbers.now l.numbers l.i (omega arith) c.match-enter.last (w.last-is ∙ ap (λ (b : Advanced). b.run) ans);
+            after = more-run a.run es a.numbers.now l.numbers l.i (omega arith) c.match-enter.run (w.run-is ∙ ap (λ (b : Advanced). b.run) ans);
             written =
                 w.numbers-is
                 ∙ more-codes a.run es a.numbers.now l.numbers l.i (omega arith) l.invariant.written w.code.result

@@ -8,6 +8,6 @@ use Rattle.refinement.proofs.replays.enter_all.Given as goal
 
 abbrev pub invariant-loop-i : goal.invariant-loop-i
 invariant-loop-i l = record {
-  after : l.last ≡ run_after_list l.fn.run (map (entry_at l.entries) (up_from 0 l.i));
+  after : l.run ≡ run_after_list l.fn.run (map (entry_at l.entries) (up_from 0 l.i));
   written : l.numbers ≡ codes l.fn.run (map (entry_at l.entries) (up_from 0 l.i)) ++ drop l.i l.initial.numbers;
 }

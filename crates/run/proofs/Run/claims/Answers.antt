@@ -4,7 +4,7 @@ use Rattle.model.specs.Sizes.{most_cores, most_tasks}
 use Rattle.model.proofs.Digits.{or-bit}
 use Rattle.phase.specs.Phase.{claiming, working, released, phase_emptied}
 use Rattle.phase.specs.Task.{out_in}
-use Rattle.rule.proofs.Gathered.{gathered-more}
+use Rattle.model.proofs.Gathered.{gathered-more}
 use Rattle.run.specs.Numbers.{late_at, place_out, width_limit_in}
 use Rattle.run.specs.Run.{rule_in, place_at, even_at, phase_at, emptied_at}
 use Rattle.run.proofs.PlaceSets.{stored_more, widths-stored}

@@ -2,7 +2,7 @@
 use Rattle.std.proofs.Common.{◌≡◌, length}
 use Rattle.phase.specs.Phase.{claiming, working, released}
 use Rattle.rule.specs.Widths.{pair}
-use Rattle.rule.proofs.Gathered.{Gathered}
+use Rattle.model.proofs.Gathered.{Gathered}
 use Rattle.run.specs.Numbers.{late_at, place_out}
 use Rattle.run.specs.Run.{even_at, phase_at, emptied_at}
 use Rattle.run.proofs.PlaceSets.{Stored}

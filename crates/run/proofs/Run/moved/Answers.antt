@@ -29,7 +29,7 @@ loop-i-preserved c =
     let places : length r.tasks ≡ most_tasks = search rules in
     let past = map_first-past f i r.tasks i past_end (le_refl i) in
     let e : c.next.result ≡ f i (get_or r.tasks i past_end) =
-    simp (c.next.ensures, c.has-empty.ensures ∙ or-bit a.empties r.withdrawn i, c.has.ensures, c.has-in-loop-i.ensures, c.has-in-loop-i-2.ensures, c.requires.fact_2 i, c.requires.fact_3 i, c.loop-i.invariant.so_far, past) in
+    simp (c.next.ensures, c.has.ensures ∙ or-bit a.empties r.withdrawn i, c.has-in-loop-i.ensures, c.has-in-loop-i-2.ensures, c.has-in-loop-i-3.ensures, c.requires.fact_2 i, c.requires.fact_3 i, c.loop-i.invariant.so_far, past) in
     record {
       few = c.loop-i.invariant.few;
       so_far = simp (c.loop-i.invariant.so_far, e, add-one, map_first-step f i r.tasks past_end (omega arith));

@@ -8,6 +8,6 @@ use Rattle.run.proofs.Run.parameters.Given as goal
 abbrev pub invariant-loop-i : goal.invariant-loop-i
 invariant-loop-i l = record {
   size : length l.tasks ≡ most_tasks;
-  known : (p : ℕ) → p < l.i → task_of (get_or l.tasks p no_task) ≡ run_task_at l.self p;
+  known : (p : ℕ) → p < l.i → task_of (get_or l.tasks p no_task) ≡ run_task_at l.fn.self p;
   none : (p : ℕ) → l.i ≤ p → get_or l.tasks p no_task ≡ no_task;
 }

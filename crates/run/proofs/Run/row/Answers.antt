@@ -1,5 +1,6 @@
 -- `run::Run::row`: a row can show the tick's sets (`run-showable`), and their bytes are the row's.
-use Rattle.std.proofs.Common.{◌≡◌, ◌∙◌, ◌++◌, ◌-◌, List, ℕ, Ok, ap, length, map, replicate, subst, sym, take}
+use Rattle.std.proofs.Common.{◌≡◌, ◌∙◌, ◌++◌, ◌-◌, List, ℕ, Ok, ap, arith, length, map, replicate, subst, sym, take}
+use Rattle.std.proofs.Math.Seq.{length-take-le}
 use Rattle.model.specs.Refusal.{number_of, position_of}
 use Rattle.model.specs.Row.{row}
 use Rattle.model.specs.Sizes.{most_cores, most_tasks}
@@ -40,7 +41,14 @@ pub row_in-requires-clause-fact_1 : goal.row_in-requires-clause-fact_1
 row_in-requires-clause-fact_1 c =
     let a = c.args in
     let passes = row-passes a.self a.empties (tick-taken a.self a.empties c.tick.result c.tick.ensures c.in_ok-tick.tick c.in_ok-tick.was) in
-    (few-cores a.self passes, few a.self passes)
+    let most = few a.self passes in
+    let here : length (take a.self.count c.in_ok-tick.tick.sets) ≡ a.self.count = length-take-le a.self.count c.in_ok-tick.tick.sets (omega arith) in
+    (few-cores a.self passes, omega arith)
+
+pub shared_ref_as_front-row_in : goal.shared_ref_as_front-row_in
+shared_ref_as_front-row_in c =
+    let a = c.args in
+    omega (arith, few a.self (row-passes a.self a.empties (tick-taken a.self a.empties c.tick.result c.tick.ensures c.in_ok-tick.tick c.in_ok-tick.was)))
 
 pub row_in-requires-clause-fact_2 : goal.row_in-requires-clause-fact_2
 row_in-requires-clause-fact_2 c =

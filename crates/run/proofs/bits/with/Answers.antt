@@ -1,6 +1,6 @@
 use Rattle.std.proofs.Common.{Bool, ◌||◌, ◌&&◌, eqb, ap, sym, ◌∙◌}
 use Rattle.model.specs.Search.{bit}
-use Rattle.rule.proofs.Gathered.{with-place}
+use Rattle.model.proofs.Gathered.{with-place}
 use Rattle.run.proofs.bits.with.Goals as goal
 
 pub returns-then-on : goal.returns-then-on

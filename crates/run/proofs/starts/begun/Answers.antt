@@ -1,6 +1,6 @@
 use Rattle.std.proofs.Common.{List, [], ◌∷◌, ◌++◌, ℕ, ◌+◌, ◌≡◌, ◌<◌, ◌≤◌, ap, sym, ◌∙◌, arith, rules, length, get_or, map, take, drop, replicate}
 use Rattle.std.proofs.Math.ListN.{length-map}
-use Rattle.std.proofs.Math.Seq.{length-take-le}
+use Rattle.std.proofs.Math.Seq.{get_or-take, length-take-le}
 use Rattle.std.proofs.lemmas.List.{drop-replicate}
 use Rattle.model.proofs.Lists.{map_more}
 use Rattle.model.specs.Sizes.{most_tasks}
@@ -34,7 +34,8 @@ loop-i-preserved c =
     let more =
     written-more (starting tasks l.i) (replicate most_tasks unused) l.i (start_task (task_of (get_or tasks l.i no_task))) past_end
     (length-starting tasks l.i (omega arith)) (omega arith) in
-    simp (l.invariant, c.start_task.ensures) (more ∙ ap (λ (k : List Task). k ++ drop (l.i + 1) (replicate most_tasks unused)) (sym (starting-more tasks l.i (omega arith))))
+    let here = get_or-take c.args.table.count tasks l.i no_task (omega arith) in
+    simp (l.invariant, c.from.ensures, here) (more ∙ ap (λ (k : List Task). k ++ drop (l.i + 1) (replicate most_tasks unused)) (sym (starting-more tasks l.i (omega arith))))
 
 pub returns : goal.returns
 unfolding started_run

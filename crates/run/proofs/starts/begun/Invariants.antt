@@ -6,4 +6,4 @@ use Rattle.phase.specs.Task.{unused, start_task}
 use Rattle.run.proofs.starts.begun.Given as goal
 
 abbrev pub invariant-loop-i : goal.invariant-loop-i
-invariant-loop-i l = l.places ≡ map start_task (tasks_of l.table.tasks l.i) ++ drop l.i (replicate most_tasks unused)
+invariant-loop-i l = l.places ≡ map start_task (tasks_of l.fn.table.tasks l.i) ++ drop l.i (replicate most_tasks unused)

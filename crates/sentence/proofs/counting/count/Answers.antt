@@ -1,4 +1,4 @@
-use Rattle.std.proofs.Common.{◌≡◌, ℕ, suc, ◌+◌, ◌-◌, ◌≤◌, ◌<◌, List, get_or, replicate, sym, ap, ◌∙◌, subst, arith}
+use Rattle.std.proofs.Common.{◌≡◌, ℕ, suc, ◌+◌, ◌-◌, ◌≤◌, ◌<◌, List, [], ◌++◌, length, take, drop, get_or, replicate, length-drop, rules, ap₂, sym, ap, ◌∙◌, subst, arith}
 use Rattle.model.specs.Task.{Task, task}
 use Rattle.model.specs.Verdict.{FirstMiss}
 use Rattle.table.specs.declared.Loaded.{Loaded}
@@ -15,6 +15,11 @@ use Rattle.simulation.proofs.Steps.{tick-on}
 use Rattle.judge.specs.FirstMiss.{Missed}
 use Rattle.judge.specs.RunOn.{TicksRun}
 use Rattle.judge.proofs.OneStep.{one-tick}
+use mathlib.Core.List.{append-nil}
+use lib.Seq.{length-take-le}
+use Rattle.std.proofs.lemmas.List.{nil_from_length}
+use borrow.Rule.Slice.PartMut.{put_mid}
+use Rattle.sentence.specs.Counting.{above}
 use Rattle.sentence.specs.Facts.{named}
 use Rattle.sentence.specs.Waiting.{release_of, had_by}
 use Rattle.sentence.proofs.Waiting.{missed_here, deadline-within, Counted, counted-small, counted-named}
@@ -61,6 +66,13 @@ module _ (t : Loaded) (fit : Fit t) (tick place : ℕ) (f : FirstMiss (loaded_ta
       let at = front_at places place inside.1 in
       (omega (arith, same, at, h.0), omega (arith, same, at, h.1))
 
+-- the counts with zeros from a place on
+zeros-from : (p : ℕ) (ran zs : List ℕ) → p < 32 → length ran ≡ 32 → zs ≡ replicate (length (take (32 - p) (drop p ran))) 0 → put_mid p (32 - p) ran zs ≡ above p ran
+zeros-from p ran zs h l e =
+    let few : length (take (32 - p) (drop p ran)) ≡ 32 - p = length-take-le (32 - p) (drop p ran) (omega (arith, length-drop p ran)) in
+    let none : drop (32 - p) (drop p ran) ≡ [] = nil_from_length (drop (32 - p) (drop p ran)) (omega (arith, length-drop (32 - p) (drop p ran), length-drop p ran)) in
+    ap (λ (xs : List ℕ). take p ran ++ xs) (ap₂ (λ (xs ys : List ℕ). xs ++ ys) (e ∙ ap (λ (n : ℕ). replicate n 0) few) none ∙ append-nil (replicate (32 - p) 0))
+
 pub overflow_sub-release : goal.overflow_sub-release
 overflow_sub-release c =
     let a = c.args in
@@ -76,34 +88,34 @@ loop-registers-init c =
 pub add-requires : goal.add-requires
 add-requires c q = omega (arith, counted-small _ _ _ _ _ c.loop-registers.invariant.counted q, c.loop-registers.invariant.within, c.ranges.tick)
 
-pub loop-registers-smaller-then-not-runs : goal.loop-registers-smaller-then-not-runs
-loop-registers-smaller-then-not-runs c =
+pub loop-registers-smaller-then-not-has : goal.loop-registers-smaller-then-not-has
+loop-registers-smaller-then-not-has c =
     let a = c.args in
     let e = stepped a.table c.requires.0 a.tick a.place c.requires.1 _ _ _ _ _ c.columns_of-columns.ensures c.requires.2 c.loop-registers.invariant c.loop-registers-test.true c.run_on-on.ensures in
     omega (arith, tick-on _ _ _ e, c.loop-registers-test.true)
 
-pub loop-registers-preserved-then-not-runs : goal.loop-registers-preserved-then-not-runs
-loop-registers-preserved-then-not-runs c =
+pub loop-registers-preserved-then-not-has : goal.loop-registers-preserved-then-not-has
+loop-registers-preserved-then-not-has c =
     let a = c.args in
     let e = stepped a.table c.requires.0 a.tick a.place c.requires.1 _ _ _ _ _ c.columns_of-columns.ensures c.requires.2 c.loop-registers.invariant c.loop-registers-test.true c.run_on-on.ensures in
     let r = released a.table c.requires.0 a.tick a.place c.requires.1 in
     subst (λ (l : List ℕ). Counting a.table a.tick a.place (tick_state_of c.run_on-on.result.registers c.run_on-on.new.places) l) (sym c.add.ensures)
     (counting-waits a.table c.requires.0 a.tick a.place c.requires.1 _ _ c.loop-registers.invariant c.loop-registers-test.true _ e
-    (omega (arith, r, c.if-release-before.true)) (sym c.has-runs.ensures ∙ c.if-not-runs.true))
+    (omega (arith, r, c.if-release-before.true)) (sym c.has.ensures ∙ c.if-not-has.true))
 
-pub loop-registers-smaller-else-not-runs : goal.loop-registers-smaller-else-not-runs
-loop-registers-smaller-else-not-runs c =
+pub loop-registers-smaller-else-not-has : goal.loop-registers-smaller-else-not-has
+loop-registers-smaller-else-not-has c =
     let a = c.args in
     let e = stepped a.table c.requires.0 a.tick a.place c.requires.1 _ _ _ _ _ c.columns_of-columns.ensures c.requires.2 c.loop-registers.invariant c.loop-registers-test.true c.run_on-on.ensures in
     omega (arith, tick-on _ _ _ e, c.loop-registers-test.true)
 
-pub loop-registers-preserved-else-not-runs : goal.loop-registers-preserved-else-not-runs
-loop-registers-preserved-else-not-runs c =
+pub loop-registers-preserved-else-not-has : goal.loop-registers-preserved-else-not-has
+loop-registers-preserved-else-not-has c =
     let a = c.args in
     let e = stepped a.table c.requires.0 a.tick a.place c.requires.1 _ _ _ _ _ c.columns_of-columns.ensures c.requires.2 c.loop-registers.invariant c.loop-registers-test.true c.run_on-on.ensures in
     let r = released a.table c.requires.0 a.tick a.place c.requires.1 in
     counting-runs a.table c.requires.0 a.tick a.place c.requires.1 _ _ c.loop-registers.invariant c.loop-registers-test.true _ e
-    (omega (arith, r, c.if-release-before.true)) (sym c.has-runs.ensures ∙ c.if-not-runs.false)
+    (omega (arith, r, c.if-release-before.true)) (sym c.has.ensures ∙ c.if-not-has.false)
 
 pub loop-registers-smaller : goal.loop-registers-smaller
 loop-registers-smaller c =
@@ -134,7 +146,10 @@ returns c =
     let counts = counted-end a.table c.requires.0 a.tick a.place c.requires.1 k.registers k.places k.ran k.invariant c.loop-registers-test.false in
     let few = (inside a.table c.requires.0 a.tick a.place c.requires.1).1 in
     let position : a.place + 1 ≡ suc a.place = omega arith in
-    let others = ap named c.counts_above-counts.ensures ∙ counted-named (loaded_table a.table) a.tick a.place k.ran counts (omega (arith, few)) in
+    let size : length k.ran ≡ 32 = search rules in
+    let kept : put_mid a.place (32 - a.place) k.ran c.fill.new.self ≡ above a.place k.ran =
+    zeros-from a.place k.ran c.fill.new.self few size (c.fill.ensures.after (λ y h. h)) in
+    let others = ap named kept ∙ counted-named (loaded_table a.table) a.tick a.place k.ran counts (omega (arith, few)) in
     λ i. record {
       position = position i;
       tick = a.tick;

@@ -7,56 +7,56 @@ use Rattle.sentence.specs.Sentence.{parts}
 use Rattle.sentence.proofs.Putting.{room_after, put_both, second, third, fourth, pieces, room-1, room-2, room-3, room-4, room-5, room-6, room-7}
 use Rattle.sentence.proofs.writer.put.Goals as goal
 
-pub put_field-a-requires : goal.put_field-a-requires
-put_field-a-requires c = room-1 (facts_by c.args.facts) (length c.args.line.now) c.requires
+pub put_after-a-requires : goal.put_after-a-requires
+put_after-a-requires c = room-1 (facts_by c.args.facts) (length c.args.line.now) c.requires
 
-pub put_field-b-requires : goal.put_field-b-requires
-put_field-b-requires c =
+pub put_after-b-requires : goal.put_after-b-requires
+put_after-b-requires c =
     let f = facts_by c.args.facts in
-    room_after (second f) c.put_field-a.ensures (room-2 f (length c.args.line.now) c.requires)
+    room_after (second f) c.put_after-a.ensures (room-2 f (length c.args.line.now) c.requires)
 
-pub put_field-c-requires : goal.put_field-c-requires
-put_field-c-requires c =
+pub put_after-c-requires : goal.put_after-c-requires
+put_after-c-requires c =
     let f = facts_by c.args.facts in
     let n = length c.args.line.now in
-    let two = put_both c.put_field-a.ensures c.put_field-b.ensures (room-2 f n c.requires) in
+    let two = put_both c.put_after-a.ensures c.put_after-b.ensures (room-2 f n c.requires) in
     room_after (third f) two (room-3 f n c.requires)
 
-pub put_field-d-requires : goal.put_field-d-requires
-put_field-d-requires c =
+pub put_after-d-requires : goal.put_after-d-requires
+put_after-d-requires c =
     let f = facts_by c.args.facts in
     let n = length c.args.line.now in
-    let two = put_both c.put_field-a.ensures c.put_field-b.ensures (room-2 f n c.requires) in
-    let three = put_both two c.put_field-c.ensures (room-3 f n c.requires) in
+    let two = put_both c.put_after-a.ensures c.put_after-b.ensures (room-2 f n c.requires) in
+    let three = put_both two c.put_after-c.ensures (room-3 f n c.requires) in
     room_after (fourth f) three (room-4 f n c.requires)
 
-pub copy-e-requires : goal.copy-e-requires
-copy-e-requires c =
+pub put-e-requires : goal.put-e-requires
+put-e-requires c =
     let f = facts_by c.args.facts in
     let n = length c.args.line.now in
-    let two = put_both c.put_field-a.ensures c.put_field-b.ensures (room-2 f n c.requires) in
-    let three = put_both two c.put_field-c.ensures (room-3 f n c.requires) in
-    let four = put_both three c.put_field-d.ensures (room-4 f n c.requires) in
-    (omega arith, room_after (letters " ticks") four (room-5 f n c.requires))
+    let two = put_both c.put_after-a.ensures c.put_after-b.ensures (room-2 f n c.requires) in
+    let three = put_both two c.put_after-c.ensures (room-3 f n c.requires) in
+    let four = put_both three c.put_after-d.ensures (room-4 f n c.requires) in
+    room_after (letters " ticks") four (room-5 f n c.requires)
 
 pub put_parts-f-requires : goal.put_parts-f-requires
 put_parts-f-requires c =
     let f = facts_by c.args.facts in
     let n = length c.args.line.now in
-    let two = put_both c.put_field-a.ensures c.put_field-b.ensures (room-2 f n c.requires) in
-    let three = put_both two c.put_field-c.ensures (room-3 f n c.requires) in
-    let four = put_both three c.put_field-d.ensures (room-4 f n c.requires) in
-    let five = put_both four c.copy-e.ensures (room-5 f n c.requires) in
+    let two = put_both c.put_after-a.ensures c.put_after-b.ensures (room-2 f n c.requires) in
+    let three = put_both two c.put_after-c.ensures (room-3 f n c.requires) in
+    let four = put_both three c.put_after-d.ensures (room-4 f n c.requires) in
+    let five = put_both four c.put-e.ensures (room-5 f n c.requires) in
     room_after (parts f.others []) five (room-6 f n c.requires)
 
 pub bounds-line-f : goal.bounds-line-f
 bounds-line-f c =
     let f = facts_by c.args.facts in
     let n = length c.args.line.now in
-    let two = put_both c.put_field-a.ensures c.put_field-b.ensures (room-2 f n c.requires) in
-    let three = put_both two c.put_field-c.ensures (room-3 f n c.requires) in
-    let four = put_both three c.put_field-d.ensures (room-4 f n c.requires) in
-    let five = put_both four c.copy-e.ensures (room-5 f n c.requires) in
+    let two = put_both c.put_after-a.ensures c.put_after-b.ensures (room-2 f n c.requires) in
+    let three = put_both two c.put_after-c.ensures (room-3 f n c.requires) in
+    let four = put_both three c.put_after-d.ensures (room-4 f n c.requires) in
+    let five = put_both four c.put-e.ensures (room-5 f n c.requires) in
     let six = put_both five c.put_parts-f.ensures (room-6 f n c.requires) in
     let r = room_after (letters ".") six (room-7 f n c.requires) in
     omega (arith, r)
@@ -65,10 +65,10 @@ pub returns : goal.returns
 returns c =
     let f = facts_by c.args.facts in
     let n = length c.args.line.now in
-    let two = put_both c.put_field-a.ensures c.put_field-b.ensures (room-2 f n c.requires) in
-    let three = put_both two c.put_field-c.ensures (room-3 f n c.requires) in
-    let four = put_both three c.put_field-d.ensures (room-4 f n c.requires) in
-    let five = put_both four c.copy-e.ensures (room-5 f n c.requires) in
+    let two = put_both c.put_after-a.ensures c.put_after-b.ensures (room-2 f n c.requires) in
+    let three = put_both two c.put_after-c.ensures (room-3 f n c.requires) in
+    let four = put_both three c.put_after-d.ensures (room-4 f n c.requires) in
+    let five = put_both four c.put-e.ensures (room-5 f n c.requires) in
     let six = put_both five c.put_parts-f.ensures (room-6 f n c.requires) in
     let q = c.put_parts-f in
     let r = room_after (letters ".") six (room-7 f n c.requires) in

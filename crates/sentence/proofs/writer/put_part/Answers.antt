@@ -26,19 +26,19 @@ returns-then-count-eq0 c =
     let a = c.args in
     subst (λ (s : List ℕ). Put a.line.now a.at s a.line.now a.at) (sym (part_none a.place a.count c.if-count-eq0.true)) (put-none a.line.now a.at)
 
-pub put_field-middle-requires : goal.put_field-middle-requires
-put_field-middle-requires c =
+pub put_after-middle-requires : goal.put_after-middle-requires
+put_after-middle-requires c =
     let a = c.args in
     room-first a.at (length a.line.now) (task a.place) (ran a.count) (both-fit a.at a.place a.count (length a.line.now) c.if-count-eq0.false c.requires.1)
 
-pub put_field-requires : goal.put_field-requires
-put_field-requires c =
+pub put_after-requires : goal.put_after-requires
+put_after-requires c =
     let a = c.args in
-    room_after (ran a.count) c.put_field-middle.ensures (both-fit a.at a.place a.count (length a.line.now) c.if-count-eq0.false c.requires.1)
+    room_after (ran a.count) c.put_after-middle.ensures (both-fit a.at a.place a.count (length a.line.now) c.if-count-eq0.false c.requires.1)
 
 pub returns : goal.returns
 returns c =
     let a = c.args in
-    subst (λ (x : List ℕ). Put a.line.now a.at x c.put_field.new.line c.put_field.result)
+    subst (λ (x : List ℕ). Put a.line.now a.at x c.put_after.new.line c.put_after.result)
     (sym (part-some a.place a.count c.if-count-eq0.false))
-    (put_both c.put_field-middle.ensures c.put_field.ensures (both-fit a.at a.place a.count (length a.line.now) c.if-count-eq0.false c.requires.1))
+    (put_both c.put_after-middle.ensures c.put_after.ensures (both-fit a.at a.place a.count (length a.line.now) c.if-count-eq0.false c.requires.1))

@@ -1,21 +1,29 @@
--- `session::open::begin`: a text longer than any table is refused and ends the session, and else start's answer is written.
-use Rattle.std.proofs.Common.{Ok, Err}
-use Rattle.run.specs.Start.{started}
+-- `session::open::begin`: start's answer is written, and the run that it leaves is returned.
+use mathlib.Core.List.{[], ◌∷◌}
+use Rattle.std.proofs.Common.{sym, ap, ◌∙◌}
+use native.Mathlib.Omega.{arith}
+use Rattle.text.specs.Output.{fields, letters}
+use Rattle.text.proofs.RowText.{line-bytes}
+use Rattle.run.specs.Start.{Started}
 use Rattle.session.specs.Operation.{answer_line}
-use Rattle.session.proofs.Replying.{opened-refused, opened-run}
+use Rattle.session.specs.Transcript.{start_line}
+use Rattle.session.proofs.TextWritten.{text_of, word-line}
 use Rattle.session.proofs.open.begin.Goals as goal
 
-pub returns-then-table-gt-BYTES : goal.returns-then-table-gt-BYTES
-returns-then-table-gt-BYTES c = opened-refused c.args.table.now c.args.out.now _ _ c.if-table-gt-BYTES.true c.write_refused.ensures
+pub write_line-requires : goal.write_line-requires
+unfolding fields
+write_line-requires c = omega (arith, line-bytes (111 ∷ 107 ∷ []) [])
 
 pub returns-in-Ok : goal.returns-in-Ok
-unfolding answer_line
-returns-in-Ok c =
-    opened-run c.args.table.now c.args.out.now _ (started (Ok c.in-Ok.run')) _ c.if-table-gt-BYTES.false c.in-Ok.ensures c.write_word.ensures
+unfolding start_line answer_line
+returns-in-Ok c = (
+  text_of (sym (word-line (letters "ok")) ∙ ap (λ (s : Started). answer_line (letters "ok") s.answer) c.in-Ok.ensures) c.write_line.ensures,
+  ap (λ (s : Started). s.run) c.in-Ok.ensures,
+)
 
 pub returns-in-Err : goal.returns-in-Err
-unfolding answer_line
-returns-in-Err c =
-    rw c.empty.ensures
-    (opened-run c.args.table.now c.args.out.now _ (started (Err c.in-Err.refusal)) _ c.if-table-gt-BYTES.false c.in-Err.ensures
-    c.write_refused-in-Err.ensures)
+unfolding start_line answer_line
+returns-in-Err c = (
+  text_of (ap (λ (s : Started). answer_line (letters "ok") s.answer) c.in-Err.ensures) c.write_refused.ensures,
+  c.empty.ensures ∙ ap (λ (s : Started). s.run) c.in-Err.ensures,
+)

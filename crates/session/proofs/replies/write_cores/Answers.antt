@@ -4,7 +4,7 @@ use native.Mathlib.Omega.{arith}
 use mathlib.Core.Path.{◌≡◌, refl, sym, ap, ◌∙◌, subst}
 use mathlib.Core.List.{List, [], ◌∷◌, ◌++◌}
 use Prim.Native.Nat.{ℕ, ◌≤◌, ◌<◌, min}
-use lib.ListN.{length, take, drop, length-take}
+use lib.ListN.{length, take, length-take}
 use Rattle.text.specs.Written.{Put}
 use Rattle.session.specs.Session.{TextWritten}
 use Rattle.session.proofs.TextWritten.{text-put}
@@ -32,7 +32,7 @@ take-most cores count bytes w e = go (leb cores most_cores) refl
 cores-text :
     (cores : ℕ) (bytes before blank text middle after : List ℕ) (count size start end : ℕ) → length before ≡ longest_reply → length bytes ≡ most_cores → count ≡ min cores most_cores
     → Put blank 0 (fields (take count bytes) ++ (newline ∷ [])) text size → size ≤ longest_cells → Put before 0 (letters "row") middle start
-    → Put middle start (take size (drop 0 text)) after end → TextWritten (line_of (letters "row") (take cores bytes)) before after end
+    → Put middle start (take size text) after end → TextWritten (line_of (letters "row") (take cores bytes)) before after end
 unfolding line_of
 cores-text cores bytes before blank text middle after count size start end w v e p s q r =
     let k : take size text ≡ fields (take cores bytes) ++ (newline ∷ []) =
@@ -47,4 +47,4 @@ returns c =
     let w : length a.out.now ≡ longest_reply = search rules in
     let v : length a.bytes ≡ most_cores = search rules in
     cores-text a.cores a.bytes a.out.now _ _ _ _ _ _ _ _ w v c.min-count.ensures
-    c.put_cells-size.ensures.0 c.put_cells-size.ensures.1 c.copy-start.ensures c.copy.ensures
+    c.put_cells-size.ensures.0 c.put_cells-size.ensures.1 c.put-start.ensures c.put.ensures

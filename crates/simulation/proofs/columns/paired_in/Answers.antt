@@ -1,20 +1,12 @@
-use Rattle.std.proofs.Common.{◌≡◌, ◌<◌, arith}
-use Rattle.model.proofs.Digits.{shifted_one}
-use Rattle.simulation.proofs.Fields.{field-with, field-not, field-all}
+use Rattle.std.proofs.Common.{rules}
+use borrow.Author.Tests.{tests}
+use Rattle.simulation.specs.TickState.{paired_in}
+use Rattle.simulation.proofs.Fields.{differs}
+use Rattle.simulation.proofs.Sets.{set-of-all}
 use Rattle.simulation.proofs.columns.paired_in.Goals as goal
-use Rattle.simulation.proofs.columns.paired_in.Goals.{then-task, else-task}
-
-pub loop-i-preserved : goal.loop-i-preserved
-loop-i-preserved c =
-    let l = c.loop-i in
-    let ts = c.args.tasks in
-    let inside : l.i < 32 = omega arith in
-    elim c.if-task.branch [
-      | then-task w ↦ rw w.paired-is (field-with ts l.i l.paired _ inside (shifted_one 32 l.i inside) w.if-task.true l.invariant)
-      | else-task w ↦ rw w.paired-is (field-not ts l.i l.paired w.if-task.false l.invariant)
-    ]
 
 pub returns : goal.returns
+unfolding paired_in
 returns c =
-    let e : c.loop-i.i ≡ 32 = omega arith in
-    field-all c.args.tasks c.loop-i.paired (rw e at c.loop-i.invariant)
+    let test = differs c.args.tasks in
+    set-of-all test _ c.places_where.type_inv (c.places_where.ensures test (λ p r l e. search (rules, tests)))

@@ -9,7 +9,7 @@ use Rattle.model.specs.Grants.{claimants}
 use Rattle.rule.specs.Widths.{widths_in}
 use Rattle.rule.proofs.Sets.{granted-unfenced}
 use Rattle.simulation.specs.Machine.{Machine, machine_of}
-use Rattle.simulation.specs.TickState.{Numbers, numbers_by}
+use Rattle.simulation.specs.TickState.{Numbers, numbers_of}
 use Rattle.simulation.specs.EventState.{EventState, event_state_of}
 use Rattle.simulation.specs.Jump.{GrantedOwe, after_handling, granted_in_jump, ticks_in_jump, JumpLands}
 use Rattle.simulation.proofs.JumpLands.{Goes, goes, jump-lands}
@@ -20,7 +20,7 @@ use Rattle.simulation.proofs.events.jump.Goals.{then-registers-gt0, else-registe
 
 -- the table's numbers, and the run where the function begins
 abbrev nums : Start → Numbers
-nums s = numbers_by s.args.setting s.args.widths.now s.args.times.now
+nums s = numbers_of s.args.columns.now
 
 abbrev state : Start → EventState
 state s = event_state_of s.args.registers s.args.places.now

@@ -8,14 +8,14 @@ use Rattle.model.specs.Grants.{claimants}
 use Rattle.rule.specs.Widths.{widths_in}
 use Rattle.rule.proofs.Sets.{granted-unfenced}
 use Rattle.simulation.specs.Machine.{Machine, machine_of, GrantedOwed}
-use Rattle.simulation.specs.TickState.{Numbers, numbers_by, TickState, tick_state_of, after_events, next_event_after, even_at_tick, granted_at}
+use Rattle.simulation.specs.TickState.{Numbers, numbers_of, TickState, tick_state_of, after_events, next_event_after, even_at_tick, granted_at}
 use Rattle.simulation.proofs.Steps.{due-handled, due-skipped, even-handled, even-skipped, unchanged-by, unchanged-claims, chosen-kept, chosen-anew, step-taken}
 use Rattle.simulation.proofs.ticks.step.Goals as goal
 use Rattle.simulation.proofs.ticks.step.Goals.{Start, Joined-event-tick, Joined-claiming-chosen, then-event-tick, else-event-tick, then-claiming-chosen, else-claiming-chosen}
 
 -- the table's numbers, and the run where the function begins
 abbrev nums : Start → Numbers
-nums s = numbers_by s.args.setting s.args.widths.now s.args.times.now
+nums s = numbers_of s.args.columns.now
 
 abbrev state : Start → TickState
 state s = tick_state_of s.args.registers s.args.places.now

@@ -4,4 +4,4 @@ use Rattle.slack.proofs.Listed.{Filled}
 use Rattle.slack.proofs.growth.figures.Given as goal
 
 abbrev pub invariant-loop-place : goal.invariant-loop-place
-invariant-loop-place l = Filled (loaded_table l.table) l.figures l.place
+invariant-loop-place l = Filled (loaded_table l.table.loaded) l.figures l.place

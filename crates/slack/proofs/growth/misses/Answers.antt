@@ -13,4 +13,4 @@ found (Some m) = refl
 pub returns : goal.returns
 returns c =
     let r = c.first_miss.result in
-    c.is_some.ensures ∙ found r ∙ found-misses c.args.table c.requires (miss_of r) (miss_of r) c.first_miss.ensures.value refl
+    c.is_some.ensures ∙ found r ∙ found-misses c.args.table.loaded c.args.table.fit (miss_of r) (miss_of r) c.first_miss.ensures.value refl

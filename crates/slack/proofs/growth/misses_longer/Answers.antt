@@ -3,8 +3,8 @@ use Rattle.slack.specs.Slack.{misses}
 use Rattle.slack.proofs.LongerIn.{longer-fit, longer-table}
 use Rattle.slack.proofs.growth.misses_longer.Goals as goal
 
-pub misses-requires : goal.misses-requires
-misses-requires c = let a = c.args in longer-fit a.table c.requires.0 a.place c.requires.1 a.growth
+pub invariant_of-misses : goal.invariant_of-misses
+invariant_of-misses c = let a = c.args in record { fit = longer-fit a.table.loaded a.table.fit a.place c.requires.0 a.growth }
 
 pub returns : goal.returns
-returns c = let a = c.args in c.misses.ensures ∙ ap misses (longer-table a.table c.requires.0 a.place c.requires.1 a.growth)
+returns c = let a = c.args in c.misses.ensures ∙ ap misses (longer-table a.table.loaded c.args.table.fit a.place c.requires.0 a.growth)

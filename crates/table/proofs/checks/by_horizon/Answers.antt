@@ -8,15 +8,16 @@ use Rattle.table.proofs.checks.by_horizon.Goals as goal
 
 pub returns-then-horizon_out : goal.returns-then-horizon_out
 returns-then-horizon_out c =
-    let s = table_with c.args.cores c.args.fence c.args.rule (tasks_of c.args.tasks c.args.count) in
+    let s = table_with c.args.cores c.args.fence c.args.rule (tasks_of c.args.chain.tasks c.args.chain.count) in
     let test = horizon-test s _ _ c.last_start-start.ensures c.hyperperiod-period.ensures in
     sym (by-far s (passing c.args.rule s) (sym test ∙ sym c.horizon_out.ensures ∙ c.if-horizon_out.true))
 
 pub returns : goal.returns
 returns c =
-    let s = table_with c.args.cores c.args.fence c.args.rule (tasks_of c.args.tasks c.args.count) in
+    let chain = c.args.chain in
+    let s = table_with c.args.cores c.args.fence c.args.rule (tasks_of chain.tasks chain.count) in
     let test = horizon-test s _ _ c.last_start-start.ensures c.hyperperiod-period.ensures in
     let near = sym c.horizon_out.ensures ∙ c.if-horizon_out.false in
-    let there : length c.args.tasks ≡ most_tasks = search rules in
-    ap Ok (made c.args.cores c.args.fence c.args.rule c.args.tasks c.args.count _ _ (omega (arith, c.requires.fact_2)) c.requires.fact_4 c.last_start-start.ensures c.hyperperiod-period.ensures near)
+    let there : length chain.tasks ≡ most_tasks = search rules in
+    ap Ok (made c.args.cores c.args.fence c.args.rule chain.tasks chain.count _ _ (omega (arith, c.requires.few)) c.requires.tasks c.last_start-start.ensures c.hyperperiod-period.ensures near)
     ∙ sym (by_near s (passing c.args.rule s) (sym test ∙ near))

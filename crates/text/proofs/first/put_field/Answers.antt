@@ -1,16 +1,12 @@
 -- A number has at most ten digits.
 use native.Mathlib.Omega.{arith}
-use lib.ListN.{length-set}
-use Prim.Native.Nat.{◌+◌, ◌≤◌}
 use Rattle.text.proofs.Decimals.{decimal-length, count_most}
-use Rattle.text.proofs.Writing.{put_one, put_then}
 use Rattle.text.proofs.first.put_field.Goals as goal
 
-pub put-requires : goal.put-requires
-put-requires c = simp length-set (omega (arith, count_most 9 c.args.number (omega arith)))
+pub put_after-requires : goal.put_after-requires
+put_after-requires c = omega (arith, decimal-length c.args.number, count_most 9 c.args.number (omega arith))
 
 pub returns : goal.returns
 returns c =
     let a = c.args in
-    let short : c.put.result ≤ a.at + 11 = omega (arith, c.put.ensures.ends, decimal-length a.number, count_most 9 a.number (omega arith)) in
-    (put_then (put_one a.line.now a.at 32 (omega arith)) c.put.ensures (omega (arith, short)), short)
+    (c.put_after.ensures, omega (arith, c.put_after.ensures.ends, decimal-length a.number, count_most 9 a.number (omega arith)))

@@ -1,7 +1,6 @@
 -- The tick has at most ten digits, and the text of the cores is after them.
 use Prim.Native.Nat.{◌≤◌}
 use native.Mathlib.Omega.{arith}
-use lib.ListN.{length-take}
 use Rattle.text.proofs.Decimals.{decimal-length, count_most}
 use Rattle.text.proofs.Writing.{put_then, put-length}
 use Rattle.text.proofs.row.put_row.Goals as goal
@@ -16,13 +15,13 @@ short c =
 pub put-at-requires : goal.put-at-requires
 put-at-requires c = omega (arith, count_most 9 c.args.tick (omega arith))
 
-pub copy-requires : goal.copy-requires
-copy-requires c =
-    let e = short (goal.at.copy-requires c).After-put-at in
-    (omega arith, omega (arith, put-length c.put-at.ensures (omega arith)))
+pub put-requires : goal.put-requires
+put-requires c =
+    let e = short (goal.at.put-requires c).After-put-at in
+    omega (arith, e, put-length c.put-at.ensures (omega (arith, e)))
 
 pub returns : goal.returns
 returns c =
     let e = short (goal.at.returns c).After-put-at in
-    let most : c.copy.result ≤ 267 = omega (arith, c.copy.ensures.ends, length-take c.args.count c.args.text.now) in
-    (put_then c.put-at.ensures c.copy.ensures (omega (arith, e)), most)
+    let most : c.put.result ≤ 267 = omega (arith, c.put.ensures.ends, e) in
+    (put_then c.put-at.ensures c.put.ensures (omega (arith, most)), most)
