@@ -1,12 +1,15 @@
 -- S: the ticks since an offset by arithmetic alone, the next S, and how large an S can be.
-use mathlib.Core.Path.{◌≡◌, ap, subst⁻¹}
+use mathlib.Core.Path.{◌≡◌, refl, ap, subst⁻¹}
+use mathlib.Core.Bool.{Bool, true, false}
 use mathlib.Core.List.{List, map}
 use Prim.Native.Nat.{ℕ, zero, suc, ◌+◌, ◌*◌, ◌-◌, ◌/◌, ◌%◌, ◌≤◌, ◌<◌}
-use native.Mathlib.Nat.{div-mul-le_self, le_trans}
+use native.Mathlib.Nat.{div-mul-le_self, mul-zero, mul-one, le_trans}
 use native.Mathlib.Numerals.{add-one}
 use native.Mathlib.Omega.{arith}
 use lib.ListN.{length, get_or, take, get_or-map}
 use lib.Seq.{length-take-le, get_or-take}
+use lib.Dec.{ltb}
+use borrow.Author.Tests.{ltb-true, ltb-false}
 use Rattle.model.specs.Task as model
 use Rattle.model.specs.Horizon.{release_from, S, last_s}
 use Rattle.model.specs.Sizes.{most_tasks}
@@ -19,6 +22,20 @@ use Rattle.table.specs.Limits.{most_time}
 -- reached the offset, and the rest is by how much
 abbrev pub since : ℕ → ℕ → ℕ
 since t offset = (t + 67108864 - offset) % 67108864 * ((t + 67108864 - offset) / 67108864)
+
+pub since-difference : (t offset : ℕ) → t < 67108864 → offset ≤ 67108864 → since t offset ≡ t - offset
+since-difference t offset h l = go (ltb t offset) refl
+  where
+    go : (b : Bool) → ltb t offset ≡ b → since t offset ≡ t - offset
+    go true e =
+        let early : t < offset = ltb-true t offset e in
+        let no : (t + 67108864 - offset) / 67108864 ≡ 0 = omega arith in
+        rw (no, mul-zero) (omega arith)
+    go false e =
+        let reached : offset ≤ t = ltb-false t offset e in
+        let yes : (t + 67108864 - offset) / 67108864 ≡ 1 = omega arith in
+        let rest : (t + 67108864 - offset) % 67108864 ≡ t - offset = omega arith in
+        rw (yes, rest) (mul-one (t - offset))
 
 -- a first release is the offset, or less than a period after the tick that is asked for
 pub release-bound : (τ : model.Task) (t : ℕ) → release_from τ t ≤ τ.offset + (t - τ.offset + (τ.period - 1))
