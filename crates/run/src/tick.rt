@@ -36,7 +36,7 @@ impl Run {
             return Err(Refusal::BadEmpty);
         }
         let free = cores::unfenced_cores(self.cores, self.fence);
-        let shares = allocation::allocate(
+        let allocation::Allocation { given, lent, sets } = allocation::allocate(
             self.rule,
             free,
             claims.claiming,
@@ -45,11 +45,10 @@ impl Run {
             &claims.widths,
             count,
         );
-        let sets = shares.sets;
         Ok(Tick {
-            given: shares.given,
-            lent: shares.lent,
-            working: (shares.given | shares.lent) & claims.working,
+            given,
+            lent,
+            working: (given | lent) & claims.working,
             sets,
         })
     }
