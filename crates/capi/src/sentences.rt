@@ -38,10 +38,9 @@ fn facts_in(bytes: &[u8], facts: &mut [u64]) -> AnswerWords
     ensures answer { result ≡ of_parsed (parsed bytes.now) }
 {
     let found = sentence::facts_of(bytes);
-    let answer = AnswerWords::from(found);
     // zeros beside a refusal, as C is promised
     facts::put_facts(found.unwrap_or_default(), facts);
-    answer
+    AnswerWords::from(found)
 }
 
 // The facts in the bytes of a sentence into the first 36 words of `facts`: position, tick, ticks had, C, and the counts of positions 1 to 32,

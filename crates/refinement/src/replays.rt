@@ -50,6 +50,8 @@ fn fits(entries: &[u32], numbers: usize, bytes: usize) -> bool
 }
 
 // A withdrawal on a run, by the first two words of its entry.
+// Not inlined: its copies of the run would lie beside those of `replay`, for which a call of C has no stack.
+#[inline(never)]
 fn withdrawn(run: Run, kind: u32, first: u32) -> Result<Run, Refusal>
     ensures { advanced run result ≡ entry_of run (cond (eqb kind 1) (withdraw first) (withdraw_all first)) }
 {
@@ -61,8 +63,6 @@ fn withdrawn(run: Run, kind: u32, first: u32) -> Result<Run, Refusal>
 
 // An entry on a run, by its three words: the next run, or why it is refused.
 // The kind is a number, since C's entries are words, and `entry_by` answers for every kind.
-// Not inlined: its copies of the run would lie beside those of `replay`, for which a call of C has no stack.
-#[inline(never)]
 pub fn enter(run: Run, kind: u32, first: u32, second: u32) -> Result<Run, Refusal>
     ensures { advanced run result ≡ entry_of run (entry_by kind first second) }
 {

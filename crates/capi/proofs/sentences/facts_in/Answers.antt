@@ -26,5 +26,5 @@ returns c =
           c.put_facts.ensures.0
           ∙ ap (λ (f : code.Facts). in_words f.position f.tick f.had f.length f.ran ++ drop fact_words a.facts.now) held
           ∙ ap (λ (v : List ℕ). v ++ drop fact_words a.facts.now) (found-words a.bytes.now r c.facts_of-found.ensures size);
-      answer = c.from-answer.ensures ∙ ap of_read_back (found-some c.facts_of-found.result) ∙ found-case a.bytes.now r c.facts_of-found.ensures;
+      answer = c.from.ensures ∙ ap of_read_back (found-some c.facts_of-found.result) ∙ found-case a.bytes.now r c.facts_of-found.ensures;
     }
