@@ -29,9 +29,6 @@ pub fn replay(
     ensures { ReplayOf words.now entries.now numbers.old
         bytes.old (record { answer = replayed_in result; numbers = numbers.new; bytes = bytes.new }) }
 {
-    // No `map_err`: two copies of the run less on the stack, of which C is promised how much a call takes.
-    match run::start(words) {
-        Ok(run) => replays::replay_run(run, entries, numbers, bytes),
-        Err(refusal) => Err(ReplayError::Start(refusal)),
-    }
+    let run = run::start(words).map_err(ReplayError::Start)?;
+    replays::replay_run(run, entries, numbers, bytes)
 }

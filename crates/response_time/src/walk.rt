@@ -14,13 +14,13 @@ use table::Fitting;
 pub(crate) fn times_of(fitting: Fitting) -> Result<[u32; MOST_TASKS], Refusal>
     ensures { answered result ≡ response_times_by (by_miss (missed_before (loaded_table fitting.loaded) (suc fitting.loaded.horizon)) (accepted_of fitting.loaded)) (response_times_in (loaded_table fitting.loaded)) }
 {
-    // No variable for the table: a copy of it less on the stack.
-    let columns = simulation::columns::columns_of(fitting.loaded);
-    let machine = simulation::events::start(fitting.loaded);
+    let table = fitting.loaded;
+    let columns = simulation::columns::columns_of(table);
+    let machine = simulation::events::start(table);
     let mut registers = machine.registers;
     let mut places = machine.places;
     let mut responses = [0u32; MOST_TASKS];
-    while registers.tick <= fitting.loaded.horizon {
+    while registers.tick <= table.horizon {
         if crate::recording::any_left(registers.claiming & registers.due, &places) {
             return Err(Refusal::TableMisses);
         }
