@@ -90,8 +90,6 @@ fn notes_in(words: &[u32]) -> [Note; run_buffer::PLACES]
 }
 
 // The plan at the front of the buffer, or none: any words are a tick, and any are notes. No `TryFrom`, like `run_in`.
-// Not inlined: its copies would lie beside those of `take`, for which a call of C has no stack.
-#[inline(never)]
 fn plan_in(words: &[u32]) -> Option<SuppliedPlan>
     ensures { result ≡ plan_read (decode_plan words.now) }
 {

@@ -228,7 +228,7 @@ pub fn ask<T, Q: FnOnce(Run) -> Result<T, Refusal>>(
     requires { Q.IsAlwaysCallable question }
     ensures { Asked (Q.post question) (decode words.now) result }
 {
-    // No `ok_or`, here and in `enter`: a copy of the run less on the stack, of which C is promised how much a call takes.
+    // No `ok_or`: a copy of the run less on the stack, of which C is promised how much a call takes.
     match run_in(words) {
         Some(held) => question(held),
         None => Err(Refusal::NotARun),
@@ -244,9 +244,7 @@ pub fn enter<E: FnOnce(Run) -> Result<Run, Refusal>>(
     requires { E.IsAlwaysCallable entry }
     ensures { EntryOn (E.post entry) (decode words.old) words.old (record { answer = answer_in result; buffer = words.new }) }
 {
-    let Some(held) = run_in(words) else {
-        return Err(Refusal::NotARun);
-    };
+    let held = run_in(words).ok_or(Refusal::NotARun)?;
     let next = entry(held)?;
     put_run(next, held.count, words);
     Ok(())

@@ -67,8 +67,6 @@ impl NewChain {
 }
 
 // The words of the tasks in a set of places, with zeros after them: the next of each record kept is the one kept after it, that of the last is zero.
-// Not inlined: its copies of the words would lie beside those of `SubTable::misses`, for which a call of C has no stack.
-#[inline(never)]
 pub(crate) fn relinked(words: &[u32], kept: u32) -> [u32; MOST_WORDS]
     requires { NoneApplies words.now }
     ensures { result ≡ padded (relinked words.now kept) }

@@ -89,8 +89,6 @@ fn passes(rows: PlanProgress, line: &[u8]) -> bool
 }
 
 // The extent of a plan, computed once for all its rows; none where 14 or 9 turns it down.
-// Not inlined, like `begin`: its copies of the plan would lie on the stack beside those of `feed_plan`.
-#[inline(never)]
 fn extent_of(plan: SuppliedPlan) -> Option<Extent>
     ensures { ExtentKnown result plan }
 {
@@ -185,6 +183,7 @@ fn feed_plan(start: PlanProgress, bytes: &[u8], from: usize, ended: bool) -> Fed
 }
 
 // The plan of a table's text before its first row, or why the table is refused.
+// Not inlined: its copies of the plan would take stack while the rows are taken.
 #[inline(never)]
 fn begin(table: &[u8]) -> Result<PlanProgress, Refusal>
     ensures { opening result ≡ opened_of table.now }

@@ -36,8 +36,6 @@ pub struct Run {
 }
 
 // The run of a table's words as it starts; or the first of 1 to 9 and 19 that applies, or 13 where the table misses a deadline.
-// Not inlined: its copies of the table would lie beside the runs of its callers, for which a call of C has no stack.
-#[inline(never)]
 pub fn start(words: &[u32]) -> Result<Run, Refusal>
     ensures { StartOf words.now (started result) }
 {

@@ -36,7 +36,7 @@ impl Run {
             return Err(Refusal::BadEmpty);
         }
         let free = cores::unfenced_cores(self.cores, self.fence);
-        let allocation::Allocation { given, lent, sets } = allocation::allocate(
+        let shares = allocation::allocate(
             self.rule,
             free,
             claims.claiming,
@@ -45,10 +45,11 @@ impl Run {
             &claims.widths,
             count,
         );
+        let sets = shares.sets;
         Ok(Tick {
-            given,
-            lent,
-            working: (given | lent) & claims.working,
+            given: shares.given,
+            lent: shares.lent,
+            working: (shares.given | shares.lent) & claims.working,
             sets,
         })
     }

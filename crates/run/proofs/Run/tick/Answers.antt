@@ -94,7 +94,7 @@ returns c =
     let a = c.args in
     let k = c.claims-claims in
     let head = sym c.head_out.ensures ∙ c.if-head_out.false in
-    let s = c.allocate-given in
+    let s = c.allocate-shares in
     -- the cores that are shared are those outside the fence
     let shared =
     subst (λ (F : List ℕ). AllocationOf (rule_in a.self) (ws a.self a.empties k.result k.ensures) k.result.claiming k.result.working F a.self.count s.result)
