@@ -51,10 +51,10 @@ extern "C" {
 /* ================================================================ WHAT A CALL COSTS
 
    - Memory: none from the heap. Of the stack less than SIVORANDRA_STACK_BYTES (measured:
-     check_begin 16,800 bytes, replay 15,700, sentence 14,600, start 14,100, advance 14,100,
-     slack 13,400, plan 12,700, withdraw and withdraw_all 12,200, check_row 11,600, conflict
-     10,800, judge 8,900, row 7,300, judge_events 7,100, response_times 7,000, bounds 5,700,
-     judge_ticks 5,600, sets 5,500, working 5,300, facts 1,000).
+     replay 18,600 bytes, check_row 17,100, advance 14,300, start 13,600, sentence 13,400,
+     check_begin 13,000, conflict 12,700, withdraw and withdraw_all 12,600, plan 12,100, slack
+     11,200, judge 8,900, row 7,600, response_times 7,400, judge_events 7,100, bounds 5,800,
+     sets 5,800, judge_ticks 5,700, working 5,500, facts 1,200).
    - Threads: the library has no state and no data that is written to, so any number of
      threads may call at once, each with slices of its own to be written to; slices that are
      only read may be shared. Of the C library it calls memcpy and memset alone.
@@ -384,7 +384,7 @@ uint32_t sivorandra_facts(const uint8_t *bytes, size_t bytes_len, uint64_t *fact
    firm a job can take longer where others end early. Words past the last task are 0, and so
    are all 32 where it is refused; words behind them stay. It always simulates, event by
    event: at most twice the time that sivorandra_judge takes where that simulates.
-   sivorandra_bounds gives bounds without simulation. It takes 7,000 bytes of the stack. */
+   sivorandra_bounds gives bounds without simulation. It takes 7,400 bytes of the stack. */
 uint32_t sivorandra_response_times(const uint32_t *words, size_t words_len, uint32_t *figures,
                                    size_t figures_len, uint32_t *answer, size_t answer_len);
 
@@ -412,7 +412,7 @@ uint32_t sivorandra_conflict(const uint32_t *words, size_t words_len, uint32_t *
    and under greedy out of this order, a table can miss with a shorter job and be accepted
    with a longer one. It judges the table, and then for each task, by bisection between a
    growth that is accepted and one that misses, at most 20 times the table with this task
-   longer, each up to the horizon or the first miss: 641 judgings at most. It takes 13,400
+   longer, each up to the horizon or the first miss: 641 judgings at most. It takes 11,200
    bytes of the stack. */
 uint32_t sivorandra_slack(const uint32_t *words, size_t words_len, uint32_t *figures, size_t
                           figures_len, uint32_t *answer, size_t answer_len);

@@ -228,7 +228,11 @@ pub fn ask<T, Q: FnOnce(Run) -> Result<T, Refusal>>(
     requires { Q.IsAlwaysCallable question }
     ensures { Asked (Q.post question) (decode words.now) result }
 {
-    question(run_in(words).ok_or(Refusal::NotARun)?)
+    // No `ok_or`: a copy of the run less on the stack, of which C is promised how much a call takes.
+    match run_in(words) {
+        Some(held) => question(held),
+        None => Err(Refusal::NotARun),
+    }
 }
 
 // An entry on the run that the buffer holds: the next run is written over its places, and the words past them stay; a refusal leaves all words as found.

@@ -63,8 +63,8 @@ both p q = λ i. call_result 0 (p i ∷ (q i ∷ []))
 
 -- a call is answered where they have space ..
 module _ {t : Bool} (lent found : List (List ℕ)) where
-  pub fitting : t ≡ true → call_result 0 lent ≡ by_room t lent found
-  fitting e = ap (λ (b : Bool). by_room b lent found) (sym e)
+  pub answered : t ≡ true → call_result 0 lent ≡ by_room t lent found
+  answered e = ap (λ (b : Bool). by_room b lent found) (sym e)
 
   -- .. and else leaves them as found
   pub as-found : t ≡ false → call_result 1 found ≡ by_room t lent found

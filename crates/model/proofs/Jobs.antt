@@ -229,6 +229,11 @@ pub start-even : (x : Bool) (j : Job) → (j.ended ≡ false → j.claimed ≡ j
 start-even true j g o = absurd (true≢false o)
 start-even false j g o = g o
 
+-- an empty job is behind nothing
+pub start-not-behind : (x : Bool) (a b : Job) → ¬ Behind a b → ¬ Behind (start x a) b
+start-not-behind true a b nb h = true≢false h.0
+start-not-behind false a b nb h = nb h
+
 -- of two jobs just released, of which the first is not longer, the first is not behind
 pub fresh-not-behind : (x y : Bool) → ¬ Longer (start x (mk 0 0 false)) (start y (mk 0 0 false)) → ¬ Behind (start x (mk 0 0 false)) (start y (mk 0 0 false))
 fresh-not-behind true y nl h = true≢false h.0

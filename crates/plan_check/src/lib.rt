@@ -89,6 +89,8 @@ impl SuppliedPlan {
 
     // The row of this tick, one byte a core: the state one tick on, where it is taken or accepted as the last one; or 14, 9, 10, 11, 25, 24 and, after
     // the last row, 25 and 26 at the horizon.
+    // Not inlined: its copies of the plan would take stack in a loop that knows the extent, and calls `enter`.
+    #[inline(never)]
     pub fn check_row(self, row: &[u8]) -> Result<(Progress, SuppliedPlan), Refusal>
         ensures { CheckRowOf self row.now (entered_in self result) }
     {

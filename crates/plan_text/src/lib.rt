@@ -183,6 +183,8 @@ fn feed_plan(start: PlanProgress, bytes: &[u8], from: usize, ended: bool) -> Fed
 }
 
 // The plan of a table's text before its first row, or why the table is refused.
+// Not inlined: its copies of the plan would take stack while the rows are taken.
+#[inline(never)]
 fn begin(table: &[u8]) -> Result<PlanProgress, Refusal>
     ensures { opening result ≡ opened_of table.now }
 {

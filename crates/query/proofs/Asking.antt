@@ -8,17 +8,18 @@ use native.Mathlib.Numerals.{add-one}
 use native.Mathlib.Omega.{arith}
 use lib.ListN.{length, take, drop, get_or, set}
 use lib.Dec.{eqb}
-use Rattle.std.proofs.Common.{subst}
 use lib.Seq.{drop-cons, take-suc-set, take-nil}
 use Rattle.text.specs.Decimal.{digit_count, digits_within}
 use Rattle.text.specs.Format.{newline, enough_bytes, Words, words_of, numbers_in}
+use Rattle.text.specs.Output.{letters, line_of, first_line}
 use Rattle.text.proofs.Exact.{first-enough}
 use Rattle.sentence.specs.SentenceAnswer.{SentenceAnswer}
-use Rattle.sentence.specs.SentenceAnswer.{Length}
+use Rattle.sentence.specs.SentenceAnswer.{Length, Refused}
 use Rattle.sentence.specs.Reading.{starts_with}
 use Rattle.sentence.specs.SentenceAnswer.{answered as written}
 use Rattle.std.specs.Prelude.{Result, Ok, Err}
 use Rattle.model.specs.declared.refusal.Refusal.{Refusal}
+use Rattle.model.specs.Refusal.{number_of, position_of}
 use Rattle.sentence.specs.SentenceAnswer.{sentence_meaning, sentence_answer_of, SentenceOf}
 use Rattle.query.specs.declared.Question.{Question}
 use Rattle.query.specs.declared.Question.TheVariants.{Why, ResponseTimes, Conflict, Slack, Bounds, Verdict}
@@ -49,6 +50,11 @@ module _ (ws old new : List ℕ) (v : SentenceAnswer) (h : SentenceOf ws old new
             ∙ (ap (λ (w : SentenceAnswer). why_by (sentence_meaning w) ws) (sym e) ∙ by_answer))),
       )
 
+  -- the refusal
+  pub why-refused : (n p : ℕ) → v ≡ Refused n p → line_of (letters "refused") (n ∷ p ∷ []) ≡ why_of ws
+  unfolding first_line
+  why-refused n p e = ap (λ (x : SentenceAnswer). why_by (sentence_meaning x) ws) (sym e) ∙ by_answer
+
 -- as code has it
 module _ (ws old new : List ℕ) (r : Result ℕ Refusal) (h : SentenceOf ws old new (written r)) (l : length old ≡ answer_room) where
   pub ends-inside : (n : ℕ) → r ≡ Ok n → n < length new
@@ -59,8 +65,8 @@ module _ (ws old new : List ℕ) (r : Result ℕ Refusal) (h : SentenceOf ws old
 
   -- the buffer keeps its length
   pub why-err : (e : Refusal) → r ≡ Err e → (length new ≡ answer_room) × (refusal_line e ≡ why_of ws)
-  why-err e is =
-      (h.size ∙ l, by_answer ws old new (written (Err e)) (subst (λ (r : Result ℕ Refusal). SentenceOf ws old new (written r)) is h) l)
+  unfolding first_line
+  why-err e is = (h.size ∙ l, why-refused ws old new (written r) h l (number_of e) (position_of e) (ap written is))
 
 -- THE QUESTION
 

@@ -14,6 +14,9 @@ mod walk; // walk.rt: the full-length run, jump by jump, and its response times
 pub fn response_times(words: &[u32]) -> Result<[u32; MOST_TASKS], Refusal>
     ensures { ResponseTimesOf words.now (answered result) }
 {
-    let fitting = Fitting::load(words)?;
-    walk::times_of(fitting)
+    // By `match`: a wrong number for the refusal is then refused as a value (must-fail/thirteen_for_nine), and not for the form of the line.
+    match Fitting::load(words) {
+        Ok(fitting) => walk::times_of(fitting),
+        Err(refusal) => Err(refusal),
+    }
 }

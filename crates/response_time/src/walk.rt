@@ -9,6 +9,8 @@ use model::{MOST_TASKS, Refusal};
 use table::Fitting;
 
 // Jumps up to the horizon and past it, and records the response time of each job that ends; a missed deadline is 13.
+// Not inlined: what it holds would take stack while the table is loaded, for which a call of C has none.
+#[inline(never)]
 pub(crate) fn times_of(fitting: Fitting) -> Result<[u32; MOST_TASKS], Refusal>
     ensures { answered result ≡ response_times_by (by_miss (missed_before (loaded_table fitting.loaded) (suc fitting.loaded.horizon)) (accepted_of fitting.loaded)) (response_times_in (loaded_table fitting.loaded)) }
 {

@@ -24,11 +24,11 @@ use Rattle.session.proofs.TextWritten.{text_of, word-line}
 
 -- REFUSED
 
--- the refusal itself is handed on, and nothing is written
+-- the refusal itself is handed on, the run stays, and nothing is written
 pub refused-as :
     {T : Type 0} (o : Operation) (r : Run) (l : List ℕ) (result : Result T Refusal) (x : Refusal) → IsErrAnd result (λ y. y ≡ x) → RefusedOf (Some o) r x
-    → IfErr result (λ e. RefusedOf (Some o) r e × (l ≡ l))
-refused-as o r l result x h w = subst⁻¹ (λ z. IfErr z (λ e. RefusedOf (Some o) r e × (l ≡ l))) (err-as result x h) (w, refl)
+    → IfErr result (λ e. RefusedOf (Some o) r e × (r ≡ r) × (l ≡ l))
+refused-as o r l result x h w = subst⁻¹ (λ z. IfErr z (λ e. RefusedOf (Some o) r e × (r ≡ r) × (l ≡ l))) (err-as result x h) (w, refl, refl)
 
 module _ (r : Run) (f : Refusal) where
   pub advance-refused : (x e : ℕ) → advanced r (Err f) ≡ advance_of r x e → RefusedOf (Some (operation.Advance x e)) r f

@@ -57,7 +57,8 @@ fn fed_with(stage: Stage, run: Run, taken: usize, length: usize) -> Fed
 }
 
 impl Session {
-    // A session before its first byte.
+    // A session before its first byte. Not inlined, as `feed_table`.
+    #[inline(never)]
     #[tactic(auto, unfolding(crate::specs::Transcript::transcript, crate::specs::Transcript::transcript_so_far))]
     pub fn new() -> Session
         ensures { NewOf result }
@@ -70,6 +71,8 @@ impl Session {
 
     // The table, once it has ended, and the answer to it; a text longer than any table can be ends the session.
     // No plainer as one with plan_text's: three lines are alike, and what follows the table differs.
+    // Not inlined: the tasks of an empty run are written one by one, and beside them each copy of a run in an operation would be.
+    #[inline(never)]
     fn feed_table(self, bytes: &[u8], ended: bool, out: &mut [u8; REPLY]) -> Fed
         ensures { FedBy (transcript_in Table self.run) ended bytes.now out.old out.new result }
     {

@@ -49,38 +49,35 @@ fn write_cores(cores: u32, bytes: [u8; ROW], out: &mut [u8; REPLY]) -> usize
     row::put(out, start, &text[..size])
 }
 
-// Does an operation, and writes the reply to it; a refusal is handed on, and nothing is written.
-fn done(run: Run, operation: Operation, out: &mut [u8; REPLY]) -> Result<Reply, Refusal>
-    ensures done { IfOk result (λ x. TextWritten (reply (Some operation) run) out.old out.new x.length × (x.run ≡ run_after (Some operation) run)) }
-    ensures refused { IfErr result (λ e. RefusedOf (Some operation) run e × (out.new ≡ out.old)) }
+// Does an operation on a run, and writes the reply to it; returns where it ends. A refusal is handed on, nothing is written, and the run stays.
+fn done(run: &mut Run, operation: Operation, out: &mut [u8; REPLY]) -> Result<usize, Refusal>
+    ensures done { IfOk result (λ n. TextWritten (reply (Some operation) run.old) out.old out.new n × (run.new ≡ run_after (Some operation) run.old)) }
+    ensures refused { IfErr result (λ e. RefusedOf (Some operation) run.old e × (run.new ≡ run.old) × (out.new ≡ out.old)) }
 {
     match operation {
-        Operation::Advance(reports, empties) => Ok(Reply {
-            run: run.advance(reports, empties)?,
-            length: write_line(b"taken", &[], out),
-        }),
-        Operation::Withdraw(position) => Ok(Reply {
-            run: run.withdraw(position)?,
-            length: write_line(b"taken", &[], out),
-        }),
-        Operation::WithdrawAll(set) => Ok(Reply {
-            run: run.withdraw_all(set)?,
-            length: write_line(b"taken", &[], out),
-        }),
+        Operation::Advance(reports, empties) => {
+            *run = run.advance(reports, empties)?;
+            Ok(write_line(b"taken", &[], out))
+        }
+        Operation::Withdraw(position) => {
+            *run = run.withdraw(position)?;
+            Ok(write_line(b"taken", &[], out))
+        }
+        Operation::WithdrawAll(set) => {
+            *run = run.withdraw_all(set)?;
+            Ok(write_line(b"taken", &[], out))
+        }
         Operation::Row(empties) => {
             let bytes = run.row(empties)?;
-            let length = write_cores(run.cores, bytes, out);
-            Ok(Reply { run, length })
+            Ok(write_cores(run.cores, bytes, out))
         }
         Operation::Sets(empties) => {
             let sets = run.sets(empties)?;
-            let length = write_line(b"sets", &sets, out);
-            Ok(Reply { run, length })
+            Ok(write_line(b"sets", &sets, out))
         }
         Operation::Working(empties) => {
             let set = run.working(empties)?;
-            let length = write_line(b"working", &[set as u64], out);
-            Ok(Reply { run, length })
+            Ok(write_line(b"working", &[set as u64], out))
         }
     }
 }
@@ -89,10 +86,11 @@ fn done(run: Run, operation: Operation, out: &mut [u8; REPLY]) -> Result<Reply, 
 pub(crate) fn answer(run: Run, operation: Operation, out: &mut [u8; REPLY]) -> Reply
     ensures { TextWritten (reply (Some operation) run) out.old out.new result.length × (result.run ≡ run_after (Some operation) run) }
 {
-    match done(run, operation, out) {
-        Ok(reply) => reply,
+    let mut next = run;
+    match done(&mut next, operation, out) {
+        Ok(length) => Reply { run: next, length },
         Err(refusal) => Reply {
-            run,
+            run: next,
             length: write_refused(refusal, out),
         },
     }

@@ -2,14 +2,15 @@
 use mathlib.Core.Path.{◌≡◌, sym, subst}
 use mathlib.Core.Bool.{Bool, true, false, cond}
 use mathlib.Core.Logic.{⊎_elim}
-use Prim.Native.Nat.{ℕ, suc, ◌≤◌, ◌<◌}
+use Prim.Native.Nat.{ℕ, suc, ◌+◌, ◌≤◌, ◌<◌}
 use native.Mathlib.Nat.{le_trans, eq-or-lt_of_le}
 use native.Mathlib.Omega.{arith}
 use lib.ListN.{length, get_or}
+use lib.Seq.{get_or-set_other}
 use Rattle.model.specs.Search.{bit}
 use Rattle.model.specs.Task.{Table, task, AllValid}
 use Rattle.model.specs.Lists.{full}
-use Rattle.simulation.specs.Machine.{Machine, finishes, worked_tick}
+use Rattle.simulation.specs.Machine.{Machine, with_release, finishes, worked_tick}
 use Rattle.simulation.proofs.Place.{pass-related, event-first}
 use Rattle.simulation.proofs.Moves.{worked-event}
 use Rattle.simulation.proofs.MachineRelated.{MachineRelated, Ready}
@@ -25,6 +26,11 @@ next-event-more n next_event event' m h le own p l =
     (λ (e : p ≡ n). subst (λ (q : ℕ). event' ≤ get_or m.event q 0) (sym e) own)
     (λ (e : p < n). le_trans le (h p e))
     (eq-or-lt_of_le (omega arith))
+
+-- a release at a place from n on changes no event of the first n
+pub next-event-release : (n next_event : ℕ) (m : Machine) → NextEventBound n next_event m → (i t C D T : ℕ) → n ≤ i → NextEventBound n next_event (with_release i t C D T m)
+unfolding with_release
+next-event-release n next_event m h i t C D T le p l = rw (get_or-set_other m.event i p (t + D) 0 (omega arith)) (h p l)
 
 module _ (s : Table) (ok : AllValid s) (few : length s.tasks ≤ 32) where
   -- no event is due before the next event: there is nothing to handle

@@ -71,6 +71,8 @@ fn slack_at(table: Fitting, place: usize) -> u32
 }
 
 // The slack of each task, and zeros past the count.
+// Not inlined: its copies of the table would lie beside those of `is_given`, for which a call of C has no stack.
+#[inline(never)]
 pub(crate) fn figures(table: Fitting) -> [u32; MOST_TASKS]
     requires { has_slack (loaded_table table.loaded) ≡ true }
     ensures { result ≡ slack_in (loaded_table table.loaded) }

@@ -1,7 +1,7 @@
 // Reading an input and writing an output, with the numbers of bytes read and written.
 #![tactic(auto)]
 
-ghost use Rattle.std.specs.Prelude.{Bool, true, List, ℕ, ◌≡◌, ◌+◌, ◌-◌, ◌≤◌, ◌<◌, length, take};
+ghost use Rattle.std.specs.Prelude.{Bool, true, List, OnErr, ℕ, ◌≡◌, ◌+◌, ◌-◌, ◌≤◌, ◌<◌, length, take};
 ghost use Rattle.stream.specs.Reading.{ReadOnceOf, FilledOf, MovedToFront, read_once, filled};
 ghost use Rattle.stream.specs.Sent.{saturated, unread_by, sent_of, SentOf};
 ghost use Rattle.stream.specs.Answered.{Answered, reading_in, sent_in};
@@ -123,7 +123,8 @@ pub fn answer<P: Program, R: Read, W: Write, E: Write>(
     buffer: &mut [u8],
 ) -> io::Result<Exchange>
     requires { (bs : List ℕ) → P.text (take (length buffer.old) bs) ≡ P.text bs }
-    ensures { Answered P.text buffer.new (reading_in result) (sent_in result) }
+    ensures answered { Answered P.text buffer.new (reading_in result) (sent_in result) }
+    ensures unread { OnErr result (out.new ≡ out.old) }
 {
     let read = match fill(input, buffer, 0) {
         Ok(read) => read,
@@ -181,7 +182,8 @@ pub fn receive<P: Feed, R: Read, W: Write, E: Write>(
     held: usize,
 ) -> io::Result<Received>
     requires { held < length buffer.old }
-    ensures { ReceivedOf P.round P.most program.old program.new held buffer.old buffer.new result }
+    ensures received { ReceivedOf P.round P.most program.old program.new held buffer.old buffer.new result }
+    ensures unread { OnErr result (out.new ≡ out.old) }
 {
     let end = match read(input, buffer, held) {
         Ok(end) => end,

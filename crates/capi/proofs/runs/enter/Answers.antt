@@ -8,7 +8,7 @@ use Rattle.buffers.specs.Encoding.{decode}
 use Rattle.buffers.specs.Runs.{Entered}
 use Rattle.buffers.proofs.Keeping.{entry-done}
 use Rattle.capi.specs.Runs.{entry_call}
-use Rattle.capi.proofs.Calls.{both, words_of, fitting, as-found}
+use Rattle.capi.proofs.Calls.{both, words_of, answered, as-found}
 use Rattle.capi.proofs.runs.enter.Goals as goal
 
 -- its answer in words
@@ -25,7 +25,7 @@ returns g c x gives =
     (ap (λ (v : Entered). v.buffer) done)
     (words_of a.answer.now c.put.ensures
     (c.encoded.ensures ∙ (answer-of c.enter-entered.result ∙ ap (λ (v : Entered). of_answer v.answer) done)))
-    ∙ fitting _ _ (sym c.fit.ensures ∙ c.if-not-fit.false)
+    ∙ answered _ _ (sym c.fit.ensures ∙ c.if-not-fit.false)
 
 pub returns-then-not-fit : goal.returns-then-not-fit
 unfolding entry_call
